@@ -1,0 +1,82 @@
+//! Lines of texts: as they are written, and as objects and records hold them.
+ghost use Rattle.std.specs.Prelude.{◌≡◌};
+
+use crate::bytes::Bytes;
+use std::marker::Model;
+
+/// What a written line says of whether its attribute is kept when the service is saved.
+#[derive(Clone, Copy, Debug, PartialEq, Eq)]
+pub enum Mark {
+    /// As it was. A new attribute is kept.
+    Keep,
+    /// `[n]`: it is not kept.
+    On,
+    /// `[-n]`: it is kept.
+    Off,
+}
+
+/// A line of a write.
+#[derive(Debug, PartialEq, Eq, Drop)]
+pub enum WriteLine {
+    /// `name:encoding:value`, behind its bracket where it has one.
+    Set {
+        name: Bytes,
+        enc: Bytes,
+        value: Bytes,
+        mark: Mark,
+    },
+    /// `-name`
+    Del { name: Bytes },
+}
+
+/// A line as objects and records hold it. Where `n` is true the attribute is nonpersistent.
+#[derive(Debug, PartialEq, Eq, Drop)]
+pub enum Line {
+    Set {
+        name: Bytes,
+        enc: Bytes,
+        value: Bytes,
+        n: bool,
+    },
+    Del {
+        name: Bytes,
+    },
+}
+
+/// The lines of a record, in order.
+#[derive(Debug, Drop)]
+pub struct Lines {
+    items: Vec<Line>,
+}
+
+impl Model for Lines {
+    ghost use Rattle.std.specs.Prelude.{List};
+    ghost use Rattle.pps_types.specs.declared.line.Line.{Line};
+
+    ghost Value = { List Line };
+
+    ghost view = { λ a. a.items.items };
+}
+
+impl Lines {
+    /// These lines. It takes no memory.
+    pub fn new(items: Vec<Line>) -> Lines
+        ensures { result ≡ items.items }
+    {
+        Lines { items }
+    }
+
+    /// The vector that holds them. It takes no memory.
+    pub fn into_vec(self) -> Vec<Line>
+        ensures { result.items ≡ self }
+    {
+        let Lines { items } = self;
+        items
+    }
+
+    pub fn as_slice(&self) -> &[Line]
+        ensures { result.now ≡ self.now }
+    {
+        self.items.as_slice()
+    }
+}
