@@ -1,3 +1,12 @@
 pub mod Refusal
 pub mod Outcome
 pub mod Device
+pub mod Bytes
+pub mod Text
+pub mod ShownValue
+pub mod Filter
+pub mod Names
+pub mod OpenText
+pub mod History
+pub mod Reading
+pub mod Outbox

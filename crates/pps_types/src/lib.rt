@@ -11,6 +11,7 @@ mod numbers;
 mod outcome;
 mod record;
 mod refusal;
+mod shown;
 
 pub use bytes::{Bytes, SharedBytes};
 pub use device::Device;
@@ -21,3 +22,4 @@ pub use numbers::{Conn, DirId, Handle, ObjId};
 pub use outcome::{Item, Outcome};
 pub use record::{Kind, Record};
 pub use refusal::Refusal;
+pub use shown::Shown;

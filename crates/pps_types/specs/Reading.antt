@@ -1,0 +1,321 @@
+-- Handles: which records one sees, what each looks like to it, what it has still to be given, and what a read answers.
+-- QNX PPS guide, on opening modes, on full and delta mode, on subscribing to all objects and on server objects;
+-- delivery marks, `deltadir`, limits and the reading of blocks are our own.
+use Rattle.std.specs.Prelude.{ℕ, ◌+◌, ◌-◌, List, [], ◌∷◌, ◌++◌, Bool, true, false, not, ◌&&◌, ◌||◌, ◌==◌, nat_le, nat_lt, if◌then◌else◌, Option, Some, None, is_some, filter, map, length, drop, codes, zero, suc}
+use Rattle.std.specs.Option.{option_map_or}
+use Rattle.std.specs.List.{concat, list_any}
+use Rattle.std.specs.Fmt.{decimal}
+use Rattle.pps_types.specs.declared.line.Line.{Line}
+use Rattle.pps_types.specs.declared.record.Kind.{Kind}
+use Rattle.pps_types.specs.declared.record.Kind.TheVariants.{Created, Change, Truncated, Dropped, Deleted, Opened, Closed, FromClient, ToClient, ToAll}
+use Rattle.pps_types.specs.declared.record.Record.{Record}
+use Rattle.pps_types.specs.Bytes.{is_empty}
+use Rattle.pps_types.specs.Text.{print_header, print_lines}
+use Rattle.pps_types.specs.Filter.{Part, matches}
+use Rattle.pps_types.specs.History.{Entry}
+
+-- ---- handles
+
+-- Handles on objects and on directories are in delta mode, or in full mode.
+pub data HandleKind : Type 0 where
+  ObjectHandle : Bool → HandleKind
+  DirectoryHandle : Bool → HandleKind
+  NamesHandle : HandleKind
+  ServerHandle : HandleKind
+  ClientHandle : HandleKind
+
+-- What a handle has of the records: in full mode whether there is news; else nothing yet, more than its limit,
+-- or the records of its target from the first that it is owed on.
+pub data Seen : Type 0 where
+  News : Bool → Seen
+  Unread : Seen
+  Over : Seen
+  Owed : List Entry → Seen
+
+-- One open. S is what is known of what it has seen: a cursor, or what the cursor comes to.
+-- name: of its target, where that is an object. parked: the size of the parked read. armed: a code and a value.
+pub record Open (S : Type 0) : Type 0 where
+  pub number : ℕ
+  pub connection : ℕ
+  pub target : ℕ
+  pub name : List ℕ
+  pub kind : HandleKind
+  pub reads : Bool
+  pub writes : Bool
+  pub wait : Bool
+  pub reflect : Bool
+  pub critical : Bool
+  pub filter : Option (List Part)
+  pub limit : ℕ
+  pub seen : S
+  pub parked : Option ℕ
+  pub armed : Option (ℕ × ℕ)
+
+-- the same open, with another thing known of what it has seen
+abbrev pub reseen : {S T : Type 0} → (Open S → T) → Open S → Open T
+reseen see h = record { number = h.number; connection = h.connection; target = h.target; name = h.name; kind = h.kind; reads = h.reads; writes = h.writes; wait = h.wait; reflect = h.reflect; critical = h.critical; filter = h.filter; limit = h.limit; seen = see h; parked = h.parked; armed = h.armed }
+
+abbrev pub is_object_kind : HandleKind → Bool
+is_object_kind (ObjectHandle delta) = true
+is_object_kind _ = false
+
+abbrev pub is_directory_kind : HandleKind → Bool
+is_directory_kind (DirectoryHandle delta) = true
+is_directory_kind NamesHandle = true
+is_directory_kind _ = false
+
+-- Full: whether there is news. Delta: a debt that is given up past the limit. Queue: all of it.
+pub data Style : Type 0 where
+  Full : Style
+  Delta : Style
+  Queue : Style
+
+abbrev pub style : HandleKind → Style
+style (ObjectHandle false) = Full
+style (DirectoryHandle false) = Full
+style (ObjectHandle true) = Delta
+style (DirectoryHandle true) = Delta
+style NamesHandle = Delta
+style ServerHandle = Queue
+style ClientHandle = Queue
+
+abbrev pub is_full_style : Style → Bool
+is_full_style Full = true
+is_full_style s = false
+
+abbrev pub is_delta_style : Style → Bool
+is_delta_style Delta = true
+is_delta_style s = false
+
+-- ---- blocks
+
+-- A block: the mark before `@`, what stands behind the name, and the lines.
+pub record Shown : Type 0 where
+  pub mark : List ℕ
+  pub suffix : List ℕ
+  pub lines : List Line
+
+abbrev pub header_only : List ℕ → Option Shown
+header_only mark = Some (record { mark = mark; suffix = []; lines = [] })
+
+abbrev pub with_lines : List Line → Option Shown
+with_lines lines = Some (record { mark = []; suffix = []; lines = lines })
+
+abbrev pub with_client : List ℕ → ℕ → List Line → Option Shown
+with_client mark id lines = Some (record { mark = mark; suffix = codes "." ++ decimal id; lines = lines })
+
+-- the matching lines, where there are any
+abbrev pub matching_lines : Option (List Part) → List Line → Option Shown
+matching_lines parts lines = if list_any (matches parts) lines then with_lines (filter (matches parts) lines) else None
+
+abbrev pub shown_to_object : Option (List Part) → Kind → Option Shown
+shown_to_object parts (Change lines) = matching_lines parts lines
+shown_to_object parts Truncated = header_only (codes "#")
+shown_to_object parts Dropped = header_only (codes "*")
+shown_to_object parts Deleted = header_only (codes "-")
+shown_to_object parts _ = None
+
+abbrev pub shown_to_directory : Option (List Part) → Kind → Option Shown
+shown_to_directory parts Created = header_only (codes "+")
+shown_to_directory parts kind = shown_to_object parts kind
+
+abbrev pub shown_to_names : Kind → Option Shown
+shown_to_names Created = header_only (codes "+")
+shown_to_names Deleted = header_only (codes "-")
+shown_to_names _ = None
+
+abbrev pub shown_to_server : Kind → Option Shown
+shown_to_server (Opened id) = with_client (codes "+") id []
+shown_to_server (Closed id) = with_client (codes "-") id []
+shown_to_server (FromClient id lines) = with_client [] id lines
+shown_to_server _ = None
+
+abbrev pub shown_to_client : ℕ → Kind → Option Shown
+shown_to_client number Deleted = header_only (codes "-")
+shown_to_client number (ToClient id lines) = if id == number then with_lines lines else None
+shown_to_client number (ToAll lines) = with_lines lines
+shown_to_client number _ = None
+
+-- The table of blocks: a column for each kind of handle.
+abbrev pub shown : HandleKind → ℕ → Option (List Part) → Kind → Option Shown
+shown (ObjectHandle delta) number parts kind = shown_to_object parts kind
+shown (DirectoryHandle delta) number parts kind = shown_to_directory parts kind
+shown NamesHandle number parts kind = shown_to_names kind
+shown ServerHandle number parts kind = shown_to_server kind
+shown ClientHandle number parts kind = shown_to_client number kind
+
+abbrev pub print_shown : List ℕ → Option Shown → List ℕ
+print_shown name None = []
+print_shown name (Some s) = print_header s.mark (name ++ s.suffix) ++ print_lines s.lines
+
+-- what a record of the object of that name looks like to a handle
+abbrev pub block_of : {S : Type 0} → Open S → List ℕ → Kind → List ℕ
+block_of h name kind = print_shown name (shown h.kind h.number h.filter kind)
+
+abbrev pub block : {S : Type 0} → Open S → Entry → List ℕ
+block h e = block_of h e.name e.record_of.kind
+
+-- ---- which records a handle is given
+
+abbrev pub is_writer : ℕ → Option ℕ → Bool
+is_writer number writer = option_map_or (λ w. w == number) writer false
+
+-- of the records of its target: not its own, unless it is an object's handle that reflects, and none without a block
+abbrev pub sees : {S : Type 0} → Open S → Record → Bool
+sees h r = h.reads && (not (is_writer h.number r.writer) || (h.reflect && is_object_kind h.kind)) && is_some (shown h.kind h.number h.filter r.kind)
+
+-- a record of the target, or of an object directly in it
+abbrev pub concerns : {S : Type 0} → Open S → Entry → Bool
+concerns h e = if is_directory_kind h.kind then e.directory == h.target else e.record_of.object == h.target
+
+abbrev pub visible : {S : Type 0} → Open S → Entry → Bool
+visible h e = concerns h e && sees h e.record_of
+
+-- the kinds of which a target's records are kept for its handles in delta mode
+abbrev pub is_chained : HandleKind → Kind → Bool
+is_chained ServerHandle _ = false
+is_chained ClientHandle _ = false
+is_chained (ObjectHandle delta) Created = false
+is_chained _ Created = true
+is_chained _ (Change lines) = true
+is_chained _ Truncated = true
+is_chained _ Dropped = true
+is_chained _ Deleted = true
+is_chained _ _ = false
+
+-- what is owed, and what stands between in the target's kept records
+abbrev pub keeps : {S : Type 0} → Open S → Entry → Bool
+keeps h e = visible h e || (concerns h e && is_chained h.kind e.record_of.kind)
+
+-- ---- lists that are read from the front
+
+module _ {X : Type 0} where
+  -- from the first that passes on
+  abbrev pub from_first : (X → Bool) → List X → List X
+  from_first test [] = []
+  from_first test (x ∷ xs) = if test x then x ∷ xs else from_first test xs
+
+  -- one more at the end, where there is something or it passes
+  abbrev pub pushed : (X → Bool) → X → List X → List X
+  pushed test y [] = if test y then y ∷ [] else []
+  pushed test y (x ∷ xs) = x ∷ xs ++ y ∷ []
+
+  -- behind the first n that pass
+  abbrev pub past : (X → Bool) → ℕ → List X → List X
+  past test zero xs = xs
+  past test (suc n) [] = []
+  past test (suc n) (x ∷ xs) = if test x then past test n xs else past test (suc n) xs
+
+  -- how many stand before what is behind the first n that pass
+  abbrev pub behind : (X → Bool) → ℕ → List X → ℕ
+  behind test zero xs = 0
+  behind test (suc n) [] = 0
+  behind test (suc n) (x ∷ xs) = if test x then behind test n xs + 1 else behind test (suc n) xs + 1
+
+-- ---- what a handle has seen
+
+-- by the rest that begins with the first record that it is owed
+abbrev pub stand : Style → Bool → Bool → List Entry → Seen
+stand Full reads over rest = News (reads && not (is_empty rest))
+stand Delta reads over rest = if over then Over else Owed rest
+stand Queue reads over rest = Owed rest
+
+abbrev pub over_limit : {S : Type 0} → Open S → List Entry → Bool
+over_limit h rest = nat_lt h.limit (length (filter (visible h) rest))
+
+abbrev pub seen_of : {S : Type 0} → Open S → List Entry → Seen
+seen_of h rest = stand (style h.kind) h.reads (over_limit h rest) rest
+
+-- before the first read
+abbrev pub unread : Style → Bool → Seen
+unread Full reads = News reads
+unread Delta reads = Unread
+unread Queue reads = Unread
+
+-- of the records from the cursor on: what is kept, from the first that is owed
+abbrev pub rest_of : {S : Type 0} → Open S → List Entry → List Entry
+rest_of h entries = from_first (visible h) (filter (keeps h) entries)
+
+-- what a handle has seen that has this cursor in this history
+abbrev pub seen_with : {S : Type 0} → Open S → List Entry → Option ℕ → Seen
+seen_with h history None = unread (style h.kind) h.reads
+seen_with h history (Some cursor) = seen_of h (rest_of h (drop cursor history))
+
+abbrev pub owed_in : {S : Type 0} → Open S → Seen → List Entry
+owed_in h (Owed rest) = filter (visible h) rest
+owed_in h _ = []
+
+abbrev pub news_in : Bool → Seen → Bool
+news_in reads (News b) = b
+news_in reads Unread = reads
+news_in reads Over = true
+news_in reads (Owed rest) = not (is_empty rest)
+
+abbrev pub is_over : Seen → Bool
+is_over Over = true
+is_over _ = false
+
+-- ---- everything
+
+-- a member of the target: its name, and its attributes as lines
+pub record Member : Type 0 where
+  pub name : List ℕ
+  pub lines : List Line
+
+abbrev pub print_member : List ℕ → Option (List Part) → Member → List ℕ
+print_member mark parts m = print_header mark m.name ++ print_lines (filter (matches parts) m.lines)
+
+abbrev pub overflow_mark : Bool → List ℕ
+overflow_mark over = if over then codes "!" else []
+
+abbrev pub overflow_line : Bool → List ℕ
+overflow_line over = if over then print_header (codes "!") (codes ".all") else []
+
+-- Everything that a read gives: of an object, which is its own one member, alive or dead; or of a directory's members.
+abbrev pub everything_of : HandleKind → Option (List Part) → Bool → Bool → List Member → List ℕ
+everything_of (ObjectHandle delta) parts over false members = concat (map (λ m. print_header (codes "-") m.name) members)
+everything_of (ObjectHandle delta) parts over true members = concat (map (print_member (overflow_mark over) parts) members)
+everything_of (DirectoryHandle delta) parts over alive members = overflow_line over ++ concat (map (print_member [] parts) members)
+everything_of NamesHandle parts over alive members = overflow_line over ++ concat (map (λ m. print_header [] m.name) members)
+everything_of _ parts over alive members = []
+
+-- ---- what a read answers
+
+pub data Answer : Type 0 where
+  Everything : List ℕ → Answer
+  Blocks : ℕ → List ℕ → Answer
+  Needs : ℕ → Answer
+  TargetGone : Answer
+  Waits : Answer
+  Nothing : Answer
+
+abbrev pub with_block : List ℕ → ℕ × List ℕ → ℕ × List ℕ
+with_block b given = (1 + given.0, b ++ given.1)
+
+-- the longest run of whole blocks, from the first, that fits: how many, and their bytes
+abbrev pub fitting : ℕ → List (List ℕ) → ℕ × List ℕ
+fitting room [] = (0, [])
+fitting room (b ∷ bs) = if nat_le (length b) room then with_block b (fitting (room - length b) bs) else (0, [])
+
+abbrev pub blocks_answer : ℕ × List ℕ → Answer
+blocks_answer given = Blocks given.0 given.1
+
+-- all of it, or the size that it needs
+abbrev pub whole_answer : List ℕ → ℕ → Answer
+whole_answer text max = if nat_le (length text) max then Everything text else Needs (length text)
+
+-- nothing is owed
+abbrev pub idle_answer : Bool → Bool → Answer
+idle_answer dead wait = if dead then TargetGone else if wait then Waits else Nothing
+
+abbrev pub owed_answer : Bool → List (List ℕ) → Bool → ℕ → Answer
+owed_answer wait [] dead max = idle_answer dead wait
+owed_answer wait (b ∷ bs) dead max = if nat_le (length b) max then blocks_answer (fitting max (b ∷ bs)) else Needs (length b)
+
+-- The answer to a read of max bytes, by what everything is, and whether the target is a dead object.
+abbrev pub answer : Open Seen → Seen → List ℕ → Bool → ℕ → Answer
+answer h (News true) everything dead max = whole_answer everything max
+answer h (News false) everything dead max = idle_answer dead h.wait
+answer h Unread everything dead max = whole_answer everything max
+answer h Over everything dead max = whole_answer everything max
+answer h (Owed rest) everything dead max = owed_answer h.wait (map (block h) (filter (visible h) rest)) dead max
