@@ -10,3 +10,13 @@ pub mod OpenText
 pub mod History
 pub mod Reading
 pub mod Outbox
+pub mod Content
+pub mod Checks
+pub mod Plan
+pub mod Machine
+pub mod Runs
+pub mod Stands
+pub mod Owed
+pub mod Laws
+pub mod Frame
+pub mod FrameLaws

@@ -1,11 +1,11 @@
 -- Paths, and what stands at them: a finite map with the root in it. How a path is followed, and why a name can't be added or removed.
 -- QNX PPS guide, on the file system below the mount point; the numbers of a directory's objects and directories are our own.
-use Rattle.std.specs.Prelude.{◌≡◌, ℕ, List, [], ◌∷◌, Bool, true, false, not, nat_le, cond, if◌then◌else◌, Option, Some, None, option_map, is_some, Result, Ok, Err, ok_or, count_by}
+use Rattle.std.specs.Prelude.{ℕ, List, [], ◌∷◌, Bool, true, false, not, nat_le, cond, if◌then◌else◌, Option, Some, None, option_map, is_some, Result, Ok, Err, ok_or, count_by}
 use Rattle.std.specs.Option.{option_or}
 use Rattle.std.specs.Ordering.{nat_cmp, is_eq, is_lt}
 use Rattle.std.specs.List.{filter_map}
 use Rattle.std.specs.Cmp.Lexicographic.{slice_cmp}
-use Rattle.std.specs.FinMap.{FinMap, entries, get, insert, remove}
+use Rattle.std.specs.FinMap.{FinMap, entries, get}
 use Rattle.std.specs.declared.cmp.Ordering.{Ordering}
 use lib.Pointwise.{pointwise}
 use Rattle.pps_types.specs.declared.found.Found.{Found}

@@ -1,6 +1,6 @@
 -- What a connection has to come: queued items, armed pulses and parked reads, and the limit on all three together.
 -- QNX C library, on `ionotify` and pulses; the limit is our own.
-use Rattle.std.specs.Prelude.{ℕ, ◌+◌, ◌-◌, List, [], ◌∷◌, ◌++◌, Bool, true, false, not, ◌==◌, nat_le, nat_lt, if◌then◌else◌, Option, Some, None, Result, filter, find, map, length}
+use Rattle.std.specs.Prelude.{ℕ, ◌+◌, ◌-◌, List, [], ◌∷◌, ◌++◌, Bool, true, false, not, ◌==◌, nat_le, nat_lt, if◌then◌else◌, Option, Some, None, Result, filter, find, length}
 use Rattle.std.specs.Option.{option_map_or}
 use Rattle.std.specs.List.{list_any}
 use Rattle.pps_types.specs.declared.event.Action.{Action}

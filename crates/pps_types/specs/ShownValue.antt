@@ -1,5 +1,5 @@
 -- What the program shows of an attribute's value, by its encoding. QNX PPS guide, on encodings; the program's `--show` is our own.
-use Rattle.std.specs.Prelude.{ℕ, List, Bool, true, false, if◌then◌else◌, Result, Ok, Err, codes}
+use Rattle.std.specs.Prelude.{ℕ, List, true, false, if◌then◌else◌, Result, Ok, Err, codes}
 use Rattle.base64.specs.Engines.{standard}
 use Rattle.base64.specs.GeneralPurpose.{decode_of}
 use Rattle.pps_types.specs.declared.shown.Shown.{Shown}

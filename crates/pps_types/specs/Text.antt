@@ -36,7 +36,7 @@ is_encoding bs = nat_le (length bs) 32 && list_all (λ b. is_between 33 126 b) b
 abbrev pub set_line : Mark → List ℕ → Option WriteLine
 set_line mark bs =
     option_and_then (λ named. option_and_then (λ encoded.
-      if is_attribute_name named.0 && is_encoding encoded.0 then Some (WriteSet named.0 encoded.0 encoded.1 mark) else None)
+    if is_attribute_name named.0 && is_encoding encoded.0 then Some (WriteSet named.0 encoded.0 encoded.1 mark) else None)
     (split_at_first 58 named.1)) (split_at_first 58 bs)
 
 abbrev pub deletion_line : List ℕ → Option WriteLine

@@ -26,7 +26,9 @@ pub enum WriteLine {
         mark: Mark,
     },
     /// `-name`
-    Del { name: Bytes },
+    Del {
+        name: Bytes,
+    },
 }
 
 /// A line as objects and records hold it. Where `n` is true the attribute is nonpersistent.

@@ -1,0 +1,12 @@
+pub mod Lists
+pub mod Offers
+pub mod Objects
+pub mod Lawful
+pub mod Law
+pub mod Bridge
+pub mod Kept
+pub mod StandsLaw
+pub mod PlainWords
+pub mod BasicLaws
+pub mod FrameEvents
+pub mod FrameStreams

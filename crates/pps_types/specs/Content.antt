@@ -1,0 +1,138 @@
+-- What stands now: the names, the alive objects with their attributes, and what each open handle has still to be given.
+-- QNX PPS guide, on objects, on subscribing to all objects in a directory and on server objects.
+use Rattle.std.specs.Prelude.{ℕ, List, [], ◌∷◌, Bool, not, ◌&&◌, ◌==◌, if◌then◌else◌, Option, None, is_none, is_some, option_map, option_and_then, filter, find, map}
+use Rattle.std.specs.Option.{option_map_or, option_or}
+use Rattle.std.specs.List.{filter_map}
+use Rattle.pps_types.specs.declared.found.Found.{Found}
+use Rattle.pps_types.specs.declared.found.Found.TheVariants.{Object as FoundObject, Directory as FoundDirectory}
+use Rattle.pps_types.specs.declared.outcome.Item.{Item}
+use Rattle.pps_types.specs.Bytes.{same}
+use Rattle.pps_types.specs.Names.{Name, Path, same_path, parent, last_name, name_cmp, sorted_by}
+use Rattle.pps_types.specs.History.{Attribute, line_of}
+use Rattle.pps_types.specs.Reading.{Open, Seen, is_directory_kind, Member, Answer, news_in, is_over, everything_of, answer}
+use Rattle.pps_types.specs.Outbox.{Outbox}
+
+-- What is fixed when an object is created. server: the handle that owns it, where it is a server object.
+pub record Object : Type 0 where
+  pub number : ℕ
+  pub directory : ℕ
+  pub name : Name
+  pub nopersist : Bool
+  pub server : Option ℕ
+
+pub record Directory : Type 0 where
+  pub number : ℕ
+  pub path : Path
+
+-- an alive object
+pub record Known : Type 0 where
+  pub object : Object
+  pub attributes : List Attribute
+
+-- an attached connection, and the items that are queued for it
+pub record Connection : Type 0 where
+  pub number : ℕ
+  pub queue : List Item
+
+-- Objects, directories, handles and connections stand in rising number. records: how many there were so far.
+-- next_object, next_directory, next_handle: the numbers that the next ones get.
+pub record Content : Type 0 where
+  pub default_limit : ℕ
+  pub records : ℕ
+  pub objects : List Known
+  pub next_object : ℕ
+  pub directories : List Directory
+  pub next_directory : ℕ
+  pub handles : List (Open Seen)
+  pub next_handle : ℕ
+  pub connections : List Connection
+
+-- ---- names
+
+abbrev pub object_numbered : Content → ℕ → Option Known
+object_numbered c number = find (λ o. o.object.number == number) c.objects
+
+abbrev pub directory_at : Content → Path → Option Directory
+directory_at c path = find (λ d. same_path d.path path) c.directories
+
+-- the number of the directory that holds a path's last name
+abbrev pub parent_number : Content → Path → Option ℕ
+parent_number c path = option_map (λ d. d.number) (directory_at c (parent path))
+
+abbrev pub object_in : Content → Name → ℕ → Option Known
+object_in c name directory = find (λ o. (o.object.directory == directory) && same o.object.name name) c.objects
+
+-- the alive object of a path
+abbrev pub object_at : Content → Path → Option Known
+object_at c [] = None
+object_at c (n ∷ ns) = option_and_then (object_in c (last_name (n ∷ ns))) (parent_number c (n ∷ ns))
+
+-- what stands at a path
+abbrev pub at : Content → Path → Option Found
+at c path = option_or (option_map (λ d. FoundDirectory d.number) (directory_at c path)) (option_map (λ o. FoundObject o.object.number) (object_at c path))
+
+-- the alive objects directly in a directory, in byte order of names
+abbrev pub members : Content → ℕ → List Known
+members c directory = sorted_by name_cmp (λ o. o.object.name) (filter (λ o. o.object.directory == directory) c.objects)
+
+-- the directories directly in one
+abbrev pub subdirectories : Content → Path → List Directory
+subdirectories c path = filter (λ d. not (same_path d.path []) && same_path (parent d.path) path) c.directories
+
+-- ---- handles
+
+abbrev pub handle_numbered : Content → ℕ → Option (Open Seen)
+handle_numbered c number = find (λ h. h.number == number) c.handles
+
+abbrev pub news : Open Seen → Bool
+news h = news_in h.reads h.seen
+
+-- a handle on that object, as publisher, subscriber, server or client
+abbrev pub has_object_handle : Content → ℕ → Bool
+has_object_handle c object = is_some (find (λ h. not (is_directory_kind h.kind) && (h.target == object)) c.handles)
+
+-- an open `.all` of that directory
+abbrev pub has_directory_handle : Content → ℕ → Bool
+has_directory_handle c directory = is_some (find (λ h. is_directory_kind h.kind && (h.target == directory)) c.handles)
+
+abbrev pub attributes_of : Content → ℕ → List Attribute
+attributes_of c number = option_map_or (λ o. o.attributes) (object_numbered c number) []
+
+abbrev pub member : Known → Member
+member o = record { name = o.object.name; lines = map line_of o.attributes }
+
+-- an object is its own one member, a dead one too
+abbrev pub target_members : Content → Open Seen → List Member
+target_members c h =
+    if is_directory_kind h.kind then map member (members c h.target) else record { name = h.name; lines = map line_of (attributes_of c h.target) } ∷ []
+
+abbrev pub target_is_dead : Content → Open Seen → Bool
+target_is_dead c h = not (is_directory_kind h.kind) && is_none (object_numbered c h.target)
+
+abbrev pub everything : Content → Open Seen → List ℕ
+everything c h = everything_of h.kind h.filter (is_over h.seen) (not (target_is_dead c h)) (target_members c h)
+
+abbrev pub read_answer : Content → Open Seen → ℕ → Answer
+read_answer c h max = answer h h.seen (everything c h) (target_is_dead c h) max
+
+-- ---- connections
+
+abbrev pub connection_numbered : Content → ℕ → Option Connection
+connection_numbered c conn = find (λ x. x.number == conn) c.connections
+
+abbrev pub is_attached : Content → ℕ → Bool
+is_attached c conn = is_some (connection_numbered c conn)
+
+abbrev pub queue_of : Content → ℕ → List Item
+queue_of c conn = option_map_or (λ x. x.queue) (connection_numbered c conn) []
+
+abbrev pub handles_of : Content → ℕ → List (Open Seen)
+handles_of c conn = filter (λ h. h.connection == conn) c.handles
+
+-- what a connection has to come
+abbrev pub outbox_of : Content → ℕ → Outbox
+outbox_of c conn = record {
+  items = queue_of c conn;
+  armed = filter_map (λ h. option_map (λ pulse. (h.number, pulse)) h.armed) (handles_of c conn);
+  parked = filter_map (λ h. option_map (λ size. h.number) h.parked) (handles_of c conn);
+}

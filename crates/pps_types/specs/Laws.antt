@@ -1,0 +1,80 @@
+-- The laws of the service, each the contract of a function that does nothing.
+use Rattle.std.specs.Prelude.{◌≡◌, ◌≤◌, ◌<◌, ℕ, ◌+◌, List, [], ◌∷◌, ◌++◌, true, false, if◌then◌else◌, Option, Some, None, Ok, Err, length, take}
+use Rattle.std.specs.List.{concat}
+use Rattle.pps_types.specs.declared.event.Event.{Event}
+use Rattle.pps_types.specs.declared.refusal.Refusal.{Refusal}
+use Rattle.pps_types.specs.Outcome.{Reply}
+use Rattle.pps_types.specs.Names.{Path}
+use Rattle.pps_types.specs.History.{Entry}
+use Rattle.pps_types.specs.Reading.{Open, visible, style, is_full_style, seen_with, news_in, is_over, owed_in, fitting}
+use Rattle.pps_types.specs.Content.{Content, read_answer}
+use Rattle.pps_types.specs.Checks.{first_refusal}
+use Rattle.pps_types.specs.Plan.{all_checks_of, effect, settling, apply_all_seen, step_seen}
+use Rattle.pps_types.specs.Machine.{Machine, IsMachine, start, shown, shown_handle, step, apply_all}
+use Rattle.pps_types.specs.Runs.{Answered, after, after_seen}
+use Rattle.pps_types.specs.Stands.{StepsSeen, Steps, RunsSeen, Runs}
+use Rattle.pps_types.specs.Owed.{owed, is_past_limit, has_news, answer_of, owed_by, owed_by_seen, kept, kept_seen}
+
+-- ---- the machine and what stands of it
+
+-- the start is well formed, and each event keeps a machine well formed
+pub record MachinesStay : Type 0 where
+  pub begins : (first_handle default_limit : ℕ) → IsMachine (start first_handle default_limit)
+  pub stays : (m : Machine) → IsMachine m → (e : Event) → IsMachine (step m e).1
+
+-- what stands after an event is the step of what stood before, and the replies are equal; so for each list of events
+pub record StepsAreShown : Type 0 where
+  pub event : (m : Machine) → IsMachine m → (e : Event) → ((step m e).0, shown (step m e).1) ≡ step_seen (shown m) e
+  pub events : (m : Machine) → IsMachine m → (es : List Event) → shown (after m es) ≡ after_seen (shown m) es
+
+-- what steps a content, steps each machine that it stands for; so for each list of events
+pub record StepsStand : Type 0 where
+  pub event : (old : Content) (e : Event) (reply : Reply) (new : Content) → StepsSeen old e reply new → Steps old e reply new
+  pub events : (old : Content) (answered : List Answered) (new : Content) → RunsSeen old answered new → Runs old answered new
+
+-- ---- the plain words
+
+-- what stands of a handle says whether it has news and is past its limit, and what it is owed
+pub record HandlesAreTold : Type 0 where
+  pub news : (h : Open (Option ℕ)) (history : List Entry) → news_in h.reads (seen_with h history h.seen) ≡ has_news h history h.seen
+  pub over : (h : Open (Option ℕ)) (history : List Entry) → is_over (seen_with h history h.seen) ≡ is_past_limit h (owed h history h.seen)
+  pub owes : (h : Open (Option ℕ)) (history : List Entry) → is_full_style (style h.kind) ≡ false → is_past_limit h (owed h history h.seen) ≡ false
+      → owed_in h (seen_with h history h.seen) ≡ owed h history h.seen
+  pub count : (m : Machine) (number : ℕ) → owed_by_seen (shown m) number ≡ owed_by m number
+
+-- what stands says what each read answers
+abbrev pub AnswersAreTold : Type 0
+AnswersAreTold = (m : Machine) (h : Open (Option ℕ)) (max : ℕ) → h.reads ≡ true → read_answer (shown m) (shown_handle m.history h) max ≡ answer_of m h max
+
+-- what stands says how many records have to be kept
+abbrev pub KeptIsTold : Type 0
+KeptIsTold = (m : Machine) (path : Path) → kept_seen (shown m) path ≡ kept m path
+
+-- ---- basic laws
+
+-- a refusal is the first check that fails, and changes nothing; where none fails, the event takes effect and what follows does
+pub record StepsAreDecided : Type 0 where
+  pub refused : (m : Machine) (e : Event) (r : Refusal) → first_refusal (all_checks_of (shown m) e) ≡ Some r → step m e ≡ (Err r, m)
+  pub accepted : (m : Machine) (e : Event) → first_refusal (all_checks_of (shown m) e) ≡ None
+      → let done = effect (shown m) e.conn e.request in
+      step m e ≡ (Ok done.0, apply_all (done.1 ++ settling (shown m) (apply_all_seen done.1 (shown m))) m)
+
+-- a refused event changes nothing
+abbrev pub RefusalsKeep : Type 0
+RefusalsKeep = (m : Machine) (e : Event) (r : Refusal) → (step m e).0 ≡ Err r → (step m e).1 ≡ m
+
+-- one more record is owed to the handles that see it, behind all else; and without a cursor nothing is owed
+pub record DebtsGrow : Type 0 where
+  pub record_more : (h : Open (Option ℕ)) (history : List Entry) (e : Entry) (cursor : ℕ) → cursor ≤ length history
+      → owed h (history ++ e ∷ []) (Some cursor) ≡ owed h history (Some cursor) ++ (if visible h e then e ∷ [] else [])
+  pub no_cursor : (h : Open (Option ℕ)) (history : List Entry) → owed h history None ≡ []
+
+-- so many blocks are given, whole and from the first, and one more would not fit
+pub record IsLongestRun (room : ℕ) (blocks : List (List ℕ)) (given : ℕ × List ℕ) : Type 0 where
+  pub within : given.0 ≤ length blocks
+  pub bytes : given.1 ≡ concat (take given.0 blocks)
+  pub fits : length given.1 ≤ room
+  pub longest : given.0 < length blocks → room < length (concat (take (given.0 + 1) blocks))
+
+abbrev pub BlocksFit : Type 0
+BlocksFit = (room : ℕ) (blocks : List (List ℕ)) → IsLongestRun room blocks (fitting room blocks)

@@ -1,0 +1,140 @@
+-- The machine: all records that were ever made, the names, and a cursor for each open handle; what stands of them; and its steps. Own.
+use Rattle.std.specs.Prelude.{◌≡◌, ◌≤◌, ◌<◌, ℕ, ◌+◌, List, [], ◌∷◌, ◌++◌, Bool, true, false, not, ◌==◌, if◌then◌else◌, Option, Some, None, Err, filter, map, length, drop}
+use Rattle.std.specs.List.{filter_map, AllByRecursion}
+use Rattle.pps_types.specs.declared.event.Event.{Event}
+use Rattle.pps_types.specs.declared.refusal.Refusal.TheVariants.{OutOfMemory}
+use Rattle.pps_types.specs.declared.record.Kind.{Kind}
+use Rattle.pps_types.specs.declared.record.Kind.TheVariants.{Created}
+use Rattle.pps_types.specs.Outcome.{Reply}
+use Rattle.pps_types.specs.History.{Entry, state, is_alive}
+use Rattle.pps_types.specs.Reading.{Open, Seen, Owed, reseen, Style, Queue, style, seen_with, visible, behind}
+use Rattle.pps_types.specs.Outbox.{behind_first}
+use Rattle.pps_types.specs.Content.{Object, Directory, Known, Connection, Content}
+use Rattle.pps_types.specs.Checks.{checks}
+use Rattle.pps_types.specs.Plan.{Move, Attaches, Leaves, Creates, Happens, Opens, Closes, CatchesUp, Passes, Parks, Arms, Queues, Takes, MakesDirectory, RemovesDirectory, on_numbered, without_number, on_connection, with_connection, without_connection, creation, plan, effect, settling, step_seen}
+
+-- A handle has its cursor, a place in the history, from its first read on; a server's or client's from its opening on.
+pub record Machine : Type 0 where
+  pub default_limit : ℕ
+  pub history : List Entry
+  pub objects : List Object
+  pub directories : List Directory
+  pub next_directory : ℕ
+  pub handles : List (Open (Option ℕ))
+  pub next_handle : ℕ
+  pub connections : List Connection
+
+-- the root alone, with the number of the first handle and the limit of handles that name none
+abbrev pub start : ℕ → ℕ → Machine
+start first_handle default_limit = record {
+  default_limit = default_limit;
+  history = [];
+  objects = [];
+  directories = record { number = 0; path = [] } ∷ [];
+  next_directory = 1;
+  handles = [];
+  next_handle = first_handle;
+  connections = [];
+}
+
+-- ---- what stands
+
+-- an object, where it is alive
+abbrev pub known : List Entry → Object → Option Known
+known history o = if is_alive o.number history then Some (record { object = o; attributes = state o.number history }) else None
+
+abbrev pub shown_handle : List Entry → Open (Option ℕ) → Open Seen
+shown_handle history = reseen (λ h. seen_with h history h.seen)
+
+abbrev pub shown : Machine → Content
+shown m = record {
+  default_limit = m.default_limit;
+  records = length m.history;
+  objects = filter_map (known m.history) m.objects;
+  next_object = length m.objects;
+  directories = m.directories;
+  next_directory = m.next_directory;
+  handles = map (shown_handle m.history) m.handles;
+  next_handle = m.next_handle;
+  connections = m.connections;
+}
+
+-- ---- what a move does
+
+abbrev pub first_cursor : Style → ℕ → Option ℕ
+first_cursor Queue end = Some end
+first_cursor _ end = None
+
+-- the cursor behind the first records that it is owed, that many
+abbrev pub passed_with : Open (Option ℕ) → List Entry → ℕ → Seen → Option ℕ → Option ℕ
+passed_with h history count (Owed rest) (Some cursor) = Some (cursor + behind (visible h) count (drop cursor history))
+passed_with h history count seen cursor = cursor
+
+abbrev pub passed : Open (Option ℕ) → List Entry → ℕ → Option ℕ → Option ℕ
+passed h history count cursor = passed_with h history count (seen_with h history cursor) cursor
+
+-- a record goes to the end of the history, and a read moves a cursor
+abbrev pub apply : Move → Machine → Machine
+apply (Attaches conn) m = record m { connections = with_connection conn m.connections }
+apply (Leaves conn) m = record m { connections = without_connection conn m.connections }
+apply (Creates o) m = record m { objects = m.objects ++ o ∷ []; history = m.history ++ creation o ∷ [] }
+apply (Happens e) m = record m { history = m.history ++ e ∷ [] }
+apply (Opens h) m = record m { handles = m.handles ++ reseen (λ h. first_cursor (style h.kind) (length m.history)) h ∷ []; next_handle = m.next_handle + 1 }
+apply (Closes number) m = record m { handles = without_number number m.handles }
+apply (CatchesUp number) m = record m { handles = on_numbered number (reseen (λ h. Some (length m.history))) m.handles }
+apply (Passes number count) m = record m { handles = on_numbered number (reseen (λ h. passed h m.history count h.seen)) m.handles }
+apply (Parks number size) m = record m { handles = on_numbered number (λ h. record h { parked = size }) m.handles }
+apply (Arms number pulse) m = record m { handles = on_numbered number (λ h. record h { armed = pulse }) m.handles }
+apply (Queues conn item) m = record m { connections = on_connection conn (λ items. items ++ item ∷ []) m.connections }
+apply (Takes conn) m = record m { connections = on_connection conn behind_first m.connections }
+apply (MakesDirectory path) m = record m { directories = m.directories ++ record { number = m.next_directory; path = path } ∷ []; next_directory = m.next_directory + 1 }
+apply (RemovesDirectory number) m = record m { directories = filter (λ d. not (d.number == number)) m.directories }
+
+-- one after the other
+abbrev pub apply_all : List Move → Machine → Machine
+apply_all [] m = m
+apply_all (x ∷ xs) m = apply_all xs (apply x m)
+
+-- ---- the step
+
+-- the plan is read off what stands
+unfoldable pub step : Machine → Event → Reply × Machine
+step m e = ((plan (shown m) e).0, apply_all (plan (shown m) e).1 m)
+
+-- a marked event wants memory, and changes nothing
+abbrev pub marked_step : Machine → Event → Bool → Reply × Machine
+marked_step m e mark = if mark then (Err OutOfMemory, m) else step m e
+
+-- ---- machines that are well formed
+
+abbrev pub IsWithin : ℕ → Option ℕ → Type 0
+IsWithin end None = Unit {0}
+IsWithin end (Some cursor) = cursor ≤ end
+
+-- objects are numbered below the next number, and no cursor is past the end
+pub record IsMachine (m : Machine) : Type 0 where
+  pub numbered : AllByRecursion (λ o. o.number < length m.objects) m.objects
+  pub within : AllByRecursion (λ h. IsWithin (length m.history) h.seen) m.handles
+
+abbrev pub is_creation : Kind → Bool
+is_creation Created = true
+is_creation _ = false
+
+-- a new object has the next number, and what happens to one is not that it is created
+abbrev pub IsLawful : ℕ → Move → Type 0
+IsLawful next (Creates o) = o.number ≡ next
+IsLawful next (Happens e) = is_creation e.record_of.kind ≡ false
+IsLawful next _ = Unit {0}
+
+abbrev pub next_after : ℕ → Move → ℕ
+next_after next (Creates o) = next + 1
+next_after next _ = next
+
+abbrev pub AreLawful : ℕ → List Move → Type 0
+AreLawful next [] = Unit {0}
+AreLawful next (x ∷ xs) = IsLawful next x × AreLawful (next_after next x) xs
+
+-- names what opens for a computation of the machine: `unfolding machine` opens it all
+unfoldable pub machine : ℕ
+unfolding checks effect settling plan step step_seen
+machine = 0

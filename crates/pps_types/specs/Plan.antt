@@ -1,0 +1,324 @@
+-- What an event answers and changes where no check refuses it, and what follows from it, as a list of moves that is read off what stands.
+-- QNX PPS guide, on opening, reading, writing and deleting and on server objects; QNX C library, on `ionotify`; how late replies and pulses follow is our own.
+use Rattle.std.specs.Prelude.{ℕ, ◌+◌, ◌-◌, ◌^◌, List, [], ◌∷◌, ◌++◌, Bool, false, not, ◌&&◌, ◌||◌, ◌==◌, nat_lt, if◌then◌else◌, Option, Some, None, is_some, unwrap_or, Result, Ok, Err, filter, map, length, codes}
+use Rattle.std.specs.Option.{option_map_or}
+use Rattle.std.specs.List.{concat, filter_map, flat_map}
+use Rattle.pps_types.specs.declared.refusal.Refusal.{Refusal}
+use Rattle.pps_types.specs.declared.refusal.Refusal.TheVariants.{BadHandle, TooSmall, TableFull}
+use Rattle.pps_types.specs.declared.event.Event.{Event}
+use Rattle.pps_types.specs.declared.event.Request.{Request}
+use Rattle.pps_types.specs.declared.event.Request.TheVariants.{Attach, Detach, Open as OpenRequest, Read, Write, Close, Unlink, Mkdir, List as ListRequest, Notify, Receive}
+use Rattle.pps_types.specs.declared.event.Mode.{Mode}
+use Rattle.pps_types.specs.declared.outcome.Outcome.{Outcome}
+use Rattle.pps_types.specs.declared.outcome.Outcome.TheVariants.{Done, Opened as OpenedHandle, Data, Wrote, Parked, Input, Item as ItemOutcome, Empty}
+use Rattle.pps_types.specs.declared.outcome.Item.{Item}
+use Rattle.pps_types.specs.declared.outcome.Item.TheVariants.{Pulse, ReadDone}
+use Rattle.pps_types.specs.declared.line.Line.{Line}
+use Rattle.pps_types.specs.declared.record.Kind.{Kind}
+use Rattle.pps_types.specs.declared.record.Kind.TheVariants.{Created, Change, Truncated, Dropped, Deleted, Opened, Closed, FromClient, ToClient, ToAll}
+use Rattle.pps_types.specs.Bytes.{is_empty}
+use Rattle.pps_types.specs.Outcome.{Reply}
+use Rattle.pps_types.specs.Text.{WriteText, write_text}
+use Rattle.pps_types.specs.Names.{Path, last_name, name_cmp, sorted_by}
+use Rattle.pps_types.specs.OpenText.{OpenSpec, open_text, path_text}
+use Rattle.pps_types.specs.History.{Entry, after_kind, resolve, message_line}
+use Rattle.pps_types.specs.Reading.{HandleKind, ObjectHandle, DirectoryHandle, NamesHandle, ServerHandle, ClientHandle, Open, Seen, News, Unread, Over, Owed, reseen, style, Style, Queue, pushed, past, from_first, unread, seen_of, visible, keeps, Answer, Everything, Blocks, Needs, Waits}
+use Rattle.pps_types.specs.Outbox.{arms, first_of, behind_first, put_rising}
+use Rattle.pps_types.specs.Content.{Object, Directory, Known, Connection, Content, attributes_of, object_numbered, directory_at, object_at, parent_number, members, subdirectories, handle_numbered, handles_of, news, read_answer, queue_of}
+use Rattle.pps_types.specs.Checks.{first_refusal, reaches_memory, Check, Refuse, checks, addressee, Addressee, OneClient}
+
+-- ---- moves
+
+-- Creates: an object, with its record. Happens: any other record. CatchesUp: the handle has read everything.
+-- Passes: it has been given so many of the records that it is owed. Parks: its read of that size, or none any more.
+-- Arms: its pulse, or none any more. Queues and Takes: an item of a connection, at the end and at the front.
+pub data Move : Type 0 where
+  Attaches : ℕ → Move
+  Leaves : ℕ → Move
+  Creates : Object → Move
+  Happens : Entry → Move
+  Opens : Open (Unit {0}) → Move
+  Closes : ℕ → Move
+  CatchesUp : ℕ → Move
+  Passes : ℕ → ℕ → Move
+  Parks : ℕ → Option ℕ → Move
+  Arms : ℕ → Option (ℕ × ℕ) → Move
+  Queues : ℕ → Item → Move
+  Takes : ℕ → Move
+  MakesDirectory : Path → Move
+  RemovesDirectory : ℕ → Move
+
+abbrev pub on_numbered : {S : Type 0} → ℕ → (Open S → Open S) → List (Open S) → List (Open S)
+on_numbered number change handles = map (λ h. if h.number == number then change h else h) handles
+
+abbrev pub without_number : {S : Type 0} → ℕ → List (Open S) → List (Open S)
+without_number number handles = filter (λ h. not (h.number == number)) handles
+
+abbrev pub requeued : ℕ → (List Item → List Item) → Connection → Connection
+requeued conn change x = if x.number == conn then record x { queue = change x.queue } else x
+
+abbrev pub on_connection : ℕ → (List Item → List Item) → List Connection → List Connection
+on_connection conn change connections = map (requeued conn change) connections
+
+abbrev pub with_connection : ℕ → List Connection → List Connection
+with_connection conn connections = put_rising (λ x. x.number) (record { number = conn; queue = [] }) connections
+
+abbrev pub without_connection : ℕ → List Connection → List Connection
+without_connection conn connections = filter (λ x. not (x.number == conn)) connections
+
+-- a record of an object
+abbrev pub entry_of : Object → Kind → Option ℕ → Entry
+entry_of o kind writer = record { directory = o.directory; name = o.name; record_of = record { object = o.number; kind = kind; writer = writer } }
+
+abbrev pub creation : Object → Entry
+creation o = entry_of o Created None
+
+-- ---- what a move does to what stands
+
+-- a record is offered to a handle
+abbrev pub offered : {S : Type 0} → Open S → Entry → Seen → Seen
+offered h e (News b) = News (b || visible h e)
+offered h e Unread = Unread
+offered h e Over = Over
+offered h e (Owed rest) = seen_of h (if keeps h e then pushed (visible h) e rest else rest)
+
+abbrev pub offer : Entry → Open Seen → Open Seen
+offer e = reseen (λ h. offered h e h.seen)
+
+abbrev pub still_known : Known → Kind → Option Known
+still_known o Deleted = None
+still_known o kind = Some (record o { attributes = after_kind o.attributes kind })
+
+-- an object after a record, its own or another's
+abbrev pub touched : Entry → Known → Option Known
+touched e o = if e.record_of.object == o.object.number then still_known o e.record_of.kind else Some o
+
+abbrev pub caught_up : {S : Type 0} → Open S → Seen
+caught_up h = seen_of h []
+
+abbrev pub left : {S : Type 0} → Open S → ℕ → Seen → Seen
+left h count (Owed rest) = seen_of h (from_first (visible h) (past (visible h) count rest))
+left h count seen = seen
+
+-- a server's or client's queue begins behind its own opening
+abbrev pub first_seen : {S : Type 0} → Open S → Style → Seen
+first_seen h Queue = seen_of h []
+first_seen h kind = unread kind h.reads
+
+abbrev pub apply_seen : Move → Content → Content
+apply_seen (Attaches conn) c = record c { connections = with_connection conn c.connections }
+apply_seen (Leaves conn) c = record c { connections = without_connection conn c.connections }
+apply_seen (Creates o) c = record c { records = c.records + 1; objects = c.objects ++ record { object = o; attributes = [] } ∷ []; next_object = c.next_object + 1; handles = map (offer (creation o)) c.handles }
+apply_seen (Happens e) c = record c { records = c.records + 1; objects = filter_map (touched e) c.objects; handles = map (offer e) c.handles }
+apply_seen (Opens h) c = record c { handles = c.handles ++ reseen (λ h. first_seen h (style h.kind)) h ∷ []; next_handle = c.next_handle + 1 }
+apply_seen (Closes number) c = record c { handles = without_number number c.handles }
+apply_seen (CatchesUp number) c = record c { handles = on_numbered number (reseen caught_up) c.handles }
+apply_seen (Passes number count) c = record c { handles = on_numbered number (reseen (λ h. left h count h.seen)) c.handles }
+apply_seen (Parks number size) c = record c { handles = on_numbered number (λ h. record h { parked = size }) c.handles }
+apply_seen (Arms number pulse) c = record c { handles = on_numbered number (λ h. record h { armed = pulse }) c.handles }
+apply_seen (Queues conn item) c = record c { connections = on_connection conn (λ items. items ++ item ∷ []) c.connections }
+apply_seen (Takes conn) c = record c { connections = on_connection conn behind_first c.connections }
+apply_seen (MakesDirectory path) c = record c { directories = c.directories ++ record { number = c.next_directory; path = path } ∷ []; next_directory = c.next_directory + 1 }
+apply_seen (RemovesDirectory number) c = record c { directories = filter (λ d. not (d.number == number)) c.directories }
+
+-- one after the other
+abbrev pub apply_all_seen : List Move → Content → Content
+apply_all_seen [] c = c
+apply_all_seen (x ∷ xs) c = apply_all_seen xs (apply_seen x c)
+
+-- ---- Open
+
+abbrev pub new_object : Content → OpenSpec → Object
+new_object c spec = record {
+  number = c.next_object;
+  directory = unwrap_or (parent_number c spec.names) 0;
+  name = last_name spec.names;
+  nopersist = spec.nopersist;
+  server = if spec.server then Some c.next_handle else None;
+}
+
+-- the object at the path, as the open finds it and leaves it
+abbrev pub preparing : Content → Mode → OpenSpec → Option Known → List Move
+preparing c mode spec None = if spec.all then [] else Creates (new_object c spec) ∷ []
+preparing c mode spec (Some o) =
+    if spec.server then Happens (entry_of o.object Deleted None) ∷ Creates (new_object c spec) ∷ [] else
+    if is_some o.object.server then Happens (entry_of o.object (Opened c.next_handle) None) ∷ [] else
+    if mode.t then Happens (entry_of o.object Truncated None) ∷ [] else []
+
+abbrev pub kind_opened : OpenSpec → Option Known → HandleKind
+kind_opened spec found =
+    if spec.server then ServerHandle else
+    if spec.all then (if spec.deltadir then NamesHandle else DirectoryHandle spec.delta) else
+    if option_map_or (λ o. is_some o.object.server) found false then ClientHandle else ObjectHandle spec.delta
+
+abbrev pub target_of : Content → OpenSpec → Option Known → ℕ
+target_of c spec found =
+    if spec.all then option_map_or (λ d. d.number) (directory_at c spec.names) 0 else
+    if spec.server then c.next_object else option_map_or (λ o. o.object.number) found c.next_object
+
+abbrev pub new_handle : Content → ℕ → Mode → OpenSpec → Option Known → Open (Unit {0})
+new_handle c conn mode spec found = record {
+  number = c.next_handle;
+  connection = conn;
+  target = target_of c spec found;
+  name = if spec.all then [] else last_name spec.names;
+  kind = kind_opened spec found;
+  reads = mode.r;
+  writes = mode.w;
+  wait = spec.wait;
+  reflect = spec.reflect;
+  critical = spec.critical;
+  filter = spec.filter;
+  limit = unwrap_or spec.limit c.default_limit;
+  seen = tt;
+  parked = None;
+  armed = None;
+}
+
+abbrev pub opening : Content → ℕ → Mode → OpenSpec → Option Known → List Move
+opening c conn mode spec found = preparing c mode spec found ++ Opens (new_handle c conn mode spec found) ∷ []
+
+abbrev pub found_object : Content → OpenSpec → Option Known
+found_object c spec = if spec.all then None else object_at c spec.names
+
+-- ---- Read
+
+abbrev pub read_effect : Open Seen → ℕ → Answer → Outcome × List Move
+read_effect h size (Everything text) = (Data text, CatchesUp h.number ∷ [])
+read_effect h size (Blocks count text) = (Data text, Passes h.number count ∷ [])
+read_effect h size Waits = (Parked, Parks h.number (Some size) ∷ [])
+read_effect h size _ = (Data [], [])
+
+-- ---- Write
+
+abbrev pub sent : Addressee → List Line → Kind
+sent (OneClient id) lines = ToClient id lines
+sent _ lines = ToAll lines
+
+abbrev pub written_kind : Content → Open Seen → HandleKind → WriteText → Kind
+written_kind c h ServerHandle text = sent (addressee h.name text.header) (map message_line text.lines)
+written_kind c h ClientHandle text = FromClient h.number (map message_line text.lines)
+written_kind c h _ text = Change (resolve (attributes_of c h.target) text.lines)
+
+-- a record of the target, where it is alive
+abbrev pub on_target : Content → Open Seen → Kind → Option ℕ → List Move
+on_target c h kind writer = option_map_or (λ o. Happens (entry_of o.object kind writer) ∷ []) (object_numbered c h.target) []
+
+abbrev pub writing : Content → Open Seen → WriteText → List Move
+writing c h text = if is_empty text.lines then [] else on_target c h (written_kind c h h.kind text) (Some h.number)
+
+-- ---- Close and Detach
+
+abbrev pub parting : Content → Open Seen → HandleKind → List Move
+parting c h ServerHandle = on_target c h Deleted None
+parting c h ClientHandle = on_target c h (Closed h.number) None
+parting c h (ObjectHandle delta) = if h.critical && h.writes then on_target c h Dropped None else []
+parting c h _ = []
+
+-- a parked read ends with the handle, before anything that the close tells others
+abbrev pub closing : Content → Open Seen → List Move
+closing c h = Closes h.number ∷ (if is_some h.parked then Queues h.connection (ReadDone h.number (Err BadHandle)) ∷ [] else []) ++ parting c h h.kind
+
+-- one after the other, each where those before it took effect
+abbrev pub closings : Content → List (Open Seen) → List Move
+closings c [] = []
+closings c (h ∷ hs) = closing c h ++ closings (apply_all_seen (closing c h) c) hs
+
+-- ---- paths
+
+abbrev pub unlinking : Option Known → Option Directory → List Move
+unlinking (Some o) d = Happens (entry_of o.object Deleted None) ∷ []
+unlinking None (Some d) = RemovesDirectory d.number ∷ []
+unlinking None None = []
+
+-- the members' names, a directory's with a `/` behind it, in byte order of the names
+abbrev pub listing : Content → Path → List ℕ
+listing c path =
+    let objects = map {B = List ℕ × List ℕ} (λ o. (o.object.name, [])) (option_map_or (λ d. members c d.number) (directory_at c path) []) in
+    let directories = map {B = List ℕ × List ℕ} (λ d. (last_name d.path, codes "/")) (subdirectories c path) in
+    concat (map (λ e. e.0 ++ e.1 ++ (10 ∷ [])) (sorted_by name_cmp (λ e. e.0) (objects ++ directories)))
+
+-- ---- the event
+
+abbrev pub received : ℕ → Option Item → Outcome × List Move
+received conn None = (Empty, [])
+received conn (Some item) = (ItemOutcome item, Takes conn ∷ [])
+
+abbrev pub with_handle : Content → ℕ → (Open Seen → Outcome × List Move) → Outcome × List Move
+with_handle c number effect = option_map_or effect (handle_numbered c number) (Done, [])
+
+abbrev pub with_path : List ℕ → (Path → Outcome × List Move) → Outcome × List Move
+with_path text effect = option_map_or effect (path_text text) (Done, [])
+
+abbrev pub with_result : {X : Type 0} → Result X Refusal → (X → Outcome × List Move) → Outcome × List Move
+with_result (Ok x) effect = effect x
+with_result (Err e) effect = (Done, [])
+
+-- What a request that no check refuses answers and changes.
+unfoldable pub effect : Content → ℕ → Request → Outcome × List Move
+effect c conn Attach = (Done, Attaches conn ∷ [])
+effect c conn Detach = (Done, closings c (handles_of c conn) ++ Leaves conn ∷ [])
+effect c conn (OpenRequest mode text) = with_result (open_text text) (λ spec. (OpenedHandle c.next_handle, opening c conn mode spec (found_object c spec)))
+effect c conn (Read handle size) = with_handle c handle (λ h. read_effect h size (read_answer c h size))
+effect c conn (Write handle bytes) = with_handle c handle (λ h. with_result (write_text bytes) (λ text. (Wrote (length bytes), writing c h text)))
+effect c conn (Close handle) = with_handle c handle (λ h. (Done, closing c h))
+effect c conn (Unlink path) = with_path path (λ names. (Done, unlinking (object_at c names) (directory_at c names)))
+effect c conn (Mkdir path) = with_path path (λ names. (Done, MakesDirectory names ∷ []))
+effect c conn (ListRequest path) = with_path path (λ names. (Data (listing c names), []))
+effect c conn (Notify handle action code value) =
+    with_handle c handle (λ h. (Input (news h), Arms h.number (if arms action (news h) then Some (code, value) else None) ∷ []))
+effect c conn Receive = received conn (first_of (queue_of c conn))
+
+-- ---- what follows
+
+abbrev pub fired : Open Seen → List Move
+fired h = option_map_or (λ pulse. Arms h.number None ∷ Queues h.connection (Pulse pulse.0 pulse.1) ∷ []) h.armed []
+
+abbrev pub ended : Open Seen → Result (List ℕ) Refusal → List Move
+ended h result = Parks h.number None ∷ Queues h.connection (ReadDone h.number result) ∷ []
+
+abbrev pub late_reply : Open Seen → Answer → List Move
+late_reply h (Everything text) = CatchesUp h.number ∷ ended h (Ok text)
+late_reply h (Blocks count text) = Passes h.number count ∷ ended h (Ok text)
+late_reply h (Needs need) = ended h (Err (TooSmall need))
+late_reply h _ = []
+
+-- the parked read is answered by what stands after the event
+abbrev pub late_replies : Content → Open Seen → List Move
+late_replies c h = option_map_or (λ size. late_reply h (read_answer c h size)) h.parked []
+
+abbrev pub had_news : Content → Open Seen → Bool
+had_news before h = option_map_or news (handle_numbered before h.number) false
+
+-- a handle's pulse comes before its late reply
+abbrev pub settling_handle : Content → Content → Open Seen → List Move
+settling_handle before c h = if not (had_news before h) && news h then fired h ++ late_replies c h else []
+
+-- each handle, in rising number, that had no news before and has some now
+unfoldable pub settling : Content → Content → List Move
+settling before c = flat_map (settling_handle before c) c.handles
+
+-- ---- the plan
+
+-- at most 2^64 - 1 records, objects and directories ever exist
+abbrev pub passes_last_number : Content → Bool
+passes_last_number c = nat_lt (2 ^ 64 - 1) c.records || nat_lt (2 ^ 64 - 1) c.next_object || nat_lt (2 ^ 64 - 1) c.next_directory
+
+-- all checks of an event, the one on these numbers last
+abbrev pub all_checks_of : Content → Event → List Check
+all_checks_of c e = checks c e.conn e.request ++ Refuse (passes_last_number (apply_all_seen (effect c e.conn e.request).1 c)) TableFull ∷ []
+
+abbrev pub decided : Content → Outcome × List Move → Option Refusal → Reply × List Move
+decided c done (Some refusal) = (Err refusal, [])
+decided c done None = (Ok done.0, done.1 ++ settling c (apply_all_seen done.1 c))
+
+-- An event: the first check that fails is the reply, and nothing changes. Else it takes effect, and what follows from it does.
+unfoldable pub plan : Content → Event → Reply × List Move
+plan c e = decided c (effect c e.conn e.request) (first_refusal (all_checks_of c e))
+
+unfoldable pub step_seen : Content → Event → Reply × Content
+step_seen c e = ((plan c e).0, apply_all_seen (plan c e).1 c)
+
+-- whether want of memory may be this event's answer
+abbrev pub may_lack_memory : Content → Event → Bool
+may_lack_memory c e = reaches_memory (checks c e.conn e.request)
