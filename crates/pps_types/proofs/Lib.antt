@@ -10,3 +10,4 @@ pub mod PlainWords
 pub mod BasicLaws
 pub mod FrameEvents
 pub mod FrameStreams
+pub mod ImageStarts

@@ -13,6 +13,7 @@ use Rattle.pps_types.specs.Plan.{all_checks_of, effect, settling, apply_all_seen
 use Rattle.pps_types.specs.Machine.{Machine, IsMachine, start, shown, shown_handle, step, apply_all}
 use Rattle.pps_types.specs.Runs.{Answered, after, after_seen}
 use Rattle.pps_types.specs.Stands.{StepsSeen, Steps, RunsSeen, Runs}
+use Rattle.pps_types.specs.Image.{Image, started, started_seen}
 use Rattle.pps_types.specs.Owed.{owed, is_past_limit, has_news, answer_of, owed_by, owed_by_seen, kept, kept_seen}
 
 -- ---- the machine and what stands of it
@@ -31,6 +32,11 @@ pub record StepsAreShown : Type 0 where
 pub record StepsStand : Type 0 where
   pub event : (old : Content) (e : Event) (reply : Reply) (new : Content) → StepsSeen old e reply new → Steps old e reply new
   pub events : (old : Content) (answered : List Answered) (new : Content) → RunsSeen old answered new → Runs old answered new
+
+-- what an image starts is a well formed machine, and what stands of it is what the image's entries restore one after the other
+pub record ImagesStart : Type 0 where
+  pub made : (i : Image) → IsMachine (started i)
+  pub stands : (i : Image) → shown (started i) ≡ started_seen i
 
 -- ---- the plain words
 

@@ -20,3 +20,6 @@ pub mod Owed
 pub mod Laws
 pub mod Frame
 pub mod FrameLaws
+pub mod Image
+pub mod Merge
+pub mod Privacy

@@ -1,5 +1,5 @@
 //! The laws of the service's definitions. Each function does nothing: its contract is the law.
-ghost use Rattle.pps_types.specs.Laws.{MachinesStay, StepsAreShown, StepsStand, HandlesAreTold, AnswersAreTold, KeptIsTold, StepsAreDecided, RefusalsKeep, DebtsGrow, BlocksFit};
+ghost use Rattle.pps_types.specs.Laws.{MachinesStay, StepsAreShown, StepsStand, ImagesStart, HandlesAreTold, AnswersAreTold, KeptIsTold, StepsAreDecided, RefusalsKeep, DebtsGrow, BlocksFit};
 
 /// Does nothing. Its contract is the law that the start is a well formed machine, and that each event keeps a
 /// machine well formed.
@@ -19,6 +19,13 @@ pub fn steps_are_shown()
 pub fn steps_stand()
     ensures { StepsStand }
 {}
+
+/// Does nothing. Its contract is the law that what an image starts is a well formed machine, and that what stands of
+/// it is what the image's entries restore, one after the other.
+pub fn images_start()
+    ensures { ImagesStart }
+{
+}
 
 /// Does nothing. Its contract is the law that what stands of a handle says exactly what the plain words say, straight
 /// from the history and the handle's cursor: whether it has news, whether it is past its limit, and what it is owed.

@@ -20,7 +20,7 @@ pub use device::Device;
 pub use event::{Action, Event, Mode, Request};
 pub use found::Found;
 pub use laws::{
-    answers_are_told, blocks_fit, debts_grow, handles_are_told, kept_is_told, machines_stay,
+    answers_are_told, blocks_fit, debts_grow, handles_are_told, images_start, kept_is_told, machines_stay,
     refusals_keep, steps_are_decided, steps_are_shown, steps_stand,
 };
 pub use laws_of_frames::{
