@@ -5,7 +5,7 @@ use Rattle.pps_types.specs.declared.record.Kind.TheVariants.{Change}
 use Rattle.pps_types.specs.Content.{Content, Object}
 use Rattle.pps_types.specs.Plan.{Happens, entry_of}
 use Rattle.pps_types.specs.Machine.{Machine, IsMachine, AreLawful, start, shown}
-use Rattle.pps_types.specs.Image.{Image, Saved, SavedDirectory, SavedObject, SavedLine, as_line, restored_object, restoring, restored, started, restored_seen, started_seen}
+use Rattle.pps_types.specs.Image.{Saved, SavedDirectory, SavedObject, SavedLine, as_line, restored_object, restoring, restored, restored_seen}
 use Rattle.pps_types.specs.Laws.{ImagesStart}
 use Rattle.pps_types.proofs.Law.{apply_all-shown, start-made}
 

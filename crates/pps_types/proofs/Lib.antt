@@ -11,3 +11,5 @@ pub mod BasicLaws
 pub mod FrameEvents
 pub mod FrameStreams
 pub mod ImageStarts
+pub mod KnownBytes
+pub mod TextLaws

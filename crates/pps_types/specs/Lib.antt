@@ -23,3 +23,4 @@ pub mod FrameLaws
 pub mod Image
 pub mod Merge
 pub mod Privacy
+pub mod TextLaws

@@ -1,4 +1,4 @@
-//! Bytes as a contract sees them: a list.
+//! Bytes that one value owns. A contract sees them as a list.
 ghost use Rattle.std.specs.Prelude.{◌≡◌, ◌↔◌, IfOk, IsTrue, [], length, nat_eq};
 ghost use Rattle.std.proofs.Common.{rules};
 ghost use Rattle.std.specs.Cmp.Rules.{comparing};
@@ -6,7 +6,6 @@ ghost use lib.Pointwise.{pointwise};
 
 use std::alloc::{AllocError, Global};
 use std::marker::Model;
-use std::sync::Arc;
 
 /// Bytes that one value owns: a name, a path, a text.
 #[derive(Debug, Drop)]
@@ -35,7 +34,7 @@ impl Bytes {
         ensures { IfOk result (λ bytes. bytes ≡ content.now) }
     {
         let content = content.to_vec(alloc)?;
-        Ok(Bytes { content })
+        Ok(Bytes::new(content))
     }
 
     /// The vector that holds them. It takes no memory.
@@ -57,7 +56,7 @@ impl Bytes {
         ensures { IfOk result (λ bytes. bytes ≡ self.now) }
     {
         let content = self.content.clone()?;
-        Ok(Bytes { content })
+        Ok(Bytes::new(content))
     }
 
     pub fn len(&self) -> usize
@@ -79,75 +78,10 @@ impl PartialEq for Bytes {
     ghost laws = { Prim.search (comparing, rules) };
 
     fn eq(&self, other: &Bytes) -> bool {
-        self.content.as_slice() == other.content.as_slice()
+        self.as_slice() == other.as_slice()
     }
 }
 
 impl Eq for Bytes {
-    ghost laws = { Prim.search (comparing, rules) };
-}
-
-/// Bytes that several values share.
-#[derive(Debug, Drop)]
-pub struct SharedBytes {
-    content: Arc<Vec<u8>>,
-}
-
-impl Model for SharedBytes {
-    ghost use Rattle.std.specs.Prelude.{List, ℕ};
-    ghost use Rattle.std.specs.Arc.{arc_value};
-
-    ghost Value = { List ℕ };
-
-    ghost view = { λ a. (arc_value a.content).items };
-}
-
-impl SharedBytes {
-    /// These bytes, so that they can be shared.
-    pub fn new(alloc: Global, content: Vec<u8>) -> Result<SharedBytes, AllocError>
-        ensures { IfOk result (λ shared. shared ≡ content.items) }
-    {
-        let content = Arc::new(alloc, content)?;
-        Ok(SharedBytes { content })
-    }
-
-    pub fn as_slice(&self) -> &[u8]
-        ensures { result.now ≡ self.now }
-    {
-        self.content.as_slice()
-    }
-
-    pub fn len(&self) -> usize
-        ensures { result ≡ length self.now }
-    {
-        self.content.len()
-    }
-
-    pub fn is_empty(&self) -> bool
-        ensures { IsTrue result ↔ (self.now ≡ []) }
-    {
-        self.content.is_empty()
-    }
-
-    /// One more share of the same bytes. A share may be refused memory.
-    pub fn share(&self) -> Result<SharedBytes, AllocError>
-        ensures { IfOk result (λ shared. shared ≡ self.now) }
-    {
-        let content = Arc::try_clone(&self.content)?;
-        Ok(SharedBytes { content })
-    }
-}
-
-impl PartialEq for SharedBytes {
-    ghost eq = { pointwise nat_eq };
-
-    ghost laws = { Prim.search (comparing, rules) };
-
-    fn eq(&self, other: &SharedBytes) -> bool {
-        self.content.as_slice() == other.content.as_slice()
-    }
-}
-
-impl Eq for SharedBytes {
     ghost laws = { Prim.search (comparing, rules) };
 }

@@ -24,8 +24,7 @@ pub fn steps_stand()
 /// it is what the image's entries restore, one after the other.
 pub fn images_start()
     ensures { ImagesStart }
-{
-}
+{}
 
 /// Does nothing. Its contract is the law that what stands of a handle says exactly what the plain words say, straight
 /// from the history and the handle's cursor: whether it has news, whether it is past its limit, and what it is owed.

@@ -8,28 +8,32 @@ mod event;
 mod found;
 mod laws;
 mod laws_of_frames;
+mod laws_of_texts;
 mod line;
 mod numbers;
 mod outcome;
 mod record;
 mod refusal;
+mod shared;
 mod shown;
 
-pub use bytes::{Bytes, SharedBytes};
+pub use bytes::Bytes;
 pub use device::Device;
 pub use event::{Action, Event, Mode, Request};
 pub use found::Found;
 pub use laws::{
-    answers_are_told, blocks_fit, debts_grow, handles_are_told, images_start, kept_is_told, machines_stay,
-    refusals_keep, steps_are_decided, steps_are_shown, steps_stand,
+    answers_are_told, blocks_fit, debts_grow, handles_are_told, images_start, kept_is_told,
+    machines_stay, refusals_keep, steps_are_decided, steps_are_shown, steps_stand,
 };
 pub use laws_of_frames::{
     conn_is_read, event_is_read_again, no_frame_begins_another, one_frame_is_of_one_event,
     read_bytes_are_the_body, reading_is_the_only_one, stream_has_one_reading, stream_is_read,
 };
+pub use laws_of_texts::{printed_lines_are_read, printings_are_prefix_free, printings_are_unique};
 pub use line::{Line, Lines, Mark, WriteLine};
 pub use numbers::{Conn, DirId, Handle, ObjId};
 pub use outcome::{Item, Outcome};
 pub use record::{Kind, Record};
 pub use refusal::Refusal;
+pub use shared::SharedBytes;
 pub use shown::Shown;

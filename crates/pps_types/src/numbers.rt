@@ -28,7 +28,8 @@ impl Conn {
         ensures same { result ≡ self }
         ensures range { self < 2 ^ 16 }
     {
-        self.0
+        let Conn(number) = self;
+        number
     }
 }
 
@@ -57,7 +58,8 @@ impl Handle {
         ensures same { result ≡ self }
         ensures range { self < 2 ^ 32 }
     {
-        self.0
+        let Handle(number) = self;
+        number
     }
 }
 
@@ -86,7 +88,8 @@ impl ObjId {
         ensures same { result ≡ self }
         ensures range { self < 2 ^ 64 }
     {
-        self.0
+        let ObjId(number) = self;
+        number
     }
 }
 
@@ -115,6 +118,7 @@ impl DirId {
         ensures same { result ≡ self }
         ensures range { self < 2 ^ 64 }
     {
-        self.0
+        let DirId(number) = self;
+        number
     }
 }

@@ -1,9 +1,9 @@
 //! What the service answers, and what it queues.
 ghost use Rattle.std.specs.Prelude.{◌≡◌, IfOk, OnErr, true};
 
-use crate::bytes::SharedBytes;
 use crate::numbers::Handle;
 use crate::refusal::Refusal;
+use crate::shared::SharedBytes;
 use std::alloc::AllocError;
 
 /// What waits in a connection's queue until it is received.

@@ -1,0 +1,2 @@
+pub mod SavedImage
+pub mod WrongImages
