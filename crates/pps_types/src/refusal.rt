@@ -99,8 +99,8 @@ impl Refusal {
     }
 
     /// Its name in answers.
-    pub fn name(self) -> &'static str
-        ensures { result.now ≡ name_of self }
+    pub fn name(&self) -> &'static str
+        ensures { result.now ≡ name_of self.now }
     {
         match self {
             Refusal::OutOfMemory => "OutOfMemory",
