@@ -1,0 +1,4 @@
+pub mod KeptAnswers
+pub mod Limits
+pub mod Scripts
+pub mod ShownValues

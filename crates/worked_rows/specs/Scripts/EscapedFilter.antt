@@ -1,0 +1,36 @@
+-- A `+` behind a backslash belongs to the value that a filter asks for.
+-- Made by tools/script_theorems from cases/rows/escaped_filter.script.
+use Rattle.std.specs.Prelude.{◌≡◌, List, [], ◌∷◌, true, false, Ok, codes}
+use Rattle.pps_types.specs.declared.event.Event.{Event}
+use Rattle.pps_types.specs.declared.event.Request.TheVariants.{Attach, Open as OpenRequest, Read, Write}
+use Rattle.pps_types.specs.declared.outcome.Outcome.TheVariants.{Done, Opened as OpenedHandle, Data, Wrote}
+use Rattle.pps_types.specs.Outcome.{Reply}
+use Rattle.pps_types.specs.Machine.{start}
+use Rattle.pps_types.specs.Runs.{replies}
+use Rattle.worked_rows.specs.Scripts.Words.{◌asks◌}
+
+abbrev pub events : List Event
+events =
+    1 asks Attach
+    ∷ 2 asks Attach
+    ∷ 1 asks OpenRequest (record { r = true; w = true; c = true; t = false }) (codes "/gps")
+    ∷ 2 asks OpenRequest (record { r = true; w = false; c = false; t = false }) (codes "/gps?f=a=x\\+y")
+    ∷ 2 asks Read 2 99
+    ∷ 1 asks Write 1 (codes "a::x+y\nb::1\n")
+    ∷ 2 asks Read 2 99
+    ∷ []
+
+abbrev pub answers : List Reply
+answers =
+    Ok Done
+    ∷ Ok Done
+    ∷ Ok (OpenedHandle 1)
+    ∷ Ok (OpenedHandle 2)
+    ∷ Ok (Data (codes "@gps\n"))
+    ∷ Ok (Wrote 12)
+    ∷ Ok (Data (codes "@gps\na::x+y\n"))
+    ∷ []
+
+-- the machine answers the events so
+abbrev pub EscapedFilter : Type 0
+EscapedFilter = replies (start 1 256) events ≡ answers

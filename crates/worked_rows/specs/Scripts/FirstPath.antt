@@ -1,0 +1,37 @@
+-- One publisher creates an object and writes it, one subscriber opens it in full mode and reads it; without news a
+-- second read gives nothing.
+-- Made by tools/script_theorems from cases/rows/first_path.script.
+use Rattle.std.specs.Prelude.{◌≡◌, List, [], ◌∷◌, true, false, Ok, codes}
+use Rattle.pps_types.specs.declared.event.Event.{Event}
+use Rattle.pps_types.specs.declared.event.Request.TheVariants.{Attach, Open as OpenRequest, Read, Write}
+use Rattle.pps_types.specs.declared.outcome.Outcome.TheVariants.{Done, Opened as OpenedHandle, Data, Wrote}
+use Rattle.pps_types.specs.Outcome.{Reply}
+use Rattle.pps_types.specs.Machine.{start}
+use Rattle.pps_types.specs.Runs.{replies}
+use Rattle.worked_rows.specs.Scripts.Words.{◌asks◌}
+
+abbrev pub events : List Event
+events =
+    1 asks Attach
+    ∷ 1 asks OpenRequest (record { r = true; w = true; c = true; t = false }) (codes "/gps")
+    ∷ 1 asks Write 1 (codes "speed:n:65\n")
+    ∷ 2 asks Attach
+    ∷ 2 asks OpenRequest (record { r = true; w = false; c = false; t = false }) (codes "/gps")
+    ∷ 2 asks Read 2 4096
+    ∷ 2 asks Read 2 4096
+    ∷ []
+
+abbrev pub answers : List Reply
+answers =
+    Ok Done
+    ∷ Ok (OpenedHandle 1)
+    ∷ Ok (Wrote 11)
+    ∷ Ok Done
+    ∷ Ok (OpenedHandle 2)
+    ∷ Ok (Data (codes "@gps\nspeed:n:65\n"))
+    ∷ Ok (Data [])
+    ∷ []
+
+-- the machine answers the events so
+abbrev pub FirstPath : Type 0
+FirstPath = replies (start 1 256) events ≡ answers
