@@ -8,7 +8,9 @@ use Rattle.pps_types.specs.declared.record.Kind.{Kind}
 use Rattle.pps_types.specs.declared.record.Kind.TheVariants.{Created, Change, Truncated, Dropped, Deleted, Opened, Closed, FromClient, ToClient, ToAll}
 use Rattle.pps_types.specs.Filter.{Part}
 use Rattle.pps_types.specs.History.{Entry}
-use Rattle.pps_types.specs.Reading.{is_delta_style, HandleKind, ObjectHandle, DirectoryHandle, NamesHandle, ServerHandle, ClientHandle, Open, Style, Full, Delta, Queue, style, stand, unread, visible, keeps, concerns, is_directory_kind, is_object_kind, is_writer, is_chained, from_first, seen_with, rest_of, shown as block_of}
+use Rattle.pps_types.specs.declared.handle_kind.HandleKind.{HandleKind}
+use Rattle.pps_types.specs.declared.handle_kind.HandleKind.TheVariants.{Object as ObjectHandle, Directory as DirectoryHandle, Names as NamesHandle, Server as ServerHandle, Client as ClientHandle}
+use Rattle.pps_types.specs.Reading.{is_delta_style, Open, Style, Full, Delta, Queue, style, stand, unread, visible, keeps, concerns, is_directory_kind, is_object_kind, is_writer, is_chained, from_first, seen_with, rest_of, shown as block_of}
 use Rattle.pps_types.specs.Machine.{Machine, shown, shown_handle}
 use Rattle.pps_types.specs.Owed.{owed, is_past_limit, in_chain, first_place, first_owed, older, same_flag, is_of, oldest, count_from, kept_of, rest_seen, longest}
 use Rattle.pps_types.proofs.Offers.{visible-keeps}

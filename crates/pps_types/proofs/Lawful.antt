@@ -17,7 +17,9 @@ use Rattle.pps_types.specs.OpenText.{OpenSpec, open_text, path_text}
 use Rattle.pps_types.specs.Text.{WriteText, write_text}
 use Rattle.pps_types.specs.Bytes.{is_empty}
 use Rattle.pps_types.specs.Checks.{Addressee, Everyone, OneClient, Nobody, addressee, first_refusal}
-use Rattle.pps_types.specs.Reading.{HandleKind, ObjectHandle, DirectoryHandle, NamesHandle, ServerHandle, ClientHandle, Open, Seen, Answer, Everything, Blocks, Needs, TargetGone, Waits, Nothing}
+use Rattle.pps_types.specs.declared.handle_kind.HandleKind.{HandleKind}
+use Rattle.pps_types.specs.declared.handle_kind.HandleKind.TheVariants.{Object as ObjectHandle, Directory as DirectoryHandle, Names as NamesHandle, Server as ServerHandle, Client as ClientHandle}
+use Rattle.pps_types.specs.Reading.{Open, Seen, Answer, Everything, Blocks, Needs, TargetGone, Waits, Nothing}
 use Rattle.pps_types.specs.Outbox.{first_of}
 use Rattle.pps_types.specs.Content.{Content, Known, Directory, object_numbered, object_at, directory_at, handle_numbered, handles_of, queue_of, news, read_answer}
 use Rattle.pps_types.specs.Plan.{Move, Creates, Happens, apply_all_seen, entry_of, effect, plan, decided, all_checks_of, settling, settling_handle, fired, late_replies, late_reply, opening, preparing, new_object, writing, written_kind, sent, on_target, closing, closings, parting, unlinking, received, read_effect, with_result, had_news, found_object}

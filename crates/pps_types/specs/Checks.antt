@@ -19,7 +19,9 @@ use Rattle.pps_types.specs.Text.{WriteText, write_text}
 use Rattle.pps_types.specs.Names.{Path, parent, is_object, is_directory, place, find_at, new_refusal}
 use Rattle.pps_types.specs.OpenText.{OpenSpec, open_text, path_text}
 use Rattle.pps_types.specs.History.{Attribute, apply_line, resolve, text_length, Entry}
-use Rattle.pps_types.specs.Reading.{Seen, owed_in, HandleKind, ObjectHandle, ServerHandle, ClientHandle, Open, Answer, Needs, TargetGone, Waits}
+use Rattle.pps_types.specs.declared.handle_kind.HandleKind.{HandleKind}
+use Rattle.pps_types.specs.declared.handle_kind.HandleKind.TheVariants.{Object as ObjectHandle, Server as ServerHandle, Client as ClientHandle}
+use Rattle.pps_types.specs.Reading.{Seen, owed_in, Open, Answer, Needs, TargetGone, Waits}
 use Rattle.pps_types.specs.Outbox.{arm_refusal, park_refusal, arms, first_of}
 use Rattle.pps_types.specs.Content.{Content, object_numbered, attributes_of, at, parent_number, members, subdirectories, handle_numbered, news, has_object_handle, has_directory_handle, target_is_dead, read_answer, is_attached, queue_of, outbox_of}
 

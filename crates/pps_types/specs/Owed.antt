@@ -8,7 +8,8 @@ use Rattle.pps_types.specs.declared.found.Found.TheVariants.{Object as FoundObje
 use Rattle.pps_types.specs.Bytes.{is_empty}
 use Rattle.pps_types.specs.Names.{Path, name_cmp, sorted_by}
 use Rattle.pps_types.specs.History.{Entry, line_of}
-use Rattle.pps_types.specs.Reading.{ObjectHandle, NamesHandle, Open, Seen, Owed, style, is_full_style, is_delta_style, is_directory_kind, visible, is_chained, block, Member, everything_of, Answer, whole_answer, owed_answer}
+use Rattle.pps_types.specs.declared.handle_kind.HandleKind.TheVariants.{Object as ObjectHandle, Names as NamesHandle}
+use Rattle.pps_types.specs.Reading.{Open, Seen, Owed, style, is_full_style, is_delta_style, is_directory_kind, visible, is_chained, block, Member, everything_of, Answer, whole_answer, owed_answer}
 use Rattle.pps_types.specs.Content.{Known, Content, at, member, handle_numbered}
 use Rattle.pps_types.specs.Machine.{Machine, known, shown}
 

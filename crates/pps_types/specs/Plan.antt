@@ -22,7 +22,9 @@ use Rattle.pps_types.specs.Text.{WriteText, write_text}
 use Rattle.pps_types.specs.Names.{Path, last_name, name_cmp, sorted_by}
 use Rattle.pps_types.specs.OpenText.{OpenSpec, open_text, path_text}
 use Rattle.pps_types.specs.History.{Entry, after_kind, resolve, message_line}
-use Rattle.pps_types.specs.Reading.{HandleKind, ObjectHandle, DirectoryHandle, NamesHandle, ServerHandle, ClientHandle, Open, Seen, News, Unread, Over, Owed, reseen, style, Style, Queue, pushed, past, from_first, unread, seen_of, visible, keeps, Answer, Everything, Blocks, Needs, Waits}
+use Rattle.pps_types.specs.declared.handle_kind.HandleKind.{HandleKind}
+use Rattle.pps_types.specs.declared.handle_kind.HandleKind.TheVariants.{Object as ObjectHandle, Directory as DirectoryHandle, Names as NamesHandle, Server as ServerHandle, Client as ClientHandle}
+use Rattle.pps_types.specs.Reading.{Open, Seen, News, Unread, Over, Owed, reseen, style, Style, Queue, pushed, past, from_first, unread, seen_of, visible, keeps, Answer, Everything, Blocks, Needs, Waits}
 use Rattle.pps_types.specs.Outbox.{arms, first_of, behind_first, put_rising}
 use Rattle.pps_types.specs.Content.{Object, Directory, Known, Connection, Content, attributes_of, object_numbered, directory_at, object_at, parent_number, members, subdirectories, handle_numbered, handles_of, news, read_answer, queue_of}
 use Rattle.pps_types.specs.Checks.{first_refusal, reaches_memory, Check, Refuse, checks, addressee, Addressee, OneClient}

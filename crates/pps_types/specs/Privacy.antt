@@ -9,7 +9,8 @@ use Rattle.pps_types.specs.declared.event.Request.{Request}
 use Rattle.pps_types.specs.declared.event.Request.TheVariants.{Read, Write, Notify, Receive}
 use Rattle.pps_types.specs.Outcome.{Reply, is_marked}
 use Rattle.pps_types.specs.Text.{WriteText, write_text}
-use Rattle.pps_types.specs.Reading.{HandleKind, Open, Seen}
+use Rattle.pps_types.specs.declared.handle_kind.HandleKind.{HandleKind}
+use Rattle.pps_types.specs.Reading.{Open, Seen}
 use Rattle.pps_types.specs.Content.{Content, handle_numbered}
 use Rattle.pps_types.specs.Checks.{Addressee, OneClient, addressee, meant, is_client, is_server, first_refusal, checks}
 use Rattle.pps_types.specs.Plan.{apply_all_seen, effect}

@@ -5,6 +5,8 @@ use Rattle.std.specs.Prelude.{ℕ, ◌+◌, ◌-◌, List, [], ◌∷◌, ◌++�
 use Rattle.std.specs.Option.{option_map_or}
 use Rattle.std.specs.List.{concat, list_any}
 use Rattle.std.specs.Fmt.{decimal}
+use Rattle.pps_types.specs.declared.handle_kind.HandleKind.{HandleKind}
+use Rattle.pps_types.specs.declared.handle_kind.HandleKind.TheVariants.{Object as ObjectHandle, Directory as DirectoryHandle, Names as NamesHandle, Server as ServerHandle, Client as ClientHandle}
 use Rattle.pps_types.specs.declared.line.Line.{Line}
 use Rattle.pps_types.specs.declared.record.Kind.{Kind}
 use Rattle.pps_types.specs.declared.record.Kind.TheVariants.{Created, Change, Truncated, Dropped, Deleted, Opened, Closed, FromClient, ToClient, ToAll}
@@ -15,14 +17,6 @@ use Rattle.pps_types.specs.Filter.{Part, matches}
 use Rattle.pps_types.specs.History.{Entry}
 
 -- ---- handles
-
--- Handles on objects and on directories are in delta mode, or in full mode.
-pub data HandleKind : Type 0 where
-  ObjectHandle : Bool → HandleKind
-  DirectoryHandle : Bool → HandleKind
-  NamesHandle : HandleKind
-  ServerHandle : HandleKind
-  ClientHandle : HandleKind
 
 -- What a handle has of the records: in full mode whether there is news; else nothing yet, more than its limit,
 -- or the records of its target from the first that it is owed on.

@@ -6,6 +6,7 @@ mod bytes;
 mod device;
 mod event;
 mod found;
+mod handle_kind;
 mod laws;
 mod laws_of_frames;
 mod laws_of_texts;
@@ -21,6 +22,7 @@ pub use bytes::Bytes;
 pub use device::Device;
 pub use event::{Action, Event, Mode, Request};
 pub use found::Found;
+pub use handle_kind::HandleKind;
 pub use laws::{
     answers_are_told, blocks_fit, debts_grow, handles_are_told, images_start, kept_is_told,
     machines_stay, refusals_keep, steps_are_decided, steps_are_shown, steps_stand,

@@ -10,7 +10,8 @@ use Rattle.pps_types.specs.declared.outcome.Item.TheVariants.{Pulse}
 use Rattle.pps_types.specs.declared.outcome.Outcome.TheVariants.{Done, Opened as OpenedHandle, Data, Wrote, Parked, Input}
 use Rattle.pps_types.specs.declared.refusal.Refusal.TheVariants.{OutboxFull, TableFull, BadText}
 use Rattle.pps_types.specs.Outcome.{Reply}
-use Rattle.pps_types.specs.Reading.{Open, ObjectHandle}
+use Rattle.pps_types.specs.declared.handle_kind.HandleKind.TheVariants.{Object as ObjectHandle}
+use Rattle.pps_types.specs.Reading.{Open}
 use Rattle.pps_types.specs.Content.{Object, Content, queue_of}
 use Rattle.pps_types.specs.Plan.{creation, step_seen}
 use Rattle.pps_types.specs.Machine.{Machine, start, shown}
