@@ -8,7 +8,7 @@ use Rattle.pps_types.specs.Reading.{Open, Seen, News, Unread, Over, Owed, Style,
 use Rattle.pps_types.specs.Plan.{Move, Attaches, Leaves, Creates, Happens, Opens, Closes, CatchesUp, Passes, Parks, Arms, Queues, Takes, MakesDirectory, RemovesDirectory, on_numbered, without_number, creation, offer, left, caught_up, apply_seen, apply_all_seen, plan, step_seen}
 use Rattle.pps_types.specs.Runs.{after, after_seen}
 use Rattle.pps_types.specs.Machine.{start, Machine, IsMachine, IsWithin, IsLawful, AreLawful, next_after, shown, shown_handle, apply, apply_all, passed, passed_with, first_cursor, step}
-use Rattle.pps_types.proofs.Lists.{all-push, all-weaken, all-filter, behind-le}
+use Rattle.pps_types.proofs.Lists.{all-push, all-weaken, all-on_first, all-without_first, map-on_first, map-without_first, behind-le}
 use Rattle.pps_types.proofs.Offers.{shown_handle-push, shown_handle-caught_up, shown_handle-passed, shown_handle-first}
 use Rattle.pps_types.proofs.Objects.{objects-push, objects-made}
 use Rattle.pps_types.proofs.Lawful.{plan-lawful}
@@ -20,18 +20,10 @@ handles-push H e [] all = refl
 handles-push H e (h ∷ hs) all = λ i. shown_handle-push H e h all.0 i ∷ handles-push H e hs all.1 i
 
 handles-numbered : (H : List Entry) (n : ℕ) (f : Open (Option ℕ) → Open (Option ℕ)) (g : Open Seen → Open Seen) → ((h : Open (Option ℕ)) → shown_handle H (f h) ≡ g (shown_handle H h)) → (hs : List (Open (Option ℕ))) → map (shown_handle H) (on_numbered n f hs) ≡ on_numbered n g (map (shown_handle H) hs)
-handles-numbered H n f g same [] = refl
-handles-numbered H n f g same (h ∷ hs) = λ i. one (eqb h.number n) i ∷ handles-numbered H n f g same hs i
-  where
-    one : (b : Bool) → shown_handle H (cond b (f h) h) ≡ cond b (g (shown_handle H h)) (shown_handle H h)
-    one true = same h
-    one false = refl
+handles-numbered H n f g same hs = map-on_first (shown_handle H) (λ h. eqb h.number n) (λ h. eqb h.number n) f g (λ h. refl) same hs
 
 handles-without : (H : List Entry) (n : ℕ) (hs : List (Open (Option ℕ))) → map (shown_handle H) (without_number n hs) ≡ without_number n (map (shown_handle H) hs)
-handles-without H n [] = refl
-handles-without H n (h ∷ hs) =
-    elim (not (eqb h.number n)) as (λ b. map (shown_handle H) (cond b (h ∷ without_number n hs) (without_number n hs)) ≡ cond b (shown_handle H h ∷ without_number n (map (shown_handle H) hs)) (without_number n (map (shown_handle H) hs)))
-    [ true ↦ ap (λ rest. shown_handle H h ∷ rest) (handles-without H n hs) | false ↦ handles-without H n hs ]
+handles-without H n hs = map-without_first (shown_handle H) (λ h. eqb h.number n) (λ h. eqb h.number n) (λ h. refl) hs
 
 length-push : {X : Type 0} (xs : List X) (x : X) → length (xs ++ x ∷ []) ≡ length xs + 1
 length-push xs x = omega (arith, length-append xs (x ∷ []))
@@ -75,12 +67,7 @@ all-within : (a b : ℕ) → a ≤ b → (hs : List (Open (Option ℕ))) → All
 all-within a b le hs all = all-weaken {P = λ h. IsWithin a h.seen} {Q = λ h. IsWithin b h.seen} (λ h w. within-more a b h.seen le w) hs all
 
 all-numbered : (n end : ℕ) (f : Open (Option ℕ) → Open (Option ℕ)) → ((h : Open (Option ℕ)) → IsWithin end h.seen → IsWithin end (f h).seen) → (hs : List (Open (Option ℕ))) → AllByRecursion (λ h. IsWithin end h.seen) hs → AllByRecursion (λ h. IsWithin end h.seen) (on_numbered n f hs)
-all-numbered n end f keeps [] all = tt
-all-numbered n end f keeps (h ∷ hs) all = (one (eqb h.number n), all-numbered n end f keeps hs all.1)
-  where
-    one : (b : Bool) → IsWithin end (cond b (f h) h).seen
-    one true = keeps h all.0
-    one false = all.0
+all-numbered n end f keeps hs all = all-on_first (λ h. IsWithin end h.seen) (λ h. eqb h.number n) f keeps hs all
 
 passed-within : (h : Open (Option ℕ)) (H : List Entry) (n : ℕ) (s : Seen) (cursor : Option ℕ) → IsWithin (length H) cursor → IsWithin (length H) (passed_with h H n s cursor)
 passed-within h H n (News b) cursor within = within
@@ -103,7 +90,7 @@ apply-made (Creates o) m made lawful = record {
 }
 apply-made (Happens e) m made lawful = record { numbered = made.numbered; within = all-within (length m.history) (length (m.history ++ e ∷ [])) (omega (arith, length-push m.history e)) m.handles made.within }
 apply-made (Opens h) m made lawful = record { numbered = made.numbered; within = all-push (λ h. IsWithin (length m.history) h.seen) m.handles (reseen (λ h. first_cursor (style h.kind) (length m.history)) h) made.within (first-within (style h.kind) (length m.history)) }
-apply-made (Closes number) m made lawful = record { numbered = made.numbered; within = all-filter (λ h. IsWithin (length m.history) h.seen) (λ h. not (eqb h.number number)) m.handles made.within }
+apply-made (Closes number) m made lawful = record { numbered = made.numbered; within = all-without_first (λ h. IsWithin (length m.history) h.seen) (λ h. eqb h.number number) m.handles made.within }
 apply-made (CatchesUp number) m made lawful = record { numbered = made.numbered; within = all-numbered number (length m.history) (reseen (λ h. Some (length m.history))) (λ h w. omega arith) m.handles made.within }
 apply-made (Passes number count) m made lawful = record { numbered = made.numbered; within = all-numbered number (length m.history) (reseen (λ h. passed h m.history count h.seen)) (λ h w. passed-within h m.history count (seen_with h m.history h.seen) h.seen w) m.handles made.within }
 apply-made (Parks number size) m made lawful = record { numbered = made.numbered; within = all-numbered number (length m.history) (λ h. record h { parked = size }) (λ h w. w) m.handles made.within }

@@ -11,7 +11,7 @@ use Rattle.pps_types.specs.Reading.{Open, Seen, Owed, reseen, Style, Queue, styl
 use Rattle.pps_types.specs.Outbox.{behind_first}
 use Rattle.pps_types.specs.Content.{Object, Directory, Known, Connection, Content}
 use Rattle.pps_types.specs.Checks.{checks}
-use Rattle.pps_types.specs.Plan.{Move, Attaches, Leaves, Creates, Happens, Opens, Closes, CatchesUp, Passes, Parks, Arms, Queues, Takes, MakesDirectory, RemovesDirectory, on_numbered, without_number, on_connection, with_connection, without_connection, creation, plan, effect, settling, step_seen}
+use Rattle.pps_types.specs.Plan.{Move, Attaches, Leaves, Creates, Happens, Opens, Closes, CatchesUp, Passes, Parks, Arms, Queues, Takes, MakesDirectory, RemovesDirectory, without_first, on_numbered, without_number, on_connection, with_connection, without_connection, creation, plan, effect, settling, step_seen}
 
 -- A handle has its cursor, a place in the history, from its first read on; a server's or client's from its opening on.
 pub record Machine : Type 0 where
@@ -88,7 +88,7 @@ apply (Arms number pulse) m = record m { handles = on_numbered number (λ h. rec
 apply (Queues conn item) m = record m { connections = on_connection conn (λ items. items ++ item ∷ []) m.connections }
 apply (Takes conn) m = record m { connections = on_connection conn behind_first m.connections }
 apply (MakesDirectory path) m = record m { directories = m.directories ++ record { number = m.next_directory; path = path } ∷ []; next_directory = m.next_directory + 1 }
-apply (RemovesDirectory number) m = record m { directories = filter (λ d. not (d.number == number)) m.directories }
+apply (RemovesDirectory number) m = record m { directories = without_first (λ d. d.number == number) m.directories }
 
 -- one after the other
 abbrev pub apply_all : List Move → Machine → Machine

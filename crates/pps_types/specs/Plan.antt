@@ -50,23 +50,36 @@ pub data Move : Type 0 where
   MakesDirectory : Path → Move
   RemovesDirectory : ℕ → Move
 
+module _ {X : Type 0} where
+  -- the first that passes is changed
+  abbrev pub on_first : (X → Bool) → (X → X) → List X → List X
+  on_first test change [] = []
+  on_first test change (x ∷ xs) = if test x then change x ∷ xs else x ∷ on_first test change xs
+
+  -- the first that passes is taken out
+  abbrev pub without_first : (X → Bool) → List X → List X
+  without_first test [] = []
+  without_first test (x ∷ xs) = if test x then xs else x ∷ without_first test xs
+
+-- the handle of that number
 abbrev pub on_numbered : {S : Type 0} → ℕ → (Open S → Open S) → List (Open S) → List (Open S)
-on_numbered number change handles = map (λ h. if h.number == number then change h else h) handles
+on_numbered number change handles = on_first (λ h. h.number == number) change handles
 
 abbrev pub without_number : {S : Type 0} → ℕ → List (Open S) → List (Open S)
-without_number number handles = filter (λ h. not (h.number == number)) handles
+without_number number handles = without_first (λ h. h.number == number) handles
 
-abbrev pub requeued : ℕ → (List Item → List Item) → Connection → Connection
-requeued conn change x = if x.number == conn then record x { queue = change x.queue } else x
+-- the connection of that number, and its queue
+abbrev pub requeued : (List Item → List Item) → Connection → Connection
+requeued change x = record x { queue = change x.queue }
 
 abbrev pub on_connection : ℕ → (List Item → List Item) → List Connection → List Connection
-on_connection conn change connections = map (requeued conn change) connections
+on_connection conn change connections = on_first (λ x. x.number == conn) (requeued change) connections
 
 abbrev pub with_connection : ℕ → List Connection → List Connection
 with_connection conn connections = put_rising (λ x. x.number) (record { number = conn; queue = [] }) connections
 
 abbrev pub without_connection : ℕ → List Connection → List Connection
-without_connection conn connections = filter (λ x. not (x.number == conn)) connections
+without_connection conn connections = without_first (λ x. x.number == conn) connections
 
 -- a record of an object
 abbrev pub entry_of : Object → Kind → Option ℕ → Entry
@@ -121,7 +134,7 @@ apply_seen (Arms number pulse) c = record c { handles = on_numbered number (λ h
 apply_seen (Queues conn item) c = record c { connections = on_connection conn (λ items. items ++ item ∷ []) c.connections }
 apply_seen (Takes conn) c = record c { connections = on_connection conn behind_first c.connections }
 apply_seen (MakesDirectory path) c = record c { directories = c.directories ++ record { number = c.next_directory; path = path } ∷ []; next_directory = c.next_directory + 1 }
-apply_seen (RemovesDirectory number) c = record c { directories = filter (λ d. not (d.number == number)) c.directories }
+apply_seen (RemovesDirectory number) c = record c { directories = without_first (λ d. d.number == number) c.directories }
 
 -- one after the other
 abbrev pub apply_all_seen : List Move → Content → Content
