@@ -1,0 +1,156 @@
+//! Filters, and which lines they match.
+ghost use Rattle.std.specs.Prelude.{◌≡◌, ◌↔◌, IfOk, IsTrue, IsOkUnless};
+ghost use Rattle.std.specs.List.{list_any};
+ghost use Rattle.std.specs.Option.{option_copied};
+ghost use Rattle.pps_types.specs.Filter as meant;
+ghost use Rattle.pps_filter.specs.Seen.{condition_seen, part_seen};
+
+use crate::number::whole_number;
+use pps_types::{Bytes, Line, Refusal};
+use std::alloc::{AllocError, Global};
+use std::marker::Model;
+
+/// What a filter asks of a value.
+#[derive(Debug, PartialEq, Eq, Drop)]
+pub(crate) enum Condition {
+    Always,
+    IsValue(Bytes),
+    IsOtherValue(Bytes),
+    IsBelow(i64),
+    IsAbove(i64),
+}
+
+impl Condition {
+    fn is_met_by(&self, value: &[u8]) -> bool
+        ensures { result ≡ meant.value_meets (condition_seen self.now) value.now }
+    {
+        match self {
+            Condition::Always => true,
+            Condition::IsValue(wanted) => value == wanted.as_slice(),
+            Condition::IsOtherValue(unwanted) => value != unwanted.as_slice(),
+            Condition::IsBelow(bound) => whole_number(value).is_some_and(|number| number < *bound),
+            Condition::IsAbove(bound) => whole_number(value).is_some_and(|number| number > *bound),
+        }
+    }
+
+    fn copy(&self) -> Result<Condition, AllocError>
+        ensures { IfOk result (λ copy. copy ≡ self.now) }
+    {
+        match self {
+            Condition::Always => Ok(Condition::Always),
+            Condition::IsValue(wanted) => Ok(Condition::IsValue(wanted.copy()?)),
+            Condition::IsOtherValue(unwanted) => Ok(Condition::IsOtherValue(unwanted.copy()?)),
+            Condition::IsBelow(bound) => Ok(Condition::IsBelow(*bound)),
+            Condition::IsAbove(bound) => Ok(Condition::IsAbove(*bound)),
+        }
+    }
+}
+
+/// What a filter asks of the attributes of one name.
+#[derive(Debug, PartialEq, Eq, Drop)]
+pub(crate) struct Part {
+    pub(crate) name: Bytes,
+    pub(crate) condition: Condition,
+}
+
+impl Part {
+    fn matches(&self, line: &Line) -> bool
+        ensures { result ≡ meant.part_matches line.now (part_seen self.now) }
+    {
+        match line {
+            Line::Set { name, value, .. } => {
+                name.as_slice() == self.name.as_slice()
+                    && self.condition.is_met_by(value.as_slice())
+            }
+            Line::Del { name } => name.as_slice() == self.name.as_slice(),
+        }
+    }
+
+    fn copy(&self) -> Result<Part, AllocError>
+        ensures { IfOk result (λ copy. copy ≡ self.now) }
+    {
+        Ok(Part {
+            name: self.name.copy()?,
+            condition: self.condition.copy()?,
+        })
+    }
+}
+
+fn any_matches(parts: &[Part], line: &Line) -> bool
+    ensures { result ≡ list_any (λ part. meant.part_matches line.now (part_seen part)) parts.now }
+{
+    parts.iter().any(|part| part.matches(line))
+}
+
+fn are_same(parts: &[Part], others: &[Part]) -> bool
+    ensures { IsTrue result ↔ (parts.now ≡ others.now) }
+{
+    parts == others
+}
+
+/// Which lines a subscriber is given. It matches a line where one of its parts does.
+#[derive(Debug, Drop)]
+pub struct Filter {
+    parts: Vec<Part>,
+}
+
+impl Model for Filter {
+    ghost use Rattle.std.specs.Prelude.{List};
+    ghost use Rattle.pps_types.specs.Filter.{Part as PartMeant};
+    ghost use Rattle.pps_filter.specs.Seen.{parts_seen};
+
+    ghost Value = { List PartMeant };
+
+    ghost view = { λ a. parts_seen a.parts.items };
+}
+
+impl Filter {
+    ghost use Rattle.pps_filter.specs.Seen.{parts_seen};
+
+    pub(crate) fn new(parts: Vec<Part>) -> Filter
+        ensures { result ≡ parts_seen parts.items }
+    {
+        Filter { parts }
+    }
+
+    /// Whether one of its parts matches the line. It takes no memory.
+    ///
+    /// A part `name` matches every set line of that name, `name=v` and `name!=v` those whose value is `v`, or is not.
+    /// `name<i` and `name>i` match those whose value is a whole number below or above `i`. A removal matches wherever
+    /// a part has its name. Filters are QNX's (PPS Developer's Guide, filtering); the operators are our own.
+    pub fn matches(&self, line: &Line) -> bool
+        ensures { result ≡ meant.matches (Some self.now) line.now }
+    {
+        any_matches(self.parts.as_slice(), line)
+    }
+
+    /// A copy of its own, which matches the same lines.
+    pub fn copy(&self) -> Result<Filter, Refusal>
+        ensures ok { IfOk result (λ copy. copy ≡ self.now) }
+        ensures err { IsOkUnless result Refusal.OutOfMemory }
+    {
+        let alloc: Global = *self.parts.allocator();
+        let mut parts = Vec::with_capacity(alloc, self.parts.len())?;
+        for part in &self.parts {
+            parts.push(part.copy()?)?;
+        }
+        Ok(Filter { parts })
+    }
+
+    /// Whether the two have the same parts in the same order. It takes no memory.
+    pub fn same(&self, other: &Filter) -> bool
+        ensures { IsTrue result ↔ (self.now ≡ other.now) }
+    {
+        are_same(self.parts.as_slice(), other.parts.as_slice())
+    }
+}
+
+/// Whether the filter matches the line. Without a filter every line matches. It takes no memory.
+pub fn matches(filter: Option<&Filter>, line: &Line) -> bool
+    ensures { result ≡ meant.matches (option_copied filter.entry) line.now }
+{
+    match filter {
+        None => true,
+        Some(filter) => filter.matches(line),
+    }
+}

@@ -1,0 +1,15 @@
+//! Filters: which lines of attributes a subscriber is given.
+#![tactic(auto)]
+
+mod filter;
+mod name;
+mod number;
+mod pieces;
+mod read;
+
+pub use filter::{Filter, matches};
+pub use pieces::first_plain_piece;
+pub use read::{read_filter, read_parts};
+
+#[cfg(test)]
+mod tests;
