@@ -2,6 +2,8 @@
 ghost use Rattle.std.specs.Prelude.{◌≡◌};
 
 use crate::bytes::Bytes;
+use std::alloc::Global;
+use std::default::MadeWith;
 use std::marker::Model;
 
 /// What a written line says of whether its attribute is kept when the service is saved.
@@ -29,6 +31,20 @@ pub enum WriteLine {
     Del {
         name: Bytes,
     },
+}
+
+/// A blank line, as short vectors keep one in each place that is free. It takes no memory.
+impl MadeWith<Global> for WriteLine {
+    ghost use Rattle.std.specs.Prelude.{◌≡◌, []};
+    ghost use Rattle.pps_types.specs.declared.line.WriteLine.TheVariants.{Del};
+
+    ghost is_made_with = { λ line. line ≡ Del [] };
+
+    fn made_with(alloc: Global) -> WriteLine {
+        WriteLine::Del {
+            name: Bytes::new(Vec::new(alloc)),
+        }
+    }
 }
 
 /// A line as objects and records hold it. Where `n` is true the attribute is nonpersistent.

@@ -1,0 +1,262 @@
+-- How the definition reads a text from its front.
+use Rattle.std.proofs.Common.{◌≡◌, ℕ, zero, suc, ◌+◌, ◌<◌, ◌≤◌, Bool, true, false, eqb, List, [], ◌∷◌, ◌++◌, length, take, drop, get_or, Option, Some, None, Result, Ok, Err, append_assoc, inl, inr, refl, sym, ap, ◌∙◌, add-one, arith}
+use Rattle.std.specs.Prelude.{option_map, unwrap_or, codes, cond}
+use Rattle.std.proofs.lemmas.Bool.{false_from_ne_true, eqb-true, false≢true}
+use Rattle.pps_types.specs.declared.refusal.Refusal.{Refusal}
+use Rattle.pps_types.specs.declared.refusal.Refusal.TheVariants.{BadText, TooLarge}
+use Rattle.pps_types.specs.declared.line.WriteLine.{WriteLine}
+use Rattle.memchr.specs.Find.{IsFirstByte, is_byte}
+use Rattle.pps_types.specs.Bytes.{split_at_first, is_empty, after_prefix, pieces, onto_first, result_map}
+use Rattle.pps_types.specs.Text.{without_empty_end, lines_of, write_line, line_or, write_lines, with_header, text_after, text_of_lines, write_text}
+use Rattle.attr_text.specs.ReadWrite.{first_line_of, IsLinesRefusal, IsTextRefusal}
+
+-- the byte stands nowhere
+none-at : (c : ℕ) (xs : List ℕ) → ((k : ℕ) → 0 ≤ k → k < length xs → eqb (get_or xs k 0) c ≡ true → ⊥) → split_at_first c xs ≡ None
+none-at c [] nowhere = refl
+none-at c (x ∷ xs) nowhere =
+    rw (
+      false_from_ne_true (eqb x c) (nowhere 0 (omega arith) (omega arith)),
+      none-at c xs (λ k low high. nowhere (suc k) (omega arith) (omega arith)),
+    ) refl
+
+-- the byte stands at k first
+first-at : (c : ℕ) (xs : List ℕ) (k : ℕ) → k < length xs → ((j : ℕ) → 0 ≤ j → j < k → eqb (get_or xs j 0) c ≡ true → ⊥)
+    → eqb (get_or xs k 0) c ≡ true → split_at_first c xs ≡ Some (take k xs, drop (suc k) xs)
+first-at c [] k below before here = absurd (omega arith)
+first-at c (x ∷ xs) zero below before here = rw here refl
+first-at c (x ∷ xs) (suc k) below before here =
+    rw (
+      false_from_ne_true (eqb x c) (before 0 (omega arith) (omega arith)),
+      first-at c xs k (omega arith) (λ j low high. before (suc j) (omega arith) (omega arith)) here,
+    ) refl
+
+pub split_at_first-is : (c : ℕ) (xs : List ℕ) (r : Option ℕ) → IsFirstByte (is_byte c) xs r
+    → option_map (λ k. (take k xs, drop (k + 1) xs)) r ≡ split_at_first c xs
+split_at_first-is c xs None nowhere = sym (none-at c xs nowhere)
+split_at_first-is c xs (Some k) is = rw add-one (sym (first-at c xs k is.0.high is.0.before is.1))
+
+-- ---- the first piece, and the pieces behind it
+
+abbrev pieces_of : ℕ → List ℕ → Option (List ℕ × List ℕ) → List (List ℕ)
+pieces_of c xs None = xs ∷ []
+pieces_of c xs (Some parts) = parts.0 ∷ pieces c parts.1
+
+pieces-split : (c : ℕ) (xs : List ℕ) → pieces c xs ≡ pieces_of c xs (split_at_first c xs)
+pieces-split c [] = refl
+pieces-split c (x ∷ xs) = by (pieces-split c xs) (eqb x c)
+  where
+    onto : (o : Option (List ℕ × List ℕ)) → onto_first x (pieces_of c xs o) ≡ pieces_of c (x ∷ xs) (option_map (λ parts. (x ∷ parts.0, parts.1)) o)
+    onto None = refl
+    onto (Some parts) = refl
+
+    by : pieces c xs ≡ pieces_of c xs (split_at_first c xs) → (b : Bool) → cond b ([] ∷ pieces c xs) (onto_first x (pieces c xs))
+        ≡ pieces_of c (x ∷ xs) (cond b (Some ([], xs)) (option_map (λ parts. (x ∷ parts.0, parts.1)) (split_at_first c xs)))
+    by rest true = refl
+    by rest false = ap (onto_first x) rest ∙ onto (split_at_first c xs)
+
+without_empty_end-cons : (line : List ℕ) (c : ℕ) (xs : List ℕ) → without_empty_end (line ∷ pieces c xs) ≡ line ∷ without_empty_end (pieces c xs)
+without_empty_end-cons line c xs = rw pieces-split (by (split_at_first c xs))
+  where
+    by : (o : Option (List ℕ × List ℕ)) → without_empty_end (line ∷ pieces_of c xs o) ≡ line ∷ without_empty_end (pieces_of c xs o)
+    by None = refl
+    by (Some parts) = refl
+
+-- a text that is not empty has a first line
+pub lines_of-first : (b : ℕ) (bs : List ℕ) → lines_of (b ∷ bs) ≡ (first_line_of (b ∷ bs)).0 ∷ lines_of (first_line_of (b ∷ bs)).1
+lines_of-first b bs = ap without_empty_end (pieces-split 10 (b ∷ bs)) ∙ by (split_at_first 10 (b ∷ bs))
+  where
+    by : (o : Option (List ℕ × List ℕ)) → without_empty_end (pieces_of 10 (b ∷ bs) o)
+        ≡ (unwrap_or o (b ∷ bs, [])).0 ∷ lines_of (unwrap_or o (b ∷ bs, [])).1
+    by None = refl
+    by (Some parts) = without_empty_end-cons parts.0 10 parts.1
+
+-- what stands behind the first is shorter
+abbrev IsShorter : ℕ → Option (List ℕ × List ℕ) → Type 0
+IsShorter n None = Unit {0}
+IsShorter n (Some parts) = length parts.1 < n
+
+split_at_first-shorter : (c : ℕ) (xs : List ℕ) → IsShorter (length xs) (split_at_first c xs)
+split_at_first-shorter c [] = tt
+split_at_first-shorter c (x ∷ xs) = by (split_at_first-shorter c xs) (eqb x c)
+  where
+    longer : (o : Option (List ℕ × List ℕ)) → IsShorter (length xs) o → IsShorter (suc (length xs)) (option_map (λ parts. (x ∷ parts.0, parts.1)) o)
+    longer None shorter = tt
+    longer (Some parts) shorter = omega arith
+
+    by : IsShorter (length xs) (split_at_first c xs) → (b : Bool) → IsShorter (suc (length xs)) (cond b (Some ([], xs)) (option_map (λ parts. (x ∷ parts.0, parts.1)) (split_at_first c xs)))
+    by rest true = omega arith
+    by rest false = longer (split_at_first c xs) rest
+
+pub first_line_of-shorter : (b : ℕ) (bs : List ℕ) → length (first_line_of (b ∷ bs)).1 < length (b ∷ bs)
+first_line_of-shorter b bs = by (split_at_first 10 (b ∷ bs)) (split_at_first-shorter 10 (b ∷ bs))
+  where
+    by : (o : Option (List ℕ × List ℕ)) → IsShorter (length (b ∷ bs)) o → length (unwrap_or o (b ∷ bs, [])).1 < length (b ∷ bs)
+    by None shorter = omega arith
+    by (Some parts) shorter = shorter
+
+-- the first line begins as the text does, where that is no line feed
+first_line_of-begins : (b : ℕ) (bs : List ℕ) → eqb b 10 ≡ false
+    → ◌≡◌ {A = List ℕ × List ℕ} (first_line_of (b ∷ bs)) (b ∷ (first_line_of bs).0, (first_line_of bs).1)
+first_line_of-begins b bs other = rw other (by (split_at_first 10 bs))
+  where
+    by : (o : Option (List ℕ × List ℕ))
+        → ◌≡◌ {A = List ℕ × List ℕ} (unwrap_or (option_map (λ parts. (b ∷ parts.0, parts.1)) o) (b ∷ bs, [])) (b ∷ (unwrap_or o (bs, [])).0, (unwrap_or o (bs, [])).1)
+    by None = refl
+    by (Some parts) = refl
+
+-- ---- headers
+
+-- a text that begins with `@`
+at-begins : (bytes behind : List ℕ) → after_prefix (codes "@") bytes ≡ Some behind → bytes ≡ 64 ∷ behind
+at-begins [] behind is = cc
+at-begins (b ∷ bs) behind is = by (eqb 64 b) refl is
+  where
+    by : (v : Bool) → eqb 64 b ≡ v → cond v (Some bs) None ≡ Some behind → b ∷ bs ≡ 64 ∷ behind
+    by true same rest = let first = eqb-true 64 b same in cc
+    by false same rest = cc
+
+pub write_text-header : (bytes behind : List ℕ) → after_prefix (codes "@") bytes ≡ Some behind
+    → write_text bytes ≡ with_header (Some (first_line_of behind).0) (write_lines 2 (lines_of (first_line_of behind).1))
+write_text-header bytes behind is = ap write_text (at-begins bytes behind is)
+    ∙ ap text_of_lines (lines_of-first 64 behind)
+    ∙ ap (λ parts. text_of_lines (parts.0 ∷ lines_of parts.1)) (first_line_of-begins 64 behind refl)
+
+first_line_of-plain : (b : ℕ) (bs : List ℕ) → eqb 64 b ≡ false → after_prefix (codes "@") (first_line_of (b ∷ bs)).0 ≡ None
+first_line_of-plain b bs other = by (eqb b 10)
+  where
+    begins : (o : Option (List ℕ × List ℕ)) → after_prefix (codes "@") (unwrap_or {T = List ℕ × List ℕ} (option_map (λ parts. (b ∷ parts.0, parts.1)) o) (b ∷ bs, [])).0 ≡ None
+    begins None = rw other refl
+    begins (Some parts) = rw other refl
+
+    by : (v : Bool) → after_prefix (codes "@") (unwrap_or {T = List ℕ × List ℕ} (cond v (Some ([], bs)) (option_map (λ parts. (b ∷ parts.0, parts.1)) (split_at_first 10 bs))) (b ∷ bs, [])).0 ≡ None
+    by true = refl
+    by false = begins (split_at_first 10 bs)
+
+at-other : (b : ℕ) (bs : List ℕ) → after_prefix (codes "@") (b ∷ bs) ≡ None → eqb 64 b ≡ false
+at-other b bs none = by (eqb 64 b) none
+  where
+    by : (v : Bool) → cond v (Some bs) None ≡ None → v ≡ false
+    by true no_rest = cc
+    by false no_rest = refl
+
+-- a text that does not
+pub write_text-plain : (bytes : List ℕ) → after_prefix (codes "@") bytes ≡ None → write_text bytes ≡ with_header None (write_lines 1 (lines_of bytes))
+write_text-plain [] none = refl
+write_text-plain (b ∷ bs) none =
+    ap text_of_lines (lines_of-first b bs)
+    ∙ rw (first_line_of-plain b bs (at-other b bs none)) (ap (λ lines. with_header None (write_lines 1 lines)) (sym (lines_of-first b bs)))
+
+pub first_line_of-within : (bytes : List ℕ) → length (first_line_of bytes).1 ≤ length bytes
+first_line_of-within [] = omega arith
+first_line_of-within (b ∷ bs) = omega (arith, first_line_of-shorter b bs)
+
+-- what a header leaves for the lines
+pub header-leaves : (bytes behind header rest : List ℕ) → after_prefix (codes "@") bytes ≡ Some behind
+    → ◌≡◌ {A = List ℕ × List ℕ} (header, rest) (first_line_of behind) → length rest ≤ length bytes
+header-leaves bytes behind header rest is parts =
+    let same : rest ≡ (first_line_of behind).1 = ap (λ p. p.1) parts in
+    let begins = at-begins bytes behind is in
+    let longer : length bytes ≡ suc (length behind) = ap length begins in
+    rw same (omega (arith, longer, first_line_of-within behind))
+
+pub write_text-parts : (bytes behind header rest : List ℕ) → after_prefix (codes "@") bytes ≡ Some behind
+    → ◌≡◌ {A = List ℕ × List ℕ} (header, rest) (first_line_of behind)
+    → write_text bytes ≡ with_header (Some header) (write_lines 2 (lines_of rest))
+write_text-parts bytes behind header rest is parts = write_text-header bytes behind is
+    ∙ sym (ap (λ p. with_header (Some p.0) (write_lines 2 (lines_of p.1))) parts)
+
+-- a text is refused as its lines are
+pub text-refused : (bytes : List ℕ) (header : Option (List ℕ)) (first : ℕ) (rest : List ℕ) (refusal : Refusal)
+    → write_text bytes ≡ with_header header (write_lines first (lines_of rest)) → IsLinesRefusal first rest refusal → IsTextRefusal bytes refusal
+text-refused bytes header first rest refusal is (inl wanting) = inl wanting
+text-refused bytes header first rest refusal is (inr bad) = inr (is ∙ ap (with_header header) bad)
+
+-- ---- lines, one after the other
+
+-- what was read so far, and then the rest
+abbrev pub after_lines : List WriteLine → Result (List WriteLine) Refusal → Result (List WriteLine) Refusal
+after_lines lines rest = result_map (λ more. lines ++ more) rest
+
+pub after_lines-push : (lines : List WriteLine) (line : WriteLine) (rest : Result (List WriteLine) Refusal)
+    → after_lines lines (result_map (λ more. line ∷ more) rest) ≡ after_lines (lines ++ line ∷ []) rest
+after_lines-push lines line (Ok more) = rw append_assoc refl
+after_lines-push lines line (Err refusal) = refl
+
+-- ---- one line of a rest that is not empty
+
+-- what the test of emptiness says
+pub some-bytes : (xs : List ℕ) → false ≡ eqb (length xs) 0 → 0 < length xs
+some-bytes [] test = absurd (false≢true test)
+some-bytes (x ∷ xs) test = omega arith
+
+pub no-bytes : (xs : List ℕ) → true ≡ eqb (length xs) 0 → length xs ≡ 0
+no-bytes xs test = eqb-true _ _ (sym test)
+
+pub lines_of-parts : (rest line behind : List ℕ) → 0 < length rest → ◌≡◌ {A = List ℕ × List ℕ} (line, behind) (first_line_of rest)
+    → lines_of rest ≡ line ∷ lines_of behind
+lines_of-parts [] line behind some parts = absurd (omega arith)
+lines_of-parts (b ∷ bs) line behind some parts = lines_of-first b bs ∙ sym (ap (λ p. p.0 ∷ lines_of p.1) parts)
+
+pub behind-shorter : (rest line behind : List ℕ) → 0 < length rest → ◌≡◌ {A = List ℕ × List ℕ} (line, behind) (first_line_of rest)
+    → length behind < length rest
+behind-shorter [] line behind some parts = absurd (omega arith)
+behind-shorter (b ∷ bs) line behind some parts =
+    let same : behind ≡ (first_line_of (b ∷ bs)).1 = ap (λ p. p.1) parts in
+    rw same (first_line_of-shorter b bs)
+
+-- an empty line is skipped
+pub write_lines-skip : (n : ℕ) (lines : List WriteLine) (rest line behind : List ℕ) (all : Result (List WriteLine) Refusal)
+    → all ≡ after_lines lines (write_lines n (lines_of rest)) → lines_of rest ≡ line ∷ lines_of behind → length line ≡ 0
+    → all ≡ after_lines lines (write_lines (n + 1) (lines_of behind))
+write_lines-skip n lines rest [] behind all so_far first empty = so_far ∙ ap (λ ls. after_lines lines (write_lines n ls)) first
+write_lines-skip n lines rest (b ∷ bs) behind all so_far first empty = absurd (omega arith)
+
+-- a good line is one more
+pub write_lines-push : (n : ℕ) (lines : List WriteLine) (rest line behind : List ℕ) (all : Result (List WriteLine) Refusal) (read : WriteLine)
+    → all ≡ after_lines lines (write_lines n (lines_of rest)) → lines_of rest ≡ line ∷ lines_of behind → 0 < length line → write_line line ≡ Some read
+    → all ≡ after_lines (lines ++ read ∷ []) (write_lines (n + 1) (lines_of behind))
+write_lines-push n lines rest [] behind all read so_far first some is = absurd (omega arith)
+write_lines-push n lines rest (b ∷ bs) behind all read so_far first some is =
+    so_far ∙ ap (λ ls. after_lines lines (write_lines n ls)) first
+    ∙ ap (λ o. after_lines lines (line_or n o (write_lines (n + 1) (lines_of behind)))) is
+    ∙ after_lines-push lines read (write_lines (n + 1) (lines_of behind))
+
+-- a bad line is named
+pub write_lines-bad : (n : ℕ) (lines : List WriteLine) (rest line behind : List ℕ) (all : Result (List WriteLine) Refusal)
+    → all ≡ after_lines lines (write_lines n (lines_of rest)) → lines_of rest ≡ line ∷ lines_of behind → 0 < length line → write_line line ≡ None
+    → all ≡ Err (BadText n)
+write_lines-bad n lines rest [] behind all so_far first some is = absurd (omega arith)
+write_lines-bad n lines rest (b ∷ bs) behind all so_far first some is =
+    so_far ∙ ap (λ ls. after_lines lines (write_lines n ls)) first
+    ∙ ap (λ o. after_lines lines (line_or n o (write_lines (n + 1) (lines_of behind)))) is
+
+-- ---- no text is refused for its size
+
+map-err : {A B : Type 0} (f : A → B) (r : Result A Refusal) (refusal : Refusal) → result_map f r ≡ Err refusal → r ≡ Err refusal
+map-err f (Ok x) refusal is = cc
+map-err f (Err e) refusal is = cc
+
+write_lines-fit : (n : ℕ) (ls : List (List ℕ)) → write_lines n ls ≡ Err TooLarge → ⊥
+write_lines-fit n [] is = cc
+write_lines-fit n (l ∷ ls) is = by (write_lines-fit (n + 1) ls) (is_empty l) (write_line l) is
+  where
+    by : (write_lines (n + 1) ls ≡ Err TooLarge → ⊥) → (b : Bool) (o : Option WriteLine)
+        → cond b (write_lines (n + 1) ls) (line_or n o (write_lines (n + 1) ls)) ≡ Err TooLarge → ⊥
+    by rest true o here = rest here
+    by rest false None here = cc
+    by rest false (Some line) here = rest (map-err _ _ _ here)
+
+pub write_text-fits : (bytes : List ℕ) → write_text bytes ≡ Err TooLarge → ⊥
+write_text-fits bytes = by (lines_of bytes)
+  where
+    after : (o : Option (List ℕ)) (all others : List (List ℕ)) → text_after o all others ≡ Err TooLarge → ⊥
+    after None all others is = write_lines-fit 1 all (map-err _ _ _ is)
+    after (Some header) all others is = write_lines-fit 2 others (map-err _ _ _ is)
+
+    by : (ls : List (List ℕ)) → text_of_lines ls ≡ Err TooLarge → ⊥
+    by [] is = cc
+    by (l ∷ ls) is = after (after_prefix (codes "@") l) (l ∷ ls) ls is
+
+pub text-too-large : (bytes : List ℕ) → IsTextRefusal bytes TooLarge → ⊥
+text-too-large bytes (inl wanting) = cc
+text-too-large bytes (inr bad) = write_text-fits bytes bad

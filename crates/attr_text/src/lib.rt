@@ -1,0 +1,14 @@
+//! The texts of attributes: what a write says, the one printing of lines and headers, and values as they are shown.
+#![tactic(auto)]
+
+mod parts;
+mod print;
+mod read;
+mod show;
+
+pub use print::{header_len, line_len, print_header, print_line, push_header, push_line};
+pub use read::{WRITE_LIMIT, WriteLines, WriteText, read_write};
+pub use show::show_value;
+
+#[cfg(test)]
+mod tests;

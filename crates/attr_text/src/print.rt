@@ -1,0 +1,144 @@
+//! The one printing of lines and headers.
+ghost use Rattle.std.specs.Prelude.{◌≡◌, ◌+◌, ◌<◌, ◌≤◌, ◌^◌, ◌++◌, true, length, vec_len, vec_capacity, IfOk, IfSome, IfNone, OnErr, IsErrOf, if◌then◌else◌, codes, []};
+ghost use Rattle.std.specs.Option.{ForSome, option_to_list};
+ghost use Rattle.pps_types.specs.Text as text;
+
+use pps_types::{Line, Refusal};
+use std::alloc::Global;
+
+/// The length of the printing of a line, where it is a length.
+fn checked_line_len(line: &Line) -> Option<usize>
+    ensures some { IfSome result (λ len. len ≡ length (text.print_line line.now)) }
+    ensures none { IfNone result (2 ^ 64 ≤ length (text.print_line line.now)) }
+{
+    match line {
+        Line::Set {
+            name,
+            enc,
+            value,
+            n,
+        } => {
+            let marks: usize = if *n { 6 } else { 3 };
+            let named = marks.checked_add(name.len())?;
+            let encoded = named.checked_add(enc.len())?;
+            encoded.checked_add(value.len())
+        }
+        Line::Del { name } => name.len().checked_add(2),
+    }
+}
+
+/// The length of the printing of a line. It takes no memory.
+pub fn line_len(line: &Line) -> usize
+    requires { length (text.print_line line.now) < 2 ^ 64 }
+    ensures { result ≡ length (text.print_line line.now) }
+{
+    checked_line_len(line).unwrap()
+}
+
+/// Pushes bytes for which there is room.
+fn push_bytes(out: &mut Vec<u8>, bytes: &[u8])
+    requires { vec_len out.old + length bytes.now ≤ vec_capacity out.old }
+    ensures items { out.new.items ≡ out.old.items ++ bytes.now }
+    ensures len { vec_len out.new ≡ vec_len out.old + length bytes.now }
+    ensures capacity { vec_capacity out.old ≤ vec_capacity out.new }
+{
+    out.extend_from_slice(bytes).unwrap();
+}
+
+/// Pushes the bracket of a nonpersistent attribute, for which there is room.
+fn push_bracket(out: &mut Vec<u8>, n: bool)
+    requires { vec_len out.old + length (if n then codes "[n]" else []) ≤ vec_capacity out.old }
+    ensures items { out.new.items ≡ out.old.items ++ (if n then codes "[n]" else []) }
+    ensures len { vec_len out.new ≡ vec_len out.old + length (if n then codes "[n]" else []) }
+    ensures capacity { vec_capacity out.old ≤ vec_capacity out.new }
+{
+    if n {
+        push_bytes(out, b"[n]");
+    }
+}
+
+/// Pushes the printing of a line, for which there is room. It takes no memory.
+#[tactic(auto, using(crate::proofs::Regroup::regroup))]
+pub fn push_line(out: &mut Vec<u8>, line: &Line)
+    requires { vec_len out.old + length (text.print_line line.now) ≤ vec_capacity out.old }
+    ensures items { out.new.items ≡ out.old.items ++ text.print_line line.now }
+    ensures capacity { vec_capacity out.old ≤ vec_capacity out.new }
+{
+    match line {
+        Line::Set {
+            name,
+            enc,
+            value,
+            n,
+        } => {
+            push_bracket(out, *n);
+            push_bytes(out, name.as_slice());
+            out.push_reserved(b':');
+            push_bytes(out, enc.as_slice());
+            out.push_reserved(b':');
+            push_bytes(out, value.as_slice());
+            out.push_reserved(b'\n');
+        }
+        Line::Del { name } => {
+            out.push_reserved(b'-');
+            push_bytes(out, name.as_slice());
+            out.push_reserved(b'\n');
+        }
+    }
+}
+
+/// The printing of a line.
+pub fn print_line(alloc: Global, line: &Line) -> Result<Vec<u8>, Refusal>
+    ensures ok { IfOk result (λ printed. printed.items ≡ text.print_line line.now) }
+    ensures err { OnErr result (IsErrOf result Refusal.OutOfMemory) }
+{
+    let len = checked_line_len(line).ok_or(Refusal::OutOfMemory)?;
+    let mut out = Vec::with_capacity(alloc, len)?;
+    push_line(&mut out, line);
+    Ok(out)
+}
+
+/// The length of the printing of a header, where it is a length.
+fn checked_header_len(mark: Option<u8>, name: &[u8]) -> Option<usize>
+    ensures some { IfSome result (λ len. len ≡ length (text.print_header (option_to_list mark) name.now)) }
+    ensures none { IfNone result (2 ^ 64 ≤ length (text.print_header (option_to_list mark) name.now)) }
+{
+    let marks: usize = if mark.is_some() { 3 } else { 2 };
+    marks.checked_add(name.len())
+}
+
+/// The length of the printing of a header. It takes no memory.
+pub fn header_len(mark: Option<u8>, name: &[u8]) -> usize
+    requires { length (text.print_header (option_to_list mark) name.now) < 2 ^ 64 }
+    ensures { result ≡ length (text.print_header (option_to_list mark) name.now) }
+{
+    checked_header_len(mark, name).unwrap()
+}
+
+/// Pushes the printing of a header, for which there is room: the mark, if there is one, `@` and the name. It takes no memory.
+pub fn push_header(out: &mut Vec<u8>, mark: Option<u8>, name: &[u8])
+    requires marked { ForSome mark (λ byte. text.is_header_mark byte ≡ true) }
+    requires room { vec_len out.old + length (text.print_header (option_to_list mark) name.now) ≤ vec_capacity out.old }
+    ensures items { out.new.items ≡ out.old.items ++ text.print_header (option_to_list mark) name.now }
+    ensures capacity { vec_capacity out.old ≤ vec_capacity out.new }
+{
+    if let Some(byte) = mark {
+        out.push_reserved(byte);
+    }
+    out.push_reserved(b'@');
+    push_bytes(out, name);
+    out.push_reserved(b'\n');
+}
+
+/// The printing of a header. Its mark says that the block passes a limit (`!`), that its object was created or opened
+/// (`+`), deleted or closed (`-`) or truncated (`#`), or that its nonpersistent attributes were dropped (`*`).
+pub fn print_header(alloc: Global, mark: Option<u8>, name: &[u8]) -> Result<Vec<u8>, Refusal>
+    requires { ForSome mark (λ byte. text.is_header_mark byte ≡ true) }
+    ensures ok { IfOk result (λ printed. printed.items ≡ text.print_header (option_to_list mark) name.now) }
+    ensures err { OnErr result (IsErrOf result Refusal.OutOfMemory) }
+{
+    let len = checked_header_len(mark, name).ok_or(Refusal::OutOfMemory)?;
+    let mut out = Vec::with_capacity(alloc, len)?;
+    push_header(&mut out, mark, name);
+    Ok(out)
+}

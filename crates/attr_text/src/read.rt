@@ -1,0 +1,190 @@
+//! The text of a write.
+ghost use Rattle.std.specs.Prelude.{◌≡◌, ◌↔◌, ◌<◌, ◌≤◌, ◌+◌, ◌^◌, ◌++◌, IfOk, IfErr, IsErrOf, Ok, Err, length, codes};
+ghost use Rattle.std.specs.Option.{option_copied};
+ghost use Rattle.pps_types.specs.Bytes as bytes_words;
+ghost use Rattle.pps_types.specs.Text as text;
+ghost use Rattle.attr_text.specs.ReadWrite.{first_line_of, IsLinesRefusal, IsTextRefusal};
+
+use crate::parts::{is_attribute_name, is_encoding, split_at_colon, split_at_line_feed};
+use pps_types::{Bytes, Mark, Refusal, WriteLine};
+use smallvec::SmallVec;
+use std::alloc::{AllocError, Global};
+use std::marker::Model;
+
+/// The most bytes of a write.
+pub const WRITE_LIMIT: usize = 65_536;
+
+/// The lines of a write. A few of them take no memory of their own.
+pub type WriteLines = SmallVec<WriteLine, 4>;
+
+/// What a written text says: its header, and its lines.
+#[derive(Debug, Drop)]
+pub struct WriteText {
+    header: Option<Bytes>,
+    lines: WriteLines,
+}
+
+impl Model for WriteText {
+    ghost use Rattle.pps_types.specs.Text.{WriteText as TextOfWrite};
+
+    ghost Value = { TextOfWrite };
+
+    ghost view = { λ a. record { header = a.header; lines = a.lines.items } };
+}
+
+impl WriteText {
+    /// The bytes behind the `@` of the first line, where it has one.
+    pub fn header(&self) -> Option<&Bytes>
+        ensures { option_copied result ≡ self.now.header }
+    {
+        self.header.as_ref()
+    }
+
+    /// The lines that are not empty, in order.
+    pub fn lines(&self) -> &[WriteLine]
+        ensures { result.now ≡ self.now.lines }
+    {
+        self.lines.as_slice()
+    }
+
+    /// The header and the lines. It takes no memory.
+    pub fn into_parts(self) -> (Option<Bytes>, WriteLines)
+        ensures header { result.0 ≡ self.header }
+        ensures lines { result.1.items ≡ self.lines }
+    {
+        let WriteText { header, lines } = self;
+        (header, lines)
+    }
+}
+
+/// Reads `name:encoding:value`, which stands behind a bracket of that meaning. `None` says that it is no such line.
+fn read_set(alloc: Global, mark: Mark, line: &[u8]) -> Result<Option<WriteLine>, AllocError>
+    ensures { IfOk result (λ read. read ≡ text.set_line mark line.now) }
+{
+    let Some((name, rest)) = split_at_colon(line) else {
+        return Ok(None);
+    };
+    let Some((enc, value)) = split_at_colon(rest) else {
+        return Ok(None);
+    };
+    if !is_attribute_name(name) || !is_encoding(enc) {
+        return Ok(None);
+    }
+    Ok(Some(WriteLine::Set {
+        name: Bytes::from_slice(alloc, name)?,
+        enc: Bytes::from_slice(alloc, enc)?,
+        value: Bytes::from_slice(alloc, value)?,
+        mark,
+    }))
+}
+
+/// Reads what stands behind the `-` of a deletion. `None` says that it is no name.
+fn read_deletion(alloc: Global, name: &[u8]) -> Result<Option<WriteLine>, AllocError>
+    ensures { IfOk result (λ read. read ≡ text.deletion_line name.now) }
+{
+    if !is_attribute_name(name) {
+        return Ok(None);
+    }
+    Ok(Some(WriteLine::Del {
+        name: Bytes::from_slice(alloc, name)?,
+    }))
+}
+
+/// Reads what stands behind the `[` of a line. `None` says that the line is malformed.
+fn read_bracketed(alloc: Global, behind: &[u8]) -> Result<Option<WriteLine>, AllocError>
+    ensures { IfOk result (λ read. read ≡ text.write_line (codes "[" ++ behind.now)) }
+{
+    match behind {
+        [b'n', b']', line @ ..] => read_set(alloc, Mark::On, line),
+        [b'-', b'n', b']', line @ ..] => read_set(alloc, Mark::Off, line),
+        _ => Ok(None),
+    }
+}
+
+/// Reads a line that is not empty. `None` says that it is malformed.
+fn read_line(alloc: Global, line: &[u8]) -> Result<Option<WriteLine>, AllocError>
+    ensures { IfOk result (λ read. read ≡ text.write_line line.now) }
+{
+    match line {
+        [b'-', name @ ..] => read_deletion(alloc, name),
+        [b'[', behind @ ..] => read_bracketed(alloc, behind),
+        _ => read_set(alloc, Mark::Keep, line),
+    }
+}
+
+/// What stands before the first line feed, and what stands behind it.
+fn first_line(bytes: &[u8]) -> (&[u8], &[u8])
+    ensures { (result.0.now, result.1.now) ≡ first_line_of bytes.now }
+{
+    match split_at_line_feed(bytes) {
+        Some(parts) => parts,
+        None => (bytes, &bytes[bytes.len()..]),
+    }
+}
+
+/// Reads the lines of the bytes, the first of which has that number.
+fn read_lines(alloc: Global, first: u32, bytes: &[u8]) -> Result<WriteLines, Refusal>
+    requires { first + length bytes.now < 2 ^ 32 }
+    ensures ok { IfOk result (λ lines. text.write_lines first (text.lines_of bytes.now) ≡ Ok lines.items) }
+    ensures err { IfErr result (λ refusal. IsLinesRefusal first bytes.now refusal) }
+{
+    let mut lines = WriteLines::new(alloc);
+    let mut number = first;
+    let mut rest = bytes;
+    while !rest.is_empty() {
+        let (line, behind) = first_line(rest);
+        if !line.is_empty() {
+            let Some(read) = read_line(alloc, line)? else {
+                return Err(Refusal::BadText { line: number });
+            };
+            lines.push(read)?;
+        }
+        number += 1;
+        rest = behind;
+    }
+    Ok(lines)
+}
+
+/// What stands behind an `@` at the start.
+fn after_at(bytes: &[u8]) -> Option<&[u8]>
+    ensures { option_copied result ≡ bytes_words.after_prefix (codes "@") bytes.now }
+{
+    match bytes {
+        [b'@', behind @ ..] => Some(behind),
+        _ => None,
+    }
+}
+
+/// Reads a text that is not too large.
+fn read_text(alloc: Global, bytes: &[u8]) -> Result<WriteText, Refusal>
+    requires { length bytes.now ≤ WRITE_LIMIT }
+    ensures ok { IfOk result (λ read. text.write_text bytes.now ≡ Ok read) }
+    ensures err { IfErr result (IsTextRefusal bytes.now) }
+{
+    let Some(behind) = after_at(bytes) else {
+        let lines = read_lines(alloc, 1, bytes)?;
+        return Ok(WriteText {
+            header: None,
+            lines,
+        });
+    };
+    let (header, rest) = first_line(behind);
+    let lines = read_lines(alloc, 2, rest)?;
+    let header = Bytes::from_slice(alloc, header)?;
+    Ok(WriteText {
+        header: Some(header),
+        lines,
+    })
+}
+
+/// Reads the text of a write: perhaps a header, and lines that set and delete attributes.
+pub fn read_write(alloc: Global, bytes: &[u8]) -> Result<WriteText, Refusal>
+    ensures ok { IfOk result (λ read. text.write_text bytes.now ≡ Ok read) }
+    ensures too_large { IsErrOf result Refusal.TooLarge ↔ (WRITE_LIMIT < length bytes.now) }
+    ensures err { length bytes.now ≤ WRITE_LIMIT → IfErr result (IsTextRefusal bytes.now) }
+{
+    if bytes.len() > WRITE_LIMIT {
+        return Err(Refusal::TooLarge);
+    }
+    read_text(alloc, bytes)
+}

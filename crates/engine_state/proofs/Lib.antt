@@ -1,0 +1,4 @@
+pub mod Places
+pub mod Firsts
+pub mod Touches
+pub mod PathEnds

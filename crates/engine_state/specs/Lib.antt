@@ -1,0 +1,4 @@
+pub mod Queue
+pub mod Handle
+pub mod Objects
+pub mod Opening

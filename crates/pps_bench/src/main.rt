@@ -1,0 +1,107 @@
+//! Measures the parts of the service. The first word names the work, the second how often it is done; without words
+//! it does nothing.
+#![tactic(auto)]
+
+use attr_text::{print_line, read_write};
+use pps_filter::read_filter;
+use pps_types::{Bytes, Line, Refusal};
+use std::alloc::{AllocError, Global};
+use std::{env, io};
+
+/// That line so many times.
+fn repeated(alloc: Global, line: &[u8], count: u32) -> Result<Vec<u8>, AllocError> {
+    let mut text = Vec::new(alloc);
+    for _ in 0..count {
+        text.extend_from_slice(line)?;
+    }
+    Ok(text)
+}
+
+/// Reads a text of so many lines that often, and counts the lines.
+fn read_often(alloc: Global, line: &[u8], count: u32, rounds: u32) -> Result<u64, Refusal> {
+    let text = repeated(alloc, line, count)?;
+    let mut done = 0u64;
+    for _ in 0..rounds {
+        let read = read_write(alloc, text.as_slice())?;
+        done = done.wrapping_add(read.lines().len() as u64);
+    }
+    Ok(done)
+}
+
+/// Prints a line that often, and counts the bytes.
+fn print_often(alloc: Global, rounds: u32) -> Result<u64, Refusal> {
+    let line = Line::Set {
+        name: Bytes::from_slice(alloc, b"temperature")?,
+        enc: Bytes::from_slice(alloc, b"n")?,
+        value: Bytes::from_slice(alloc, b"21.5 degrees")?,
+        n: true,
+    };
+    let mut done = 0u64;
+    for _ in 0..rounds {
+        done = done.wrapping_add(print_line(alloc, &line)?.len() as u64);
+    }
+    Ok(done)
+}
+
+fn set_line(alloc: Global, name: &[u8], value: &[u8]) -> Result<Line, AllocError> {
+    Ok(Line::Set {
+        name: Bytes::from_slice(alloc, name)?,
+        enc: Bytes::from_slice(alloc, b"n")?,
+        value: Bytes::from_slice(alloc, value)?,
+        n: false,
+    })
+}
+
+/// Asks a filter of four lines that often, and counts those that match.
+fn match_often(alloc: Global, rounds: u32) -> Result<u64, Refusal> {
+    let filter = read_filter(alloc, b"altitude+speed>60+city!=Rome")?;
+    let mut lines = Vec::new(alloc);
+    lines.push(set_line(alloc, b"speed", b"61")?)?;
+    lines.push(set_line(alloc, b"city", b"Rome")?)?;
+    lines.push(set_line(alloc, b"altitude", b"12")?)?;
+    lines.push(set_line(alloc, b"heading", b"270")?)?;
+    let mut done = 0u64;
+    for _ in 0..rounds {
+        for line in &lines {
+            if filter.matches(line) {
+                done = done.wrapping_add(1);
+            }
+        }
+    }
+    Ok(done)
+}
+
+fn done(alloc: Global, work: &str, rounds: u32) -> Result<u64, Refusal> {
+    match work {
+        "read_short" => read_often(alloc, b"a::\n", 16_384, rounds),
+        "read_usual" => read_often(
+            alloc,
+            b"[n]speed:n:123\nstate::on the road\n-gone\n",
+            1,
+            rounds,
+        ),
+        "read_long" => read_often(
+            alloc,
+            b"name:enc:a value of some length, as a text of several words has it, and then some more of it, until it is long\n",
+            500,
+            rounds,
+        ),
+        "print" => print_often(alloc, rounds),
+        "match" => match_often(alloc, rounds),
+        _ => Ok(0),
+    }
+}
+
+fn main(rt: HostRuntime) -> io::Result<()> {
+    let words: Vec<String> = env::args(&rt)?.collect(rt.alloc())?;
+    let (Some(work), Some(rounds)) = (words.get(1), words.get(2)) else {
+        return Ok(());
+    };
+    let Ok(rounds) = rounds.as_str().parse::<u32>() else {
+        return Ok(());
+    };
+    match done(rt.alloc(), work.as_str(), rounds) {
+        Ok(count) => println!(rt; "{count}"),
+        Err(refusal) => println!(rt; "{refusal}"),
+    }
+}
