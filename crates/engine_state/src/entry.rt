@@ -12,7 +12,7 @@ use std::sync::Arc;
 struct Told {
     directory: u64,
     name: Bytes,
-    record: Record,
+    made: Record,
 }
 
 /// A record in the history, with the directory and the name of its object. Handles share it.
@@ -27,7 +27,7 @@ impl Model for Entry {
 
     ghost Value = { Held };
 
-    ghost view = { λ a. record { directory = (arc_value a.told).directory; name = (arc_value a.told).name; record_of = (arc_value a.told).record } };
+    ghost view = { λ a. record { directory = (arc_value a.told).directory; name = (arc_value a.told).name; record_of = (arc_value a.told).made } };
 }
 
 impl Entry {
@@ -44,7 +44,7 @@ impl Entry {
             Told {
                 directory,
                 name,
-                record: made,
+                made,
             },
         )?;
         Ok(Entry { told })
@@ -65,7 +65,7 @@ impl Entry {
     pub fn record(&self) -> &Record
         ensures { result.now ≡ self.now.record_of }
     {
-        &self.told.record
+        &self.told.made
     }
 }
 
