@@ -1,12 +1,14 @@
 -- How much is owed to a handle and kept of a target, in the course of two scripts.
-use Rattle.std.specs.Prelude.{◌≡◌, ℕ, [], ◌∷◌, List, Some, None, codes, take}
+use Rattle.std.specs.Prelude.{◌≡◌, ℕ, [], ◌∷◌, ◌++◌, List, Some, None, codes, take}
 use Rattle.pps_types.specs.declared.event.Event.{Event}
+use Rattle.pps_types.specs.declared.event.Request.TheVariants.{Read}
 use Rattle.pps_types.specs.Names.{Path}
 use Rattle.pps_types.specs.Machine.{Machine, start}
 use Rattle.pps_types.specs.Runs.{after}
 use Rattle.pps_types.specs.Owed.{kept, owed_by}
 use Rattle.worked_rows.specs.Scripts.FilteredDeltas.{events as filtered_deltas}
 use Rattle.worked_rows.specs.Scripts.ExactCut.{events as exact_cut}
+use Rattle.worked_rows.specs.Scripts.Words.{◌asks◌}
 
 -- the machine after the first n of these events
 abbrev pub after_first : ℕ → List Event → Machine
@@ -38,3 +40,9 @@ ExactCutKept =
     × (kept (after_first 20 exact_cut) root ≡ Some 3)
     × (kept (after_first 22 exact_cut) root ≡ Some 0)
     × (kept (after_first 22 exact_cut) (codes "none" ∷ []) ≡ None)
+
+-- After the three writes handle 3 reads the first, and then handle 2 reads the first two.
+abbrev pub SlowestKept : Type 0
+SlowestKept =
+    (kept (after (start 1 256) (take 17 exact_cut ++ 3 asks Read 3 10 ∷ [])) gps ≡ Some 3)
+    × (kept (after (start 1 256) (take 17 exact_cut ++ 3 asks Read 3 10 ∷ 2 asks Read 2 20 ∷ [])) gps ≡ Some 2)

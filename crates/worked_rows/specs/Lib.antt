@@ -1,4 +1,5 @@
 pub mod KeptAnswers
 pub mod Limits
+pub mod PrivateTraffic
 pub mod Scripts
 pub mod ShownValues

@@ -1,5 +1,5 @@
 -- Limits that a script would reach only after thousands of messages, at machines that are built close to them.
-use Rattle.std.specs.Prelude.{◌≡◌, ℕ, zero, suc, ◌+◌, ◌-◌, ◌^◌, ◌==◌, List, [], ◌∷◌, ◌++◌, true, false, Option, Some, None, Ok, Err, map, count_by, codes}
+use Rattle.std.specs.Prelude.{◌≡◌, ℕ, zero, suc, ◌+◌, ◌-◌, ◌/◌, ◌%◌, ◌^◌, ◌==◌, List, [], ◌∷◌, ◌++◌, true, false, Option, Some, None, Ok, Err, map, count_by, codes}
 use Rattle.std.specs.Fmt.{decimal}
 use Rattle.pps_types.specs.declared.event.Event.{Event}
 use Rattle.pps_types.specs.declared.event.Request.TheVariants.{Attach, Open as OpenRequest, Read, Write, Mkdir, List as ListRequest, Notify}
@@ -8,10 +8,11 @@ use Rattle.pps_types.specs.declared.event.Mode.{Mode}
 use Rattle.pps_types.specs.declared.outcome.Item.{Item}
 use Rattle.pps_types.specs.declared.outcome.Item.TheVariants.{Pulse}
 use Rattle.pps_types.specs.declared.outcome.Outcome.TheVariants.{Done, Opened as OpenedHandle, Data, Wrote, Parked, Input}
-use Rattle.pps_types.specs.declared.refusal.Refusal.TheVariants.{OutboxFull, TableFull, BadText}
+use Rattle.pps_types.specs.declared.refusal.Refusal.TheVariants.{TooLarge, OutboxFull, TableFull, BadText}
 use Rattle.pps_types.specs.Outcome.{Reply}
 use Rattle.pps_types.specs.declared.handle_kind.HandleKind.TheVariants.{Object as ObjectHandle}
 use Rattle.pps_types.specs.Reading.{Open}
+use Rattle.pps_types.specs.History.{Attribute}
 use Rattle.pps_types.specs.Content.{Object, Content, queue_of}
 use Rattle.pps_types.specs.Plan.{creation, step_seen}
 use Rattle.pps_types.specs.Machine.{Machine, start, shown}
@@ -49,6 +50,28 @@ LastRecord =
     × ((step_seen (with_records (2 ^ 64 - 1)) (1 asks Write 1 (codes "a::1\n"))).0 ≡ Err TableFull)
     × ((step_seen (with_records (2 ^ 64 - 1)) (1 asks Write 1 (codes "9\n"))).0 ≡ Err (BadText 1))
     × ((step_seen (with_records (2 ^ 64 - 1)) (1 asks Write 1 [])).0 ≡ Ok (Wrote 0))
+
+-- ---- attributes
+
+-- so many attributes, all of one length: bbbb, cbbb, dbbb and so on
+abbrev pub letters : ℕ → List ℕ
+letters n = (98 + n % 16) ∷ (98 + n / 16 % 16) ∷ (98 + n / 256 % 16) ∷ (98 + n / 4096) ∷ []
+
+abbrev pub attribute : ℕ → Attribute
+attribute n = record { name = letters n; enc = []; value = []; n = false }
+
+-- connection 1 has the object of handle 1, which has so many attributes
+abbrev pub with_attributes : ℕ → Content
+with_attributes n = record (shown (after (start 1 256) (1 asks Attach ∷ 1 asks OpenRequest creating (codes "/a") ∷ []))) {
+  objects = record { object = record { number = 0; directory = 0; name = codes "a"; nopersist = false; server = None }; attributes = map attribute (counted 0 n) } ∷ [];
+}
+
+abbrev pub ManyAttributes : Type 0
+ManyAttributes =
+    ((step_seen (with_attributes 1023) (1 asks Write 1 (codes "a::1\n"))).0 ≡ Ok (Wrote 5))
+    × ((step_seen (with_attributes 1024) (1 asks Write 1 (codes "a::1\n"))).0 ≡ Err TooLarge)
+    × ((step_seen (with_attributes 1024) (1 asks Write 1 (codes "bbbb::1\n"))).0 ≡ Ok (Wrote 8))
+    × ((step_seen (with_attributes 1024) (1 asks Write 1 (codes "a::1\n-bbbb\n"))).0 ≡ Ok (Wrote 11))
 
 -- ---- a full directory
 

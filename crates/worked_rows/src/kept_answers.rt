@@ -1,5 +1,5 @@
 //! How much is owed to a handle and kept of a target, in the course of two scripts.
-ghost use Rattle.worked_rows.specs.KeptAnswers.{ExactCutKept, FilteredDeltasKept};
+ghost use Rattle.worked_rows.specs.KeptAnswers.{ExactCutKept, FilteredDeltasKept, SlowestKept};
 
 /// Kept is what stands from the oldest record on that is still owed to someone: what a filter hides is counted between
 /// others, and not before them.
@@ -11,4 +11,9 @@ pub fn filtered_deltas_kept()
 /// and not for one that is closed.
 pub fn exact_cut_kept()
     ensures { ExactCutKept }
+{}
+
+/// Of two handles that are owed different records, the one that is behind decides.
+pub fn slowest_kept()
+    ensures { SlowestKept }
 {}

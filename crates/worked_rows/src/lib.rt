@@ -4,5 +4,6 @@
 
 pub mod kept_answers;
 pub mod limits;
+pub mod private_traffic;
 pub mod scripts;
 pub mod shown_values;

@@ -1,5 +1,5 @@
 //! Limits that a script would reach only after thousands of messages, at machines that are built close to them.
-ghost use Rattle.worked_rows.specs.Limits.{FullDirectory, FullOutbox, LastHandle, LastRecord};
+ghost use Rattle.worked_rows.specs.Limits.{FullDirectory, FullOutbox, LastHandle, LastRecord, ManyAttributes};
 
 /// The last handle number is given once, and after it no open is accepted.
 pub fn last_handle()
@@ -20,4 +20,9 @@ pub fn last_record()
 /// is not counted when it is armed again.
 pub fn full_outbox()
     ensures { FullOutbox }
+{}
+
+/// An object has at most 1,024 attributes, judged by what it has after the whole write.
+pub fn many_attributes()
+    ensures { ManyAttributes }
 {}
