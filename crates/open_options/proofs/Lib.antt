@@ -1,0 +1,4 @@
+pub mod Elements
+pub mod Limits
+pub mod Cuts
+pub mod Words

@@ -1,0 +1,4 @@
+pub mod Elements
+pub mod Refused
+pub mod Seen
+pub mod Word

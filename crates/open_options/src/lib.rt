@@ -1,0 +1,14 @@
+//! The texts of opens, a path and options behind `?`, and paths alone.
+#![tactic(auto)]
+
+mod open;
+mod options;
+mod path;
+mod split;
+mod word;
+
+pub use open::{OpenSpec, read_open};
+pub use path::{Path, read_path};
+
+#[cfg(test)]
+mod tests;

@@ -1,0 +1,178 @@
+//! The options of an open.
+ghost use Rattle.std.specs.Prelude.{◌≡◌, IfOk, IfErr, OnOk, false};
+ghost use Rattle.pps_types.specs.Bytes.{plain_pieces, number_up_to};
+ghost use Rattle.pps_types.specs.OpenText as meant;
+ghost use Rattle.pps_filter.specs.Refused.{IsOptionRefusal};
+ghost use Rattle.open_options.specs.Seen.{options_seen};
+ghost use Rattle.open_options.specs.Word.{with_word};
+
+use crate::split::after_prefix;
+use crate::word::{Word, read_word};
+use pps_filter::{Filter, first_plain_piece, read_parts};
+use pps_types::Refusal;
+use std::alloc::Global;
+
+/// The most bytes of options.
+const OPTIONS_MAX: usize = 4_096;
+
+/// The most digits of a limit.
+const LIMIT_DIGITS: usize = 5;
+
+/// The largest limit.
+const LIMIT_MAX: u32 = 65_535;
+
+/// The options of an open, so far.
+#[derive(Debug, Drop)]
+pub(crate) struct Options {
+    pub(crate) delta: bool,
+    pub(crate) deltadir: bool,
+    pub(crate) wait: bool,
+    pub(crate) nopersist: bool,
+    pub(crate) reflect: bool,
+    pub(crate) server: bool,
+    pub(crate) critical: bool,
+    pub(crate) filter: Option<Filter>,
+    pub(crate) limit: Option<u32>,
+}
+
+impl Options {
+    fn new() -> Options
+        ensures { options_seen result ≡ meant.no_options }
+    {
+        Options {
+            delta: false,
+            deltadir: false,
+            wait: false,
+            nopersist: false,
+            reflect: false,
+            server: false,
+            critical: false,
+            filter: None,
+            limit: None,
+        }
+    }
+
+    fn add_word(&mut self, word: Word)
+        ensures { options_seen self.new ≡ with_word (options_seen self.old) word }
+    {
+        match word {
+            Word::Delta => self.delta = true,
+            Word::Deltadir => self.deltadir = true,
+            Word::Wait => self.wait = true,
+            Word::Nopersist => self.nopersist = true,
+            Word::Reflect => self.reflect = true,
+            Word::Server => self.server = true,
+            Word::Critical => self.critical = true,
+        }
+    }
+
+    /// Adds what stands behind `f=`, which may stand once.
+    fn add_filter(&mut self, alloc: Global, text: &[u8]) -> Result<(), Refusal>
+        ensures ok { OnOk result (meant.with_filter (options_seen self.old) text.now
+            ≡ Some (options_seen self.new)) }
+        ensures err { IfErr result (IsOptionRefusal (meant.with_filter (options_seen self.old) text.now)) }
+    {
+        if self.filter.is_some() {
+            return Err(Refusal::BadOption);
+        }
+        self.filter = Some(read_parts(alloc, text)?);
+        Ok(())
+    }
+
+    /// Adds what stands behind `limit=`, which may stand once.
+    fn add_limit(&mut self, text: &[u8]) -> Result<(), Refusal>
+        ensures ok { OnOk result (meant.with_limit (options_seen self.old) text.now
+            ≡ Some (options_seen self.new)) }
+        ensures err { IfErr result (IsOptionRefusal (meant.with_limit (options_seen self.old) text.now)) }
+    {
+        if self.limit.is_some() {
+            return Err(Refusal::BadOption);
+        }
+        let Some(limit) = read_limit(text) else {
+            return Err(Refusal::BadOption);
+        };
+        self.limit = Some(limit);
+        Ok(())
+    }
+
+    /// Adds one option. An empty one says nothing, and a word may stand again.
+    fn add(&mut self, alloc: Global, text: &[u8]) -> Result<(), Refusal>
+        ensures ok { OnOk result (meant.with_option (options_seen self.old) text.now
+            ≡ Some (options_seen self.new)) }
+        ensures err { IfErr result (IsOptionRefusal (meant.with_option (options_seen self.old) text.now)) }
+    {
+        if text.is_empty() {
+            return Ok(());
+        }
+        if let Some(word) = read_word(text) {
+            self.add_word(word);
+            return Ok(());
+        }
+        if let Some(filter) = after_prefix(b"f=", text) {
+            return self.add_filter(alloc, filter);
+        }
+        if let Some(limit) = after_prefix(b"limit=", text) {
+            return self.add_limit(limit);
+        }
+        Err(Refusal::BadOption)
+    }
+
+    /// Whether some of them do not go together, or not with `.all`, or not without it.
+    fn clash(&self, all: bool) -> bool
+        ensures { result ≡ meant.do_options_clash all (options_seen self.now) }
+    {
+        (self.deltadir && (!all || self.delta || self.filter.is_some()))
+            || (all && (self.server || self.critical))
+    }
+}
+
+/// The number of a limit: 1 to 5 digits without a leading zero, at most 65,535.
+fn read_limit(digits: &[u8]) -> Option<u32>
+    ensures { result ≡ number_up_to 5 65535 digits.now }
+{
+    if digits.is_empty() || digits.len() > LIMIT_DIGITS || digits[0] == b'0' {
+        return None;
+    }
+    let mut number = 0u32;
+    for byte in digits {
+        if !byte.is_ascii_digit() {
+            return None;
+        }
+        number = 10 * number + u32::from(*byte - b'0');
+        if number > LIMIT_MAX {
+            return None;
+        }
+    }
+    Some(number)
+}
+
+/// Reads options with a plain comma between each two, in any combination.
+fn read_each(alloc: Global, text: &[u8]) -> Result<Options, Refusal>
+    ensures ok { IfOk result (λ read. meant.options_from meant.no_options (plain_pieces false 44 text.now)
+        ≡ Some (options_seen read)) }
+    ensures err { IfErr result (IsOptionRefusal (meant.options_from meant.no_options (plain_pieces false 44 text.now))) }
+{
+    let mut options = Options::new();
+    let mut rest = Some(text);
+    while let Some(text) = rest {
+        let (option, behind) = first_plain_piece(b',', text);
+        options.add(alloc, option)?;
+        rest = behind;
+    }
+    Ok(options)
+}
+
+/// Reads the options of an open. `all` tells whether its path ends in `.all`.
+pub(crate) fn read_options(alloc: Global, all: bool, text: &[u8]) -> Result<Options, Refusal>
+    ensures ok { IfOk result (λ read. meant.options_text all text.now ≡ Some (options_seen read)) }
+    ensures err { IfErr result (IsOptionRefusal (meant.options_text all text.now)) }
+{
+    if text.len() > OPTIONS_MAX || text.contains(&b'\n') {
+        return Err(Refusal::BadOption);
+    }
+    let options = read_each(alloc, text)?;
+    if options.clash(all) {
+        return Err(Refusal::BadOption);
+    }
+    Ok(options)
+}
