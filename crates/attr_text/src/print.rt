@@ -1,13 +1,25 @@
 //! The one printing of lines and headers.
-ghost use Rattle.std.specs.Prelude.{◌≡◌, ◌+◌, ◌<◌, ◌≤◌, ◌^◌, ◌++◌, true, length, vec_len, vec_capacity, IfOk, IfSome, IfNone, OnErr, IsErrOf, if◌then◌else◌, codes, []};
+ghost use Rattle.std.specs.Prelude.{◌≡◌, ◌+◌, ◌<◌, ◌≤◌, ◌^◌, ◌++◌, true, length, vec_len, vec_capacity, IfOk, IfSome, IfNone, OnErr, IsErrOf, if◌then◌else◌, codes, decimal, []};
 ghost use Rattle.std.specs.Option.{ForSome, option_to_list};
 ghost use Rattle.pps_types.specs.Text as text;
 
-use pps_types::{Line, Refusal};
+use itoa::Buffer;
+use pps_types::{Handle, Line, Refusal};
 use std::alloc::Global;
 
-/// The length of the printing of a line, where it is a length.
-fn checked_line_len(line: &Line) -> Option<usize>
+/// The length of the printing of a line that sets an attribute, where it is a length. It takes no memory.
+pub fn set_len(name: &[u8], enc: &[u8], value: &[u8], n: bool) -> Option<usize>
+    ensures some { IfSome result (λ len. len ≡ length (text.print_line (Line.Set name.now enc.now value.now n))) }
+    ensures none { IfNone result (2 ^ 64 ≤ length (text.print_line (Line.Set name.now enc.now value.now n))) }
+{
+    let marks: usize = if n { 6 } else { 3 };
+    let named = marks.checked_add(name.len())?;
+    let encoded = named.checked_add(enc.len())?;
+    encoded.checked_add(value.len())
+}
+
+/// The length of the printing of a line, where it is a length. It takes no memory.
+pub fn line_len(line: &Line) -> Option<usize>
     ensures some { IfSome result (λ len. len ≡ length (text.print_line line.now)) }
     ensures none { IfNone result (2 ^ 64 ≤ length (text.print_line line.now)) }
 {
@@ -17,22 +29,9 @@ fn checked_line_len(line: &Line) -> Option<usize>
             enc,
             value,
             n,
-        } => {
-            let marks: usize = if *n { 6 } else { 3 };
-            let named = marks.checked_add(name.len())?;
-            let encoded = named.checked_add(enc.len())?;
-            encoded.checked_add(value.len())
-        }
+        } => set_len(name.as_slice(), enc.as_slice(), value.as_slice(), *n),
         Line::Del { name } => name.len().checked_add(2),
     }
-}
-
-/// The length of the printing of a line. It takes no memory.
-pub fn line_len(line: &Line) -> usize
-    requires { length (text.print_line line.now) < 2 ^ 64 }
-    ensures { result ≡ length (text.print_line line.now) }
-{
-    checked_line_len(line).unwrap()
 }
 
 /// Pushes bytes for which there is room.
@@ -57,6 +56,22 @@ fn push_bracket(out: &mut Vec<u8>, n: bool)
     }
 }
 
+/// Pushes the printing of a line that sets an attribute, for which there is room. It takes no memory.
+#[tactic(auto, using(crate::proofs::Regroup::regroup))]
+pub fn push_set(out: &mut Vec<u8>, name: &[u8], enc: &[u8], value: &[u8], n: bool)
+    requires { vec_len out.old + length (text.print_line (Line.Set name.now enc.now value.now n)) ≤ vec_capacity out.old }
+    ensures items { out.new.items ≡ out.old.items ++ text.print_line (Line.Set name.now enc.now value.now n) }
+    ensures capacity { vec_capacity out.old ≤ vec_capacity out.new }
+{
+    push_bracket(out, n);
+    push_bytes(out, name);
+    out.push_reserved(b':');
+    push_bytes(out, enc);
+    out.push_reserved(b':');
+    push_bytes(out, value);
+    out.push_reserved(b'\n');
+}
+
 /// Pushes the printing of a line, for which there is room. It takes no memory.
 #[tactic(auto, using(crate::proofs::Regroup::regroup))]
 pub fn push_line(out: &mut Vec<u8>, line: &Line)
@@ -70,15 +85,7 @@ pub fn push_line(out: &mut Vec<u8>, line: &Line)
             enc,
             value,
             n,
-        } => {
-            push_bracket(out, *n);
-            push_bytes(out, name.as_slice());
-            out.push_reserved(b':');
-            push_bytes(out, enc.as_slice());
-            out.push_reserved(b':');
-            push_bytes(out, value.as_slice());
-            out.push_reserved(b'\n');
-        }
+        } => push_set(out, name.as_slice(), enc.as_slice(), value.as_slice(), *n),
         Line::Del { name } => {
             out.push_reserved(b'-');
             push_bytes(out, name.as_slice());
@@ -92,14 +99,14 @@ pub fn print_line(alloc: Global, line: &Line) -> Result<Vec<u8>, Refusal>
     ensures ok { IfOk result (λ printed. printed.items ≡ text.print_line line.now) }
     ensures err { OnErr result (IsErrOf result Refusal.OutOfMemory) }
 {
-    let len = checked_line_len(line).ok_or(Refusal::OutOfMemory)?;
+    let len = line_len(line).ok_or(Refusal::OutOfMemory)?;
     let mut out = Vec::with_capacity(alloc, len)?;
     push_line(&mut out, line);
     Ok(out)
 }
 
-/// The length of the printing of a header, where it is a length.
-fn checked_header_len(mark: Option<u8>, name: &[u8]) -> Option<usize>
+/// The length of the printing of a header, where it is a length. It takes no memory.
+pub fn header_len(mark: Option<u8>, name: &[u8]) -> Option<usize>
     ensures some { IfSome result (λ len. len ≡ length (text.print_header (option_to_list mark) name.now)) }
     ensures none { IfNone result (2 ^ 64 ≤ length (text.print_header (option_to_list mark) name.now)) }
 {
@@ -107,12 +114,17 @@ fn checked_header_len(mark: Option<u8>, name: &[u8]) -> Option<usize>
     marks.checked_add(name.len())
 }
 
-/// The length of the printing of a header. It takes no memory.
-pub fn header_len(mark: Option<u8>, name: &[u8]) -> usize
-    requires { length (text.print_header (option_to_list mark) name.now) < 2 ^ 64 }
-    ensures { result ≡ length (text.print_header (option_to_list mark) name.now) }
+/// Pushes the mark of a header, if there is one, and `@`, for which there is room.
+fn push_mark(out: &mut Vec<u8>, mark: Option<u8>)
+    requires { vec_len out.old + length (option_to_list mark ++ codes "@") ≤ vec_capacity out.old }
+    ensures items { out.new.items ≡ out.old.items ++ option_to_list mark ++ codes "@" }
+    ensures len { vec_len out.new ≡ vec_len out.old + length (option_to_list mark ++ codes "@") }
+    ensures capacity { vec_capacity out.old ≤ vec_capacity out.new }
 {
-    checked_header_len(mark, name).unwrap()
+    if let Some(byte) = mark {
+        out.push_reserved(byte);
+    }
+    out.push_reserved(b'@');
 }
 
 /// Pushes the printing of a header, for which there is room: the mark, if there is one, `@` and the name. It takes no memory.
@@ -122,10 +134,7 @@ pub fn push_header(out: &mut Vec<u8>, mark: Option<u8>, name: &[u8])
     ensures items { out.new.items ≡ out.old.items ++ text.print_header (option_to_list mark) name.now }
     ensures capacity { vec_capacity out.old ≤ vec_capacity out.new }
 {
-    if let Some(byte) = mark {
-        out.push_reserved(byte);
-    }
-    out.push_reserved(b'@');
+    push_mark(out, mark);
     push_bytes(out, name);
     out.push_reserved(b'\n');
 }
@@ -137,8 +146,37 @@ pub fn print_header(alloc: Global, mark: Option<u8>, name: &[u8]) -> Result<Vec<
     ensures ok { IfOk result (λ printed. printed.items ≡ text.print_header (option_to_list mark) name.now) }
     ensures err { OnErr result (IsErrOf result Refusal.OutOfMemory) }
 {
-    let len = checked_header_len(mark, name).ok_or(Refusal::OutOfMemory)?;
+    let len = header_len(mark, name).ok_or(Refusal::OutOfMemory)?;
     let mut out = Vec::with_capacity(alloc, len)?;
     push_header(&mut out, mark, name);
     Ok(out)
+}
+
+/// The length of the printing of a header of a server's client, where it is a length. It takes no memory.
+pub fn client_header_len(mark: Option<u8>, name: &[u8], client: Handle) -> Option<usize>
+    ensures some { IfSome result (λ len. len ≡ length (text.print_header (option_to_list mark) (name.now ++ codes "." ++ decimal client))) }
+    ensures none { IfNone result (2 ^ 64 ≤ length (text.print_header (option_to_list mark) (name.now ++ codes "." ++ decimal client))) }
+{
+    let mut buffer = Buffer::new();
+    let digits = buffer.format(client.number());
+    let marks: usize = if mark.is_some() { 4 } else { 3 };
+    (marks + digits.len()).checked_add(name.len())
+}
+
+/// Pushes the printing of a header of a server's client, for which there is room: the mark, if there is one, `@`, the
+/// object's name, a dot and the client's number. It takes no memory.
+#[tactic(auto, using(crate::proofs::Regroup::regroup))]
+pub fn push_client_header(out: &mut Vec<u8>, mark: Option<u8>, name: &[u8], client: Handle)
+    requires marked { ForSome mark (λ byte. text.is_header_mark byte ≡ true) }
+    requires room { vec_len out.old + length (text.print_header (option_to_list mark) (name.now ++ codes "." ++ decimal client)) ≤ vec_capacity out.old }
+    ensures items { out.new.items ≡ out.old.items ++ text.print_header (option_to_list mark) (name.now ++ codes "." ++ decimal client) }
+    ensures capacity { vec_capacity out.old ≤ vec_capacity out.new }
+{
+    let mut buffer = Buffer::new();
+    let digits = buffer.format(client.number());
+    push_mark(out, mark);
+    push_bytes(out, name);
+    out.push_reserved(b'.');
+    push_bytes(out, digits.as_bytes());
+    out.push_reserved(b'\n');
 }

@@ -1,5 +1,5 @@
 use super::*;
-use pps_types::{Bytes, Line, Mark, Refusal, Shown, WriteLine};
+use pps_types::{Bytes, Handle, Line, Mark, Refusal, Shown, WriteLine};
 use std::alloc::{AllocError, Global};
 use std::test::Fail;
 
@@ -166,11 +166,15 @@ fn prints_lines(rt: HostRuntime) -> Result<(), Fail> {
     let line = Line::Del {
         name: bytes(rt.alloc(), b"gone")?,
     };
-    assert_eq!(rt; line_len(&line), 6);
+    assert_eq!(rt; line_len(&line), Some(6));
     let mut out = Vec::with_capacity(rt.alloc(), 7)?;
     out.push(b'.')?;
     push_line(&mut out, &line);
     assert!(rt; out.as_slice() == b".-gone\n".as_slice());
+    assert_eq!(rt; set_len(b"a", b"", b"1", true), Some(8));
+    let mut out = Vec::with_capacity(rt.alloc(), 8)?;
+    push_set(&mut out, b"a", b"", b"1", true);
+    assert!(rt; out.as_slice() == b"[n]a::1\n".as_slice());
     Ok(())
 }
 
@@ -188,11 +192,16 @@ fn prints_headers(rt: HostRuntime) -> Result<(), Fail> {
         let printed = print_header(rt.alloc(), mark, b"x")?;
         assert!(rt; printed.as_slice() == wanted, "at {wanted:?}");
     }
-    assert_eq!(rt; header_len(None, b"object"), 8);
+    assert_eq!(rt; header_len(None, b"object"), Some(8));
     let mut out = Vec::with_capacity(rt.alloc(), 10)?;
     out.push(b'.')?;
     push_header(&mut out, Some(b'+'), b"object");
     assert!(rt; out.as_slice() == b".+@object\n".as_slice());
+    let client = Handle::new(12);
+    assert_eq!(rt; client_header_len(Some(b'-'), b"object", client), Some(12));
+    let mut out = Vec::with_capacity(rt.alloc(), 12)?;
+    push_client_header(&mut out, Some(b'-'), b"object", client);
+    assert!(rt; out.as_slice() == b"-@object.12\n".as_slice());
     Ok(())
 }
 

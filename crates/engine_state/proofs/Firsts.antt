@@ -1,5 +1,6 @@
 -- The first of a list that passes, by its place.
 use Rattle.std.proofs.Common.{◌≡◌, ℕ, zero, suc, ◌+◌, ◌≤◌, ◌<◌, Bool, true, false, cond, not, List, [], ◌∷◌, ◌++◌, length, take, drop, set, get_or, refl, ap, arith}
+use Rattle.std.specs.Prelude.{Option, Some, None, find}
 use Rattle.std.specs.List.{position_or_len}
 use Rattle.pps_types.specs.Bytes.{same}
 use Rattle.pps_types.specs.History.{Attribute, put}
@@ -24,6 +25,25 @@ module _ {X : Type 0} (test : X → Bool) where
       by : (length xs ≤ position_or_len test xs → on_first test change xs ≡ xs) → (b : Bool) → suc (length xs) ≤ cond (not b) (1 + position_or_len test xs) 0 → cond b (change x ∷ xs) (x ∷ on_first test change xs) ≡ x ∷ xs
       by rec true le = absurd (omega arith)
       by rec false le = ap (λ ys. x ∷ ys) (rec (omega arith))
+
+  pub found_at : (d : X) (xs : List X) (i : ℕ) → position_or_len test xs ≡ i → i < length xs → find test xs ≡ Some (get_or xs i d)
+  found_at d [] i at lt = absurd (omega arith)
+  found_at d (x ∷ xs) i at lt = by (found_at d xs) (test x) i at lt
+    where
+      by : ((i : ℕ) → position_or_len test xs ≡ i → i < length xs → find test xs ≡ Some (get_or xs i d))
+          → (b : Bool) (i : ℕ) → cond (not b) (1 + position_or_len test xs) 0 ≡ i → i < suc (length xs) → cond b (Some x) (find test xs) ≡ Some (get_or (x ∷ xs) i d)
+      by rec true zero at lt = refl
+      by rec true (suc i) at lt = absurd (omega arith)
+      by rec false zero at lt = absurd (omega arith)
+      by rec false (suc i) at lt = rec i (omega arith) (omega arith)
+
+  pub found_nowhere : (xs : List X) → length xs ≤ position_or_len test xs → find test xs ≡ None
+  found_nowhere [] le = refl
+  found_nowhere (x ∷ xs) le = by (found_nowhere xs) (test x) le
+    where
+      by : (length xs ≤ position_or_len test xs → find test xs ≡ None) → (b : Bool) → suc (length xs) ≤ cond (not b) (1 + position_or_len test xs) 0 → cond b (Some x) (find test xs) ≡ None
+      by rec true le = absurd (omega arith)
+      by rec false le = rec (omega arith)
 
   pub taken_at : (xs : List X) (i : ℕ) → position_or_len test xs ≡ i → i < length xs → without_first test xs ≡ take i xs ++ drop (suc i) xs
   taken_at [] i at lt = absurd (omega arith)

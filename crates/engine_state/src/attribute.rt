@@ -115,7 +115,8 @@ fn drop_nonpersistent(attributes: &mut Vec<Attribute>)
     attributes.retain(|a| !a.is_nonpersistent());
 }
 
-fn apply_line(alloc: Global, attributes: &mut Vec<Attribute>, line: &Line) -> Result<(), AllocError>
+/// What a line makes of the attributes.
+pub fn apply_line(alloc: Global, attributes: &mut Vec<Attribute>, line: &Line) -> Result<(), AllocError>
     ensures { OnOk result (attributes.new.items ≡ history.apply_line attributes.old.items line.now) }
 {
     match line {

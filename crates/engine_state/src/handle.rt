@@ -1,5 +1,6 @@
 //! Open handles: what each has still to be given, and what it was opened as.
 ghost use Rattle.std.specs.Prelude.{◌≡◌, ◌≤◌, ◌&&◌, length, drop, filter, if◌then◌else◌, IfOk, OnOk, Some, None, is_some};
+ghost use Rattle.std.specs.Option.{option_copied};
 ghost use Rattle.pps_types.specs.Reading as reading;
 ghost use Rattle.pps_types.specs.Content as content;
 ghost use Rattle.pps_types.specs.Plan as planning;
@@ -149,6 +150,53 @@ impl Open {
         ensures { result ≡ self.now.kind }
     {
         self.kind
+    }
+
+    /// The name of its target, where that is an object.
+    pub fn name(&self) -> &[u8]
+        ensures { result.now ≡ self.now.name }
+    {
+        self.name.as_slice()
+    }
+
+    pub fn reads(&self) -> bool
+        ensures { result ≡ self.now.reads }
+    {
+        self.reads
+    }
+
+    pub fn writes(&self) -> bool
+        ensures { result ≡ self.now.writes }
+    {
+        self.writes
+    }
+
+    /// `wait`: a read that finds nothing new is parked.
+    pub fn waits(&self) -> bool
+        ensures { result ≡ self.now.wait }
+    {
+        self.wait
+    }
+
+    /// `critical`: when it closes, its object's nonpersistent attributes go with it.
+    pub fn is_critical(&self) -> bool
+        ensures { result ≡ self.now.critical }
+    {
+        self.critical
+    }
+
+    /// Which lines it is shown. Without it, all.
+    pub fn filter(&self) -> Option<&Filter>
+        ensures { option_copied result ≡ self.now.filter }
+    {
+        self.filter.as_ref()
+    }
+
+    /// How many records it may be owed in delta mode, or messages as a server or client.
+    pub fn limit(&self) -> u32
+        ensures { result ≡ self.now.limit }
+    {
+        self.limit
     }
 
     // Whether the record was made by this handle.

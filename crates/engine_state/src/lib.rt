@@ -12,7 +12,7 @@ mod queue;
 mod sight;
 mod state;
 
-pub use attribute::Attribute;
+pub use attribute::{Attribute, apply_line};
 pub use copies::{Copied, copy_all};
 pub use entry::Entry;
 pub use handle::{Open, Opening, Parked, Pulse, Seen};

@@ -1,5 +1,5 @@
 //! Connections and their queues. A place in a queue can be had before its item is known, so that queueing takes no memory.
-ghost use Rattle.std.specs.Prelude.{◌≡◌, ◌∷◌, ◌++◌, [], IfOk};
+ghost use Rattle.std.specs.Prelude.{◌≡◌, ◌∷◌, ◌++◌, [], IfOk, length, min};
 ghost use Rattle.std.specs.Option.{option_copied};
 ghost use Rattle.pps_types.specs.Outbox.{first_of, behind_first};
 
@@ -79,6 +79,19 @@ impl Queue {
         match &self.first {
             Link::End => None,
             Link::More(item, _) => Some(item),
+        }
+    }
+
+    /// How many items there are, counted up to that many.
+    pub fn len_up_to(&self, most: usize) -> usize
+        ensures { result ≡ min (length self.now) most }
+    {
+        if most == 0 {
+            return 0;
+        }
+        match &self.first {
+            Link::End => 0,
+            Link::More(_, rest) => 1 + rest.len_up_to(most - 1),
         }
     }
 

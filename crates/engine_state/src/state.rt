@@ -1,5 +1,5 @@
 //! What stands, and what each move makes of it.
-ghost use Rattle.std.specs.Prelude.{◌≡◌, ◌++◌, ◌∷◌, [], ◌+◌, ◌-◌, ◌<◌, ◌≤◌, ◌==◌, ◌^◌, ℕ, List, IfOk, OnOk, IfErr, Some, None, is_some, not, ◌⊎◌, find, filter, length, map, take, drop};
+ghost use Rattle.std.specs.Prelude.{◌≡◌, ◌++◌, ◌∷◌, [], ◌+◌, ◌-◌, ◌<◌, ◌≤◌, ◌==◌, ◌^◌, ℕ, List, IfOk, OnOk, IfErr, Some, None, is_some, false, not, ◌⊎◌, find, filter, length, map, take, drop};
 ghost use Rattle.std.specs.Option.{option_copied, option_map_or};
 ghost use Rattle.std.specs.List.{position_or_len, filter_map};
 ghost use Rattle.pps_types.specs.Outbox as outboxes;
@@ -16,6 +16,7 @@ use crate::entry::Entry;
 use crate::handle::{Open, Opening, Pulse};
 use crate::names::{Directory, Known};
 use crate::queue::{Connection, Slot};
+use crate::sight::is_directory_kind;
 use pps_types::{Bytes, Conn, Handle, Item, Kind, Refusal};
 use std::alloc::{AllocError, Global};
 use std::marker::Model;
@@ -110,6 +111,12 @@ fn handle_numbered(handles: &[Open], number: Handle) -> Option<&Open>
     handles.iter().find(|h| h.number() == number)
 }
 
+fn object_numbered(objects: &[Known], number: u64) -> Option<&Known>
+    ensures { option_copied result ≡ find (λ (o : content.Known). o.object.number == number) objects.now }
+{
+    objects.iter().find(|o| o.number() == number)
+}
+
 // Takes the connection of that number out.
 fn remove_connection(connections: &mut Vec<Connection>, number: Conn) -> Option<Connection>
     ensures { connections.new.items ≡ planning.without_connection number connections.old.items }
@@ -202,7 +209,8 @@ fn park_one(handles: &mut [Open], number: Handle, size: u32, slot: Slot)
 }
 
 fn unpark_one(handles: &mut [Open], number: Handle) -> Option<Slot>
-    ensures { handles.new ≡ planning.on_numbered number (λ h. record h { parked = None }) handles.old }
+    ensures slot { is_some result ≡ option_map_or (λ (h : reading.Open reading.Seen). is_some h.parked) (find (λ (h : reading.Open reading.Seen). h.number == number) handles.old) false }
+    ensures parked { handles.new ≡ planning.on_numbered number (λ h. record h { parked = None }) handles.old }
 {
     let place = place_of_handle(handles, number);
     if place >= handles.len() {
@@ -313,6 +321,13 @@ impl State {
         self.objects.as_slice()
     }
 
+    /// The alive object of that number, if there is one.
+    pub fn object(&self, number: u64) -> Option<&Known>
+        ensures { option_copied result ≡ content.object_numbered self.now number }
+    {
+        object_numbered(self.objects.as_slice(), number)
+    }
+
     /// The directories, the root among them.
     pub fn directories(&self) -> &[Directory]
         ensures { result.now ≡ self.now.directories }
@@ -348,6 +363,27 @@ impl State {
         self.next_handle
     }
 
+    /// The number that the next directory gets.
+    pub fn next_directory(&self) -> u64
+        ensures { result ≡ self.now.next_directory }
+    {
+        self.next_directory
+    }
+
+    /// The attached connections.
+    pub fn connections(&self) -> &[Connection]
+        ensures { result.now ≡ self.now.connections }
+    {
+        self.connections.as_slice()
+    }
+
+    /// How many records there were so far.
+    pub fn records(&self) -> u64
+        ensures { result ≡ self.now.records }
+    {
+        self.records
+    }
+
     /// The connection of that number, if it is attached.
     pub fn connection(&self, number: Conn) -> Option<&Connection>
         ensures { option_copied result ≡ content.connection_numbered self.now number }
@@ -355,11 +391,34 @@ impl State {
         connection_numbered(self.connections.as_slice(), number)
     }
 
+    /// Whether the connection of that number is attached.
+    pub fn is_attached(&self, number: Conn) -> bool
+        ensures { result ≡ content.is_attached self.now number }
+    {
+        self.connection(number).is_some()
+    }
+
+    /// All of its numbers are below 2^64, so none is past the last.
+    pub fn has_numbers(&self)
+        ensures { planning.passes_last_number self.now ≡ false }
+    {
+        let _records = self.records;
+        let _next_object = self.next_object;
+        let _next_directory = self.next_directory;
+    }
+
     /// The handle of that number, if it is open.
     pub fn handle(&self, number: Handle) -> Option<&Open>
         ensures { option_copied result ≡ content.handle_numbered self.now number }
     {
         handle_numbered(self.handles.as_slice(), number)
+    }
+
+    /// Whether the handle's target is an object that is deleted.
+    pub fn is_target_dead(&self, h: &Open) -> bool
+        ensures { result ≡ content.target_is_dead self.now h.now }
+    {
+        !is_directory_kind(h.kind()) && self.object(h.target()).is_none()
     }
 
     /// A connection attaches.
@@ -413,9 +472,10 @@ impl State {
         park_one(self.handles.as_mut_slice(), number, size, slot);
     }
 
-    /// The read of a handle waits no longer.
+    /// The read of a handle waits no longer. The place in the queue is handed back, if one waited.
     pub fn unpark(&mut self, number: Handle) -> Option<Slot>
-        ensures { self.new ≡ planning.apply_seen (planning.Parks number None) self.old }
+        ensures slot { is_some result ≡ option_map_or (λ h. is_some h.parked) (content.handle_numbered self.old number) false }
+        ensures parked { self.new ≡ planning.apply_seen (planning.Parks number None) self.old }
     {
         unpark_one(self.handles.as_mut_slice(), number)
     }

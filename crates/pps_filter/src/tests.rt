@@ -1,4 +1,4 @@
-use crate::{Filter, first_plain_piece, matches, read_filter, read_parts};
+use crate::{Filter, first_plain_piece, matches, matches_set, read_filter, read_parts};
 use pps_types::{Bytes, Line, Refusal};
 use std::alloc::Global;
 use std::test::Fail;
@@ -59,6 +59,25 @@ fn values_are_compared(rt: HostRuntime) -> Result<(), Fail> {
             "{text:?} at {value:?}"
         );
         assert!(rt; matches(None, &line));
+    }
+    Ok(())
+}
+
+#[test]
+fn sets_are_matched_without_a_line(rt: HostRuntime) -> Result<(), Fail> {
+    let filter = read_filter(rt.alloc(), b"speed>60+city")?;
+    for (name, value, wanted) in [
+        (b"speed".as_slice(), b"61".as_slice(), true),
+        (b"speed", b"60", false),
+        (b"city", b"60", true),
+        (b"town", b"61", false),
+    ] {
+        assert_eq!(rt;
+            matches_set(Some(&filter), name, value),
+            wanted,
+            "{name:?} at {value:?}"
+        );
+        assert!(rt; matches_set(None, name, value));
     }
     Ok(())
 }

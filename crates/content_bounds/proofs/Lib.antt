@@ -1,0 +1,11 @@
+pub mod Lists
+pub mod Rising
+pub mod Moves
+pub mod Texts
+pub mod Owners
+pub mod Effects
+pub mod Paths
+pub mod Opens
+pub mod Replies
+pub mod Events
+pub mod Refusals

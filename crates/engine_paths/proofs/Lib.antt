@@ -1,0 +1,4 @@
+pub mod Ends
+pub mod Ways
+pub mod Lists
+pub mod OnPath

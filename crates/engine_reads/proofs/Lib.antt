@@ -1,0 +1,6 @@
+pub mod Kept
+pub mod Sorted
+pub mod ByKind
+pub mod Blocks
+pub mod Texts
+pub mod Listings

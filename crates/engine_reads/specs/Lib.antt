@@ -1,0 +1,6 @@
+pub mod Face
+pub mod Printing
+pub mod Owed
+pub mod Listed
+pub mod Everything
+pub mod Measure

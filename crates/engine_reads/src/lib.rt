@@ -1,0 +1,23 @@
+//! What handles read: blocks, everything, and the answer to a read.
+#![tactic(auto)]
+
+mod answer;
+mod block;
+mod everything;
+mod face;
+mod lengths;
+mod measuring;
+mod members;
+mod names;
+mod owed;
+mod print;
+mod table;
+mod text;
+
+pub use answer::Measure;
+pub use measuring::measure;
+pub use names::listing;
+pub use text::text_of;
+
+#[cfg(test)]
+mod tests;

@@ -1,0 +1,2 @@
+pub mod Addressed
+pub mod Written

@@ -1,0 +1,91 @@
+//! Whom the header of a text names.
+ghost use Rattle.std.specs.Prelude.{◌≡◌, ◌++◌, codes, not, false};
+ghost use Rattle.std.specs.Option.{option_copied, option_map_or};
+ghost use Rattle.pps_types.specs.Bytes as words;
+ghost use Rattle.pps_types.specs.Checks as checking;
+ghost use Rattle.engine_writes.specs.Addressed.{addressee_of};
+
+use pps_types::Bytes;
+
+/// The most digits of an identifier.
+const ID_DIGITS: usize = 10;
+
+/// The largest identifier.
+const ID_MAX: u64 = 4_294_967_295;
+
+/// Whom a message of a server is for.
+#[derive(Clone, Copy, Debug, PartialEq, Eq)]
+pub(crate) enum Recipient {
+    /// All clients of its object.
+    Everyone,
+    /// The client of that number.
+    OneClient(u32),
+    Nobody,
+}
+
+/// Whether there is a header that is not the object's own name.
+pub(crate) fn is_foreign(name: &[u8], header: Option<&Bytes>) -> bool
+    ensures { result ≡ option_map_or (λ h. not (words.same h name.now)) (option_copied header.entry) false }
+{
+    match header {
+        None => false,
+        Some(header) => header.as_slice() != name,
+    }
+}
+
+// What follows a prefix.
+fn after_prefix<'a>(prefix: &[u8], bytes: &'a [u8]) -> Option<&'a [u8]>
+    ensures { option_copied result ≡ words.after_prefix prefix.now bytes.now }
+{
+    bytes.strip_prefix(prefix)
+}
+
+// What follows an object's name and a dot.
+#[tactic(auto, using(crate::proofs::Prefixes::after_prefix_joined))]
+fn after_name<'a>(name: &[u8], header: &'a [u8]) -> Option<&'a [u8]>
+    ensures { option_copied result ≡ words.after_prefix (name.now ++ codes ".") header.now }
+{
+    match after_prefix(name, header) {
+        None => None,
+        Some(rest) => after_prefix(b".", rest),
+    }
+}
+
+// An identifier: 1 to 10 digits without a leading zero, at most 4,294,967,295.
+fn read_id(digits: &[u8]) -> Option<u32>
+    ensures { result ≡ words.number_up_to 10 4294967295 digits.now }
+{
+    if digits.is_empty() || digits.len() > ID_DIGITS || digits[0] == b'0' {
+        return None;
+    }
+    let mut number = 0u64;
+    'digits: for byte in digits {
+        if !byte.is_ascii_digit() {
+            return None;
+        }
+        number = 10 * number + u64::from(*byte - b'0');
+        if number > ID_MAX {
+            return None;
+        }
+    }
+    Some(number as u32)
+}
+
+/// Whom the header of a server's text names, where the object has that name: `@name` all clients, and `@name.id` one.
+pub(crate) fn addressee(name: &[u8], header: Option<&Bytes>) -> Recipient
+    ensures { addressee_of result ≡ checking.addressee name.now (option_copied header.entry) }
+{
+    let Some(header) = header else {
+        return Recipient::Everyone;
+    };
+    if header.as_slice() == name {
+        return Recipient::Everyone;
+    }
+    let Some(digits) = after_name(name, header.as_slice()) else {
+        return Recipient::Nobody;
+    };
+    match read_id(digits) {
+        None => Recipient::Nobody,
+        Some(id) => Recipient::OneClient(id),
+    }
+}
