@@ -7,8 +7,8 @@ mod read;
 mod show;
 
 pub use print::{
-    client_header_len, header_len, line_len, print_header, print_line, push_client_header, push_header, push_line, push_set,
-    set_len,
+    client_header_len, header_len, line_len, print_header, print_line, push_client_header,
+    push_header, push_line, push_set, set_len,
 };
 pub use read::{WRITE_LIMIT, WriteLines, WriteText, read_write};
 pub use show::show_value;

@@ -155,9 +155,13 @@ parting-fit c h (DirectoryHandle delta) b low d same = tt
 parting-fit c h NamesHandle b low d same = tt
 
 pub closing-fit : (c : Content) (h : Open Seen) → IsBound c → h.number < 2 ^ 32 → AreFit c (closing c h)
-closing-fit c h b low = (tt, elim (is_some h.parked) as (λ k. AreFit (apply_seen (Closes h.number) c) ((cond k (Queues h.connection (ReadDone h.number (Err BadHandle)) ∷ []) []) ++ parting c h h.kind))
-    [ true ↦ (tt, parting-fit c h h.kind b low (apply_seen (Queues h.connection (ReadDone h.number (Err BadHandle))) (apply_seen (Closes h.number) c)) refl)
-    | false ↦ parting-fit c h h.kind b low (apply_seen (Closes h.number) c) refl ])
+closing-fit c h b low = (
+  tt,
+  elim (is_some h.parked) as (λ k. AreFit (apply_seen (Closes h.number) c) ((cond k (Queues h.connection (ReadDone h.number (Err BadHandle)) ∷ []) []) ++ parting c h h.kind)) [
+    | true ↦ (tt, parting-fit c h h.kind b low (apply_seen (Queues h.connection (ReadDone h.number (Err BadHandle))) (apply_seen (Closes h.number) c)) refl)
+    | false ↦ parting-fit c h h.kind b low (apply_seen (Closes h.number) c) refl
+  ],
+)
 
 pub closings-fit : (hs : List (Open Seen)) (c : Content) → IsBound c → AllByRecursion (λ h. h.number < 2 ^ 32) hs → AreFit c (closings c hs)
 closings-fit [] c b low = tt
@@ -168,5 +172,5 @@ closings-fit (h ∷ hs) c b low =
 pub leaving-fit : (c : Content) (conn : ℕ) → IsBound c → AreFit c (closings c (handles_of c conn) ++ Leaves conn ∷ [])
 leaving-fit c conn b = fit-append (closings c (handles_of c conn)) (Leaves conn ∷ []) c
     (closings-fit (handles_of c conn) c b (all-filter (λ (h : Open Seen). h.number < 2 ^ 32) (λ h. h.connection == conn) c.handles
-        (all-weaken {P = λ (h : Open Seen). h.number < c.next_handle} {Q = λ (h : Open Seen). h.number < 2 ^ 32} (λ h below. omega (arith, below, b.handles_end)) c.handles (rising-below (λ (h : Open Seen). h.number) 0 c.next_handle c.handles b.handles_rise))))
+    (all-weaken {P = λ (h : Open Seen). h.number < c.next_handle} {Q = λ (h : Open Seen). h.number < 2 ^ 32} (λ h below. omega (arith, below, b.handles_end)) c.handles (rising-below (λ (h : Open Seen). h.number) 0 c.next_handle c.handles b.handles_rise))))
     (tt, tt)

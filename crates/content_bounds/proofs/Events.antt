@@ -120,13 +120,14 @@ listing-length c path b = go (directory_at c path)
     sized os all few =
         let es : List (List ℕ × List ℕ) = map {B = List ℕ × List ℕ} (λ (o : Known). (o.object.name, [])) os ++ map {B = List ℕ × List ℕ} (λ (d : Directory). (last_name d.path, codes "/")) (subdirectories c path) in
         let listed = all-append IsListed (map {B = List ℕ × List ℕ} (λ (o : Known). (o.object.name, [])) os) (map {B = List ℕ × List ℕ} (λ (d : Directory). (last_name d.path, codes "/")) (subdirectories c path)) (objects-listed os all)
-            (directories-listed (subdirectories c path) (all-filter (λ (d : Directory). length (last_name d.path) ≤ 255) (λ d. not (same_path d.path []) && same_path (parent d.path) path) c.directories b.directories)) in
+        (directories-listed (subdirectories c path) (all-filter (λ (d : Directory). length (last_name d.path) ≤ 255) (λ d. not (same_path d.path []) && same_path (parent d.path) path) c.directories b.directories)) in
         let most = names-length (λ (e : List ℕ × List ℕ). e.0 ++ e.1 ++ (10 ∷ [])) IsListed listed-length (sorted_by name_cmp (λ (e : List ℕ × List ℕ). e.0) es) (all-sorted IsListed name_cmp (λ (e : List ℕ × List ℕ). e.0) es listed) in
         let same = sorted-length name_cmp (λ (e : List ℕ × List ℕ). e.0) es in
         let joined = length-append (map {B = List ℕ × List ℕ} (λ (o : Known). (o.object.name, [])) os) (map {B = List ℕ × List ℕ} (λ (d : Directory). (last_name d.path, codes "/")) (subdirectories c path)) in
         let first = length-map {B = List ℕ × List ℕ} os (λ (o : Known). (o.object.name, [])) in
         let second = length-map {B = List ℕ × List ℕ} (subdirectories c path) (λ (d : Directory). (last_name d.path, codes "/")) in
         omega (arith, most, same, joined, first, second, few, b.branches path)
+
     go : (o : Option Directory) → length (concat (map (λ (e : List ℕ × List ℕ). e.0 ++ e.1 ++ (10 ∷ [])) (sorted_by name_cmp (λ (e : List ℕ × List ℕ). e.0) (map {B = List ℕ × List ℕ} (λ (o : Known). (o.object.name, [])) (option_map_or (λ (d : Directory). members c d.number) o []) ++ map {B = List ℕ × List ℕ} (λ (d : Directory). (last_name d.path, codes "/")) (subdirectories c path))))) ≤ 17000000
     go None = sized [] tt (omega arith)
     go (Some d) = sized (members c d.number) (all-sorted IsBoundObject name_cmp (λ (o : Known). o.object.name) (filter (λ o. o.object.directory == d.number) c.objects) (all-filter IsBoundObject (λ o. o.object.directory == d.number) c.objects b.objects)) (let same = members-crowd c d.number in omega (arith, same, b.crowds d.number))
@@ -155,6 +156,7 @@ effect-sendable c conn (Write handle bytes) b p = on (handle_numbered c handle)
     go : (h : Open Seen) (r : Result WriteText Refusal) → IsSendable (Ok (with_result r (λ text. (Outcome.Wrote (length bytes), writing c h text))).0)
     go h (Ok text) = tt
     go h (Err r) = tt
+
     on : (o : Option (Open Seen)) → IsSendable (Ok (option_map_or {U = Outcome × List Move} (λ h. with_result (write_text bytes) (λ text. (Outcome.Wrote (length bytes), writing c h text))) o (Outcome.Done, [])).0)
     on None = tt
     on (Some h) = go h (write_text bytes)
@@ -197,6 +199,7 @@ step-keeps c b e = go (first_refusal (all_checks_of c e)) refl
   where
     done : Outcome × List Move
     done = effect c e.conn e.request
+
     go : (o : Option Refusal) → first_refusal (all_checks_of c e) ≡ o → IsBound (apply_all_seen (decided c done o).1 c)
     go (Some r) p = b
     go None p =
@@ -210,14 +213,25 @@ step-sends c b e = go (first_refusal (all_checks_of c e)) refl
   where
     done : Outcome × List Move
     done = effect c e.conn e.request
+
     go : (o : Option Refusal) → first_refusal (all_checks_of c e) ≡ o → IsSendable (decided c done o).0
     go (Some r) p = tt
     go None p = effect-sendable c e.conn e.request b (passes-both (checks c e.conn e.request) (Refuse (passes_last_number (apply_all_seen done.1 c)) Refusal.TableFull ∷ []) p).0
 
 start-bound : (first_handle default_limit : ℕ) → first_handle ≤ 4294967296 → IsBound (shown (start first_handle default_limit))
 start-bound first_handle default_limit le = record {
-    handles_rise = omega arith; handles_end = le; objects_rise = omega arith; objects = tt; crowds = λ directory. omega arith; root = ((refl, refl), tt); directories_follow = omega arith;
-    directories = (omega arith, tt); branches = λ path. omega arith; handles = tt; queues = tt }
+  handles_rise = omega arith;
+  handles_end = le;
+  objects_rise = omega arith;
+  objects = tt;
+  crowds = λ directory. omega arith;
+  root = ((refl, refl), tt);
+  directories_follow = omega arith;
+  directories = (omega arith, tt);
+  branches = λ path. omega arith;
+  handles = tt;
+  queues = tt;
+}
 
 pub bounds-stay : BoundsStay
 bounds-stay = record { begins = start-bound; stays = step-keeps }

@@ -91,6 +91,7 @@ bound-touched e o b stays = go (e.record_of.object == o.object.number) refl
     still (FromClient id lines) t = (b.0, t)
     still (ToClient id lines) t = (b.0, t)
     still (ToAll lines) t = (b.0, t)
+
     go : (is : Bool) → (e.record_of.object == o.object.number) ≡ is → OfSome IsBoundObject (cond is (still_known o e.record_of.kind) (Some o))
     go true own = still e.record_of.kind (stays (sym (eqb-true e.record_of.object o.object.number own)))
     go false own = b
@@ -160,9 +161,10 @@ root-push d le (x ∷ xs) root = (root.0, all-push (λ (d : Directory). 1 ≤ d.
 -- of a part there are no more
 fewer-without : {X : Type 0} (p test : X → Bool) (xs : List X) → length (filter p (without_first test xs)) ≤ length (filter p xs)
 fewer-without p test [] = omega arith
-fewer-without p test (x ∷ xs) = elim (test x) as (λ b. length (filter p (cond b xs (x ∷ without_first test xs))) ≤ length (cond (p x) (x ∷ filter p xs) (filter p xs)))
-    [ true ↦ elim (p x) as (λ b. length (filter p xs) ≤ length (cond b (x ∷ filter p xs) (filter p xs))) [ true ↦ omega arith | false ↦ omega arith ]
-    | false ↦ one-each x x (p x) (p x) refl (filter p (without_first test xs)) (filter p xs) (fewer-without p test xs) ]
+fewer-without p test (x ∷ xs) = elim (test x) as (λ b. length (filter p (cond b xs (x ∷ without_first test xs))) ≤ length (cond (p x) (x ∷ filter p xs) (filter p xs))) [
+  | true ↦ elim (p x) as (λ b. length (filter p xs) ≤ length (cond b (x ∷ filter p xs) (filter p xs))) [ true ↦ omega arith | false ↦ omega arith ]
+  | false ↦ one-each x x (p x) (p x) refl (filter p (without_first test xs)) (filter p xs) (fewer-without p test xs)
+]
 
 -- one more is at most one more
 at-most : {X : Type 0} (p : X → Bool) (y : X) (most : ℕ) (xs : List X) → length (filter p xs) ≤ most → (p y ≡ true → length (filter p xs) < most) → length (filter p (xs ++ y ∷ [])) ≤ most
@@ -179,63 +181,130 @@ both-true false b e = cc
 -- the handle of that number changed
 with-handles : (c : Content) (number : ℕ) (change : Open Seen → Open Seen) → IsBound c → ((h : Open Seen) → (change h).number ≡ h.number) → ((h : Open Seen) → IsBoundHandle h → IsBoundHandle (change h)) → IsBound (record c { handles = on_numbered number change c.handles })
 with-handles c number change s same keeps = record {
-    handles_rise = rw (same-on_first (λ (h : Open Seen). h.number) (λ h. h.number == number) change same c.handles) s.handles_rise;
-    handles_end = s.handles_end; objects_rise = s.objects_rise; objects = s.objects; crowds = s.crowds; root = s.root; directories_follow = s.directories_follow; directories = s.directories; branches = s.branches;
-    handles = all-on_first IsBoundHandle (λ h. h.number == number) change keeps c.handles s.handles;
-    queues = s.queues }
+  handles_rise = rw (same-on_first (λ (h : Open Seen). h.number) (λ h. h.number == number) change same c.handles) s.handles_rise;
+  handles_end = s.handles_end;
+  objects_rise = s.objects_rise;
+  objects = s.objects;
+  crowds = s.crowds;
+  root = s.root;
+  directories_follow = s.directories_follow;
+  directories = s.directories;
+  branches = s.branches;
+  handles = all-on_first IsBoundHandle (λ h. h.number == number) change keeps c.handles s.handles;
+  queues = s.queues;
+}
 
 pub keeps-bound : (c : Content) (x : Move) → IsBound c → IsFit c x → IsBound (apply_seen x c)
 keeps-bound c (Attaches conn) s f = record { handles_rise = s.handles_rise; handles_end = s.handles_end; objects_rise = s.objects_rise; objects = s.objects; crowds = s.crowds; root = s.root; directories_follow = s.directories_follow; directories = s.directories; branches = s.branches; handles = s.handles; queues = bound-connection conn c.connections s.queues }
 keeps-bound c (Leaves conn) s f = record { handles_rise = s.handles_rise; handles_end = s.handles_end; objects_rise = s.objects_rise; objects = s.objects; crowds = s.crowds; root = s.root; directories_follow = s.directories_follow; directories = s.directories; branches = s.branches; handles = s.handles; queues = all-without_first IsBoundConnection (λ x. x.number == conn) c.connections s.queues }
 keeps-bound c (Creates o) s f = record {
-    handles_rise = rw (same-map (λ (h : Open Seen). h.number) (offer (creation o)) (λ h. refl) c.handles) s.handles_rise;
-    handles_end = s.handles_end;
-    objects_rise = rw (map-append (λ (k : Known). k.object.number) c.objects (record { object = o; attributes = [] } ∷ []), f.0) (rising-push 0 c.next_object (map (λ k. k.object.number) c.objects) s.objects_rise);
-    objects = all-push IsBoundObject c.objects (record { object = o; attributes = [] }) s.objects (f.1, omega arith);
-    crowds = λ directory. at-most (λ (k : Known). k.object.directory == directory) (record { object = o; attributes = [] }) 256 c.objects (s.crowds directory) (λ own. rw (sym (eqb-true o.directory directory own)) f.2);
-    root = s.root; directories_follow = s.directories_follow; directories = s.directories; branches = s.branches;
-    handles = bound-offers (creation o) (f.1, omega arith, omega arith) c.handles s.handles;
-    queues = s.queues }
+  handles_rise = rw (same-map (λ (h : Open Seen). h.number) (offer (creation o)) (λ h. refl) c.handles) s.handles_rise;
+  handles_end = s.handles_end;
+  objects_rise = rw (map-append (λ (k : Known). k.object.number) c.objects (record { object = o; attributes = [] } ∷ []), f.0) (rising-push 0 c.next_object (map (λ k. k.object.number) c.objects) s.objects_rise);
+  objects = all-push IsBoundObject c.objects (record { object = o; attributes = [] }) s.objects (f.1, omega arith);
+  crowds = λ directory. at-most (λ (k : Known). k.object.directory == directory) (record { object = o; attributes = [] }) 256 c.objects (s.crowds directory) (λ own. rw (sym (eqb-true o.directory directory own)) f.2);
+  root = s.root;
+  directories_follow = s.directories_follow;
+  directories = s.directories;
+  branches = s.branches;
+  handles = bound-offers (creation o) (f.1, omega arith, omega arith) c.handles s.handles;
+  queues = s.queues;
+}
 keeps-bound c (Happens e) s f = record {
-    handles_rise = rw (same-map (λ (h : Open Seen). h.number) (offer e) (λ h. refl) c.handles) s.handles_rise;
-    handles_end = s.handles_end;
-    objects_rise = rising-filter_map (λ (k : Known). k.object.number) (touched e) (touched-number e) 0 c.next_object c.objects s.objects_rise;
-    objects = bound-objects e c.objects s.objects f.1;
-    crowds = λ directory. (let le = crowd-touched e directory c.objects in omega (arith, s.crowds directory));
-    root = s.root; directories_follow = s.directories_follow; directories = s.directories; branches = s.branches;
-    handles = bound-offers e f.0 c.handles s.handles;
-    queues = s.queues }
+  handles_rise = rw (same-map (λ (h : Open Seen). h.number) (offer e) (λ h. refl) c.handles) s.handles_rise;
+  handles_end = s.handles_end;
+  objects_rise = rising-filter_map (λ (k : Known). k.object.number) (touched e) (touched-number e) 0 c.next_object c.objects s.objects_rise;
+  objects = bound-objects e c.objects s.objects f.1;
+  crowds = λ directory. (let le = crowd-touched e directory c.objects in omega (arith, s.crowds directory));
+  root = s.root;
+  directories_follow = s.directories_follow;
+  directories = s.directories;
+  branches = s.branches;
+  handles = bound-offers e f.0 c.handles s.handles;
+  queues = s.queues;
+}
 keeps-bound c (Opens h) s f = record {
-    handles_rise = rw (map-append (λ (h : Open Seen). h.number) c.handles (reseen (λ h. first_seen h (style h.kind)) h ∷ []), f.0) (rising-push 0 c.next_handle (map (λ h. h.number) c.handles) s.handles_rise);
-    handles_end = omega (arith, f.1);
-    objects_rise = s.objects_rise; objects = s.objects; crowds = s.crowds; root = s.root; directories_follow = s.directories_follow; directories = s.directories; branches = s.branches;
-    handles = all-push IsBoundHandle c.handles (reseen (λ h. first_seen h (style h.kind)) h) s.handles (record { name = f.2; parked = rw f.3 tt; owed = short-first h (style h.kind); listens = f.4 });
-    queues = s.queues }
+  handles_rise = rw (map-append (λ (h : Open Seen). h.number) c.handles (reseen (λ h. first_seen h (style h.kind)) h ∷ []), f.0) (rising-push 0 c.next_handle (map (λ h. h.number) c.handles) s.handles_rise);
+  handles_end = omega (arith, f.1);
+  objects_rise = s.objects_rise;
+  objects = s.objects;
+  crowds = s.crowds;
+  root = s.root;
+  directories_follow = s.directories_follow;
+  directories = s.directories;
+  branches = s.branches;
+  handles = all-push IsBoundHandle c.handles (reseen (λ h. first_seen h (style h.kind)) h) s.handles (record { name = f.2; parked = rw f.3 tt; owed = short-first h (style h.kind); listens = f.4 });
+  queues = s.queues;
+}
 keeps-bound c (Closes number) s f = record {
-    handles_rise = rising-without (λ (h : Open Seen). h.number) (λ h. h.number == number) 0 c.next_handle c.handles s.handles_rise;
-    handles_end = s.handles_end; objects_rise = s.objects_rise; objects = s.objects; crowds = s.crowds; root = s.root; directories_follow = s.directories_follow; directories = s.directories; branches = s.branches;
-    handles = all-without_first IsBoundHandle (λ h. h.number == number) c.handles s.handles;
-    queues = s.queues }
+  handles_rise = rising-without (λ (h : Open Seen). h.number) (λ h. h.number == number) 0 c.next_handle c.handles s.handles_rise;
+  handles_end = s.handles_end;
+  objects_rise = s.objects_rise;
+  objects = s.objects;
+  crowds = s.crowds;
+  root = s.root;
+  directories_follow = s.directories_follow;
+  directories = s.directories;
+  branches = s.branches;
+  handles = all-without_first IsBoundHandle (λ h. h.number == number) c.handles s.handles;
+  queues = s.queues;
+}
 keeps-bound c (CatchesUp number) s f = with-handles c number (reseen caught_up) s (λ h. refl) (λ h b. bound-reseen caught_up h (short-seen_of h [] tt) b)
 keeps-bound c (Passes number count) s f = with-handles c number (reseen (λ h. left h count h.seen)) s (λ h. refl) (λ h b. bound-reseen (λ h. left h count h.seen) h (short-left h count h.seen b.owed) b)
 keeps-bound c (Parks number size) s f = with-handles c number (λ h. record h { parked = size }) s (λ h. refl) (λ h b. record { name = b.name; parked = f; owed = b.owed; listens = b.listens })
 keeps-bound c (Arms number pulse) s f = with-handles c number (λ h. record h { armed = pulse }) s (λ h. refl) (λ h b. record { name = b.name; parked = b.parked; owed = b.owed; listens = b.listens })
-keeps-bound c (Queues conn item) s f = record { handles_rise = s.handles_rise; handles_end = s.handles_end; objects_rise = s.objects_rise; objects = s.objects; crowds = s.crowds; root = s.root; directories_follow = s.directories_follow; directories = s.directories; branches = s.branches; handles = s.handles;
-    queues = all-on_first IsBoundConnection (λ x. x.number == conn) (requeued (λ items. items ++ item ∷ [])) (λ x b. all-push IsBoundItem x.queue item b f) c.connections s.queues }
-keeps-bound c (Takes conn) s f = record { handles_rise = s.handles_rise; handles_end = s.handles_end; objects_rise = s.objects_rise; objects = s.objects; crowds = s.crowds; root = s.root; directories_follow = s.directories_follow; directories = s.directories; branches = s.branches; handles = s.handles;
-    queues = all-on_first IsBoundConnection (λ x. x.number == conn) (requeued behind_first) (λ x b. bound-behind x.queue b) c.connections s.queues }
-keeps-bound c (MakesDirectory path) s f = record { handles_rise = s.handles_rise; handles_end = s.handles_end; objects_rise = s.objects_rise; objects = s.objects; crowds = s.crowds;
-    root = root-push (record { number = c.next_directory; path = path }) s.directories_follow c.directories s.root;
-    directories_follow = omega arith;
-    directories = all-push (λ (d : Directory). length (last_name d.path) ≤ 255) c.directories (record { number = c.next_directory; path = path }) s.directories f.0;
-    branches = λ p. at-most (λ (d : Directory). not (same_path d.path []) && same_path (parent d.path) p) (record { number = c.next_directory; path = path }) 256 c.directories (s.branches p) (λ own. f.1 p (both-true (not (same_path path [])) (same_path (parent path) p) own));
-    handles = s.handles; queues = s.queues }
-keeps-bound c (RemovesDirectory number) s f = record { handles_rise = s.handles_rise; handles_end = s.handles_end; objects_rise = s.objects_rise; objects = s.objects; crowds = s.crowds;
-    root = root-without number f c.directories s.root;
-    directories_follow = s.directories_follow;
-    directories = all-without_first (λ (d : Directory). length (last_name d.path) ≤ 255) (λ d. d.number == number) c.directories s.directories;
-    branches = λ p. (let le = fewer-without (λ (d : Directory). not (same_path d.path []) && same_path (parent d.path) p) (λ d. d.number == number) c.directories in omega (arith, s.branches p));
-    handles = s.handles; queues = s.queues }
+keeps-bound c (Queues conn item) s f = record {
+  handles_rise = s.handles_rise;
+  handles_end = s.handles_end;
+  objects_rise = s.objects_rise;
+  objects = s.objects;
+  crowds = s.crowds;
+  root = s.root;
+  directories_follow = s.directories_follow;
+  directories = s.directories;
+  branches = s.branches;
+  handles = s.handles;
+  queues = all-on_first IsBoundConnection (λ x. x.number == conn) (requeued (λ items. items ++ item ∷ [])) (λ x b. all-push IsBoundItem x.queue item b f) c.connections s.queues;
+}
+keeps-bound c (Takes conn) s f = record {
+  handles_rise = s.handles_rise;
+  handles_end = s.handles_end;
+  objects_rise = s.objects_rise;
+  objects = s.objects;
+  crowds = s.crowds;
+  root = s.root;
+  directories_follow = s.directories_follow;
+  directories = s.directories;
+  branches = s.branches;
+  handles = s.handles;
+  queues = all-on_first IsBoundConnection (λ x. x.number == conn) (requeued behind_first) (λ x b. bound-behind x.queue b) c.connections s.queues;
+}
+keeps-bound c (MakesDirectory path) s f = record {
+  handles_rise = s.handles_rise;
+  handles_end = s.handles_end;
+  objects_rise = s.objects_rise;
+  objects = s.objects;
+  crowds = s.crowds;
+  root = root-push (record { number = c.next_directory; path = path }) s.directories_follow c.directories s.root;
+  directories_follow = omega arith;
+  directories = all-push (λ (d : Directory). length (last_name d.path) ≤ 255) c.directories (record { number = c.next_directory; path = path }) s.directories f.0;
+  branches = λ p. at-most (λ (d : Directory). not (same_path d.path []) && same_path (parent d.path) p) (record { number = c.next_directory; path = path }) 256 c.directories (s.branches p) (λ own. f.1 p (both-true (not (same_path path [])) (same_path (parent path) p) own));
+  handles = s.handles;
+  queues = s.queues;
+}
+keeps-bound c (RemovesDirectory number) s f = record {
+  handles_rise = s.handles_rise;
+  handles_end = s.handles_end;
+  objects_rise = s.objects_rise;
+  objects = s.objects;
+  crowds = s.crowds;
+  root = root-without number f c.directories s.root;
+  directories_follow = s.directories_follow;
+  directories = all-without_first (λ (d : Directory). length (last_name d.path) ≤ 255) (λ d. d.number == number) c.directories s.directories;
+  branches = λ p. (let le = fewer-without (λ (d : Directory). not (same_path d.path []) && same_path (parent d.path) p) (λ d. d.number == number) c.directories in omega (arith, s.branches p));
+  handles = s.handles;
+  queues = s.queues;
+}
 
 pub keeps-all : (xs : List Move) (c : Content) → IsBound c → AreFit c xs → IsBound (apply_all_seen xs c)
 keeps-all [] c s f = s

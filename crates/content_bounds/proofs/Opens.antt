@@ -105,13 +105,17 @@ crowd-deleted o test directory lies (x ∷ xs) e = go (test x) refl e (crowd-del
   where
     e0 : Entry
     e0 = entry_of o.object Deleted None
+
     gone : x ≡ o → touched e0 x ≡ None
     gone is = ap (touched e0) is ∙ ap (λ b. cond b None (Some o)) (eqb-refl o.object.number)
+
     counts : (t : Option Known) → OfSome (λ p. p.object.directory ≡ x.object.directory) t → (ys : List Known) → crowd (cons_option t ys) directory ≤ cond (x.object.directory == directory) 1 0 + crowd ys directory
     counts None k ys = omega arith
     counts (Some p) k ys = one-more p (p.object.directory == directory) (x.object.directory == directory) (ap (λ n. n == directory) k) (filter (λ (o : Known). o.object.directory == directory) ys)
+
     whole : crowd (x ∷ xs) directory ≡ cond (x.object.directory == directory) 1 0 + crowd xs directory
     whole = elim (x.object.directory == directory) as (λ b. length (cond b (x ∷ filter (λ (o : Known). o.object.directory == directory) xs) (filter (λ (o : Known). o.object.directory == directory) xs)) ≡ cond b 1 0 + crowd xs directory) [ true ↦ omega arith | false ↦ omega arith ]
+
     go : (b : Bool) → test x ≡ b → cond b (Some x) (find test xs) ≡ Some o → (find test xs ≡ Some o → crowd (filter_map (touched e0) xs) directory < crowd xs directory) → crowd (filter_map (touched e0) (x ∷ xs)) directory < crowd (x ∷ xs) directory
     go true t found rest =
         let is : x ≡ o = cc in let le = crowd-touched e0 directory xs in
@@ -162,6 +166,7 @@ mkdir-fit c text b p = go (path_text text) (short-path text) p
   where
     made : (names : Path) → HasShortEnd names → nat_le 256 (length (subdirectories c (parent names))) ≡ false → IsFit c (MakesDirectory names)
     made names short room = (short, (λ q same. rw (sym (same_path-is (parent names) q same)) (grind (arith, nat_tests, room))))
+
     go : (o : Option Path) → OfSome HasShortEnd o → first_refusal (parsed (ok_or o Refusal.BadPath) (mkdir_checks c)) ≡ None → AreFit c (option_map_or {U = Outcome × List Move} (λ names. (Outcome.Done, MakesDirectory names ∷ [])) o (Outcome.Done, [])).1
     go None short p = tt
     go (Some names) short p =
@@ -233,12 +238,16 @@ found-prepared c mode spec o b short ends e = go spec.server (is_some o.object.s
   where
     there : (d : ℕ) × (parent_number c spec.names ≡ Some d) × (object_in c (last_name spec.names) d ≡ Some o)
     there = object-found c spec.names o e
+
     test : Known → Bool
     test p = (p.object.directory == there.0) && same p.object.name (last_name spec.names)
+
     lies : (p : Known) → test p ≡ true → p.object.directory ≡ there.0
     lies p t = eqb-true p.object.directory there.0 (and-true (p.object.directory == there.0) (same p.object.name (last_name spec.names)) t).0
+
     fewer : crowd (filter_map (touched (entry_of o.object Deleted None)) c.objects) (unwrap_or (parent_number c spec.names) 0) < 256
     fewer = rw there.1 (let less = crowd-deleted o test there.0 lies c.objects there.2 in omega (arith, less, b.crowds there.0))
+
     go : (s k t : Bool) → AreFit c (cond s (Happens (entry_of o.object Deleted None) ∷ Creates (new_object c spec) ∷ []) (cond k (Happens (entry_of o.object (Opened c.next_handle) None) ∷ []) (cond t (Happens (entry_of o.object Truncated None) ∷ []) [])))
     go true k t = (deleted-fit c o test b there.2, ((refl, short, fewer), tt))
     go false true t = (found-fit c o test (Opened c.next_handle) None b there.2 (omega arith) (omega (arith, ends)) (shrink (Opened c.next_handle) (λ attributes. omega arith) c b o.object.number), tt)
@@ -267,8 +276,10 @@ opening-fit c conn mode spec b short p = placed (place (at c) spec.names) refl t
   where
     tests : (not (mode_fits mode spec) ≡ false) × AllPass (parsed (place (at c) spec.names) (λ found. cond spec.all (all_checks c found) (name_checks c mode spec found)))
     tests = all-pass (open_checks c mode spec) p
+
     fits : mode_fits mode spec ≡ true
     fits = elim (mode_fits mode spec) as (λ f. not f ≡ false → f ≡ true) [ true ↦ (λ h. refl) | false ↦ (λ h. absurd (let g = h in cc)) ] tests.0
+
     by : (all : Bool) → spec.all ≡ all → (found : Option Found) → place (at c) spec.names ≡ Ok found → AllPass (cond all (all_checks c found) (name_checks c mode spec found)) → AreFit c (opening c conn mode spec (cond all None (object_at c spec.names)))
     by true e found there pass =
         let behind = none-fails (handle_checks c) pass.1.1 in
@@ -282,6 +293,7 @@ opening-fit c conn mode spec b short p = placed (place (at c) spec.names) refl t
         stands : (o : Option Known) → object_at c spec.names ≡ o → c.next_handle < 4294967296 → first_refusal (name_checks c mode spec found) ≡ None → AreFit c (preparing c mode spec o)
         stands None f ends none = none-prepared c mode spec found b short f there none
         stands (Some o) f ends none = found-prepared c mode spec o b short ends f
+
     placed : (r : Result (Option Found) Refusal) → place (at c) spec.names ≡ r → AllPass (parsed r (λ found. cond spec.all (all_checks c found) (name_checks c mode spec found))) → AreFit c (opening c conn mode spec (found_object c spec))
     placed (Err r) e pass = absurd (let h = pass.0 in cc)
     placed (Ok found) e pass = by spec.all refl found e pass

@@ -38,6 +38,7 @@ module _ {X : Type 0} (number : X → ℕ) where
       above : (low : ℕ) (zs : List X) → number y < low → AreRising low (map number zs) high → AllByRecursion (λ z. number y < number z) zs
       above low [] lt r = tt
       above low (z ∷ zs) lt r = (omega (arith, lt, r.0), above (number z + 1) zs (omega (arith, lt, r.0)) r.1)
+
       go : (b : Bool) → (number y == n) ≡ b → cond b (Some y) (find (λ x. number x == n) ys) ≡ Some x → (find (λ x. number x == n) ys ≡ Some x → AllByRecursion (λ y. number y ≡ number x → y ≡ x) ys) → AllByRecursion (λ y. number y ≡ number x → y ≡ x) (y ∷ ys)
       go true e found rest = let is : y ≡ x = cc in ((λ same. is), all-weaken {P = λ z. number y < number z} {Q = λ z. number z ≡ number x → z ≡ x} (λ z lt same. absurd (let n : number y ≡ number x = ap number is in omega (arith, lt, same))) ys (above (number y + 1) ys (omega arith) r.1))
       go false e found rest = ((λ same. absurd (let t = find-true (λ x. number x == n) ys x found in let k : (number y == n) ≡ (number x == n) = ap (λ m. m == n) same in let no : false ≡ true = sym e ∙ k ∙ t in cc)), rest found)

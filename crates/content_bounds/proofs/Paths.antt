@@ -62,6 +62,7 @@ short-open_text text = go (open_path (open_parts text).0) (short-open_path (open
     with : (p : OpenPath) → HasShortEnd p.names → (o : Option Options) → OfOk (λ (spec : OpenSpec). HasShortEnd spec.names) (do options ← ok_or o Refusal.BadOption; Ok (open_spec p options))
     with p h None = tt
     with p h (Some o) = h
+
     go : (o : Option OpenPath) → OfSome (λ (p : OpenPath). HasShortEnd p.names) o → OfOk (λ (spec : OpenSpec). HasShortEnd spec.names) (do path ← ok_or o Refusal.BadPath; options ← ok_or (options_text path.all (open_parts text).1) Refusal.BadOption; Ok (open_spec path options))
     go None h = tt
     go (Some p) h = with p h (options_text p.all (open_parts text).1)

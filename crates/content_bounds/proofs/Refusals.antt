@@ -74,6 +74,7 @@ open-err text = go (open_path (open_parts text).0)
     with : (p : OpenPath) (o : Option Options) → OfErr (do options ← ok_or o BadOption; Ok (open_spec p options))
     with p None = refl
     with p (Some o) = tt
+
     go : (o : Option OpenPath) → OfErr (do path ← ok_or o BadPath; options ← ok_or (options_text path.all (open_parts text).1) BadOption; Ok (open_spec path options))
     go None = refl
     go (Some p) = with p (options_text p.all (open_parts text).1)
@@ -93,9 +94,11 @@ text-err bytes = go (lines_of bytes)
     headed : (header : Option (List ℕ)) (r : Result (List WriteLine) Refusal) → OfErr r → OfErr (with_header header r)
     headed header (Ok ws) e = tt
     headed header (Err r) e = e
+
     pick : (o : Option (List ℕ)) (all others : List (List ℕ)) → OfErr (text_after o all others)
     pick None all others = headed None (write_lines 1 all) (lines-err 1 all)
     pick (Some header) all others = headed (Some header) (write_lines 2 others) (lines-err 2 others)
+
     go : (ls : List (List ℕ)) → OfErr (text_of_lines ls)
     go [] = tt
     go (l ∷ ls) = pick (after_prefix (codes "@") l) (l ∷ ls) ls
@@ -115,6 +118,7 @@ find-err at path = go (place at path) (place-err at path)
     found : (o : Option Found) → OfErr (ok_or o NotFound)
     found None = refl
     found (Some f) = tt
+
     go : (r : Result (Option Found) Refusal) → OfErr r → OfErr (r >>= (λ found. ok_or found NotFound))
     go (Ok o) e = found o
     go (Err r) e = e
@@ -151,8 +155,11 @@ path-wants : (text : List ℕ) (k : Path → List Check) → ((p : Path) → Wan
 path-wants text k w = parsed-wants (ok_or (path_text text) BadPath) k (path-err (path_text text)) w
 
 open-wants : (c : Content) (mode : Mode) (spec : OpenSpec) → WantNothing (open_checks c mode spec)
-open-wants c mode spec = (refl, parsed-wants (place (at c) spec.names) _ (place-err (at c) spec.names) (λ found. either spec.all (all_checks c found) (name_checks c mode spec found) (refl, (refl, (refl, tt)))
-    (refl, (refl, (refl, both (handle_checks c) (cond (is_none found) (object_checks c spec.names) []) (refl, tt) (either (is_none found) (object_checks c spec.names) [] (refl, (refl, tt)) tt))))))
+open-wants c mode spec = (
+  refl,
+  parsed-wants (place (at c) spec.names) _ (place-err (at c) spec.names) (λ found. either spec.all (all_checks c found) (name_checks c mode spec found) (refl, (refl, (refl, tt)))
+      (refl, (refl, (refl, both (handle_checks c) (cond (is_none found) (object_checks c spec.names) []) (refl, tt) (either (is_none found) (object_checks c spec.names) [] (refl, (refl, tt)) tt))))),
+)
 
 answer-wants : (c : Content) (h : Open Seen) (a : Answer) → WantNothing (answer_checks c h a)
 answer-wants c h (Needs need) = (refl, tt)

@@ -214,10 +214,13 @@ attributes-length c number b = go (object_numbered c number) refl
     go (Some o) e = (all-find IsBoundObject (λ o. o.object.number == number) c.objects o b.objects e).1
 
 targets-small : (c : Content) (h : Open Seen) → IsBound c → length h.name ≤ 255 → AllByRecursion IsSmallMember (target_members c h) × (length (target_members c h) ≤ 256)
-targets-small c h b name = elim (is_directory_kind h.kind) as (λ k. AllByRecursion IsSmallMember (cond k (map member (members c h.target)) (record { name = h.name; lines = map line_of (attributes_of c h.target) } ∷ [])) × (length (cond k (map member (members c h.target)) (record { name = h.name; lines = map line_of (attributes_of c h.target) } ∷ [])) ≤ 256))
-    [ true ↦ (small-members (members c h.target) (all-sorted IsBoundObject name_cmp (λ (o : Known). o.object.name) (filter (λ o. o.object.directory == h.target) c.objects) (all-filter IsBoundObject (λ o. o.object.directory == h.target) c.objects b.objects)),
-        rw (length-map (members c h.target) member, members-crowd c h.target) (b.crowds h.target))
-    | false ↦ (((name, attributes-length c h.target b), tt), omega arith) ]
+targets-small c h b name = elim (is_directory_kind h.kind) as (λ k. AllByRecursion IsSmallMember (cond k (map member (members c h.target)) (record { name = h.name; lines = map line_of (attributes_of c h.target) } ∷ [])) × (length (cond k (map member (members c h.target)) (record { name = h.name; lines = map line_of (attributes_of c h.target) } ∷ [])) ≤ 256)) [
+  | true ↦ (
+    small-members (members c h.target) (all-sorted IsBoundObject name_cmp (λ (o : Known). o.object.name) (filter (λ o. o.object.directory == h.target) c.objects) (all-filter IsBoundObject (λ o. o.object.directory == h.target) c.objects b.objects)),
+    rw (length-map (members c h.target) member, members-crowd c h.target) (b.crowds h.target),
+  )
+  | false ↦ (((name, attributes-length c h.target b), tt), omega arith)
+]
 
 -- ---- blocks
 

@@ -45,9 +45,10 @@ ok-map Q P f (Ok x) q k = k x q
 
 splits : (c : ℕ) (bs : List ℕ) → OfSome (λ (p : List ℕ × List ℕ). length p.0 + length p.1 + 1 ≡ length bs) (split_at_first c bs)
 splits c [] = tt
-splits c (b ∷ bs) = elim (b == c) as (λ t. OfSome (λ (p : List ℕ × List ℕ). length p.0 + length p.1 + 1 ≡ length (b ∷ bs)) (cond t (Some ([], bs)) (option_map (λ parts. (b ∷ parts.0, parts.1)) (split_at_first c bs))))
-    [ true ↦ omega arith
-    | false ↦ some-map (λ (p : List ℕ × List ℕ). length p.0 + length p.1 + 1 ≡ length bs) (λ (p : List ℕ × List ℕ). length p.0 + length p.1 + 1 ≡ length (b ∷ bs)) (λ parts. (b ∷ parts.0, parts.1)) (split_at_first c bs) (splits c bs) (λ p e. omega (arith, e)) ]
+splits c (b ∷ bs) = elim (b == c) as (λ t. OfSome (λ (p : List ℕ × List ℕ). length p.0 + length p.1 + 1 ≡ length (b ∷ bs)) (cond t (Some ([], bs)) (option_map (λ parts. (b ∷ parts.0, parts.1)) (split_at_first c bs)))) [
+  | true ↦ omega arith
+  | false ↦ some-map (λ (p : List ℕ × List ℕ). length p.0 + length p.1 + 1 ≡ length bs) (λ (p : List ℕ × List ℕ). length p.0 + length p.1 + 1 ≡ length (b ∷ bs)) (λ parts. (b ∷ parts.0, parts.1)) (split_at_first c bs) (splits c bs) (λ p e. omega (arith, e))
+]
 
 prefixes : (ps bs : List ℕ) → OfSome (λ (r : List ℕ). length ps + length r ≡ length bs) (after_prefix ps bs)
 prefixes [] bs = omega arith
@@ -123,6 +124,7 @@ heavy-lines n (l ∷ ls) = elim (is_empty l) as (λ b. OfOk (λ ws. heavy ws ≤
     skipped : (r : Result (List WriteLine) Refusal) → OfOk (λ ws. heavy ws ≤ total ls) r → OfOk (λ ws. heavy ws ≤ total (l ∷ ls)) r
     skipped (Ok ws) h = omega (arith, h)
     skipped (Err e) h = tt
+
     joined : (o : Option WriteLine) → OfSome (IsLight (length l)) o → (r : Result (List WriteLine) Refusal) → OfOk (λ ws. heavy ws ≤ total ls) r → OfOk (λ ws. heavy ws ≤ total (l ∷ ls)) (line_or n o r)
     joined None light r h = tt
     joined (Some w) light (Err e) h = tt
@@ -134,6 +136,7 @@ heavy-text bytes = go (lines_of bytes) (let a = total-without (pieces 10 bytes) 
     headed : (header : Option (List ℕ)) (most : ℕ) (r : Result (List WriteLine) Refusal) → OfOk (λ ws. heavy ws ≤ most) r → most ≤ length bytes + 1 → OfOk (λ (t : WriteText). heavy t.lines ≤ length bytes + 1) (with_header header r)
     headed header most (Ok ws) h le = omega (arith, h, le)
     headed header most (Err e) h le = tt
+
     go : (ls : List (List ℕ)) → total ls ≤ length bytes + 1 → OfOk (λ (t : WriteText). heavy t.lines ≤ length bytes + 1) (text_of_lines ls)
     go [] le = omega arith
     go (l ∷ ls) le = pick (after_prefix (codes "@") l)

@@ -4,17 +4,14 @@ ghost use Rattle.content_bounds.specs.Laws.{BoundsStay, ChecksWantNothing, Sizes
 /// What stands at the start is within its bounds, and what an event leaves is.
 pub fn bounds_stay()
     ensures { BoundsStay }
-{
-}
+{}
 
 /// Within the bounds, what a read needs is below 2^32, and each answer fits a frame.
 pub fn sizes_fit()
     ensures { SizesFit }
-{
-}
+{}
 
 /// No check refuses for want of memory.
 pub fn checks_want_nothing()
     ensures { ChecksWantNothing }
-{
-}
+{}

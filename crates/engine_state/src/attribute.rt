@@ -116,7 +116,11 @@ fn drop_nonpersistent(attributes: &mut Vec<Attribute>)
 }
 
 /// What a line makes of the attributes.
-pub fn apply_line(alloc: Global, attributes: &mut Vec<Attribute>, line: &Line) -> Result<(), AllocError>
+pub fn apply_line(
+    alloc: Global,
+    attributes: &mut Vec<Attribute>,
+    line: &Line,
+) -> Result<(), AllocError>
     ensures { OnOk result (attributes.new.items ≡ history.apply_line attributes.old.items line.now) }
 {
     match line {

@@ -178,6 +178,13 @@ impl Open {
         self.wait
     }
 
+    /// `reflect`: an object's handle that is given its own changes too.
+    pub fn reflects(&self) -> bool
+        ensures { result ≡ self.now.reflect }
+    {
+        self.reflect
+    }
+
     /// `critical`: when it closes, its object's nonpersistent attributes go with it.
     pub fn is_critical(&self) -> bool
         ensures { result ≡ self.now.critical }

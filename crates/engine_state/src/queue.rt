@@ -1,5 +1,5 @@
 //! Connections and their queues. A place in a queue can be had before its item is known, so that queueing takes no memory.
-ghost use Rattle.std.specs.Prelude.{◌≡◌, ◌∷◌, ◌++◌, [], IfOk, length, min};
+ghost use Rattle.std.specs.Prelude.{◌≡◌, ◌↔◌, ◌∷◌, ◌++◌, [], IfOk, IsTrue, length, min};
 ghost use Rattle.std.specs.Option.{option_copied};
 ghost use Rattle.pps_types.specs.Outbox.{first_of, behind_first};
 
@@ -79,6 +79,22 @@ impl Queue {
         match &self.first {
             Link::End => None,
             Link::More(item, _) => Some(item),
+        }
+    }
+
+    /// Whether both have the same items in the same order. It takes no memory.
+    pub fn same(&self, other: &Queue) -> bool
+        ensures { IsTrue result ↔ (self.now ≡ other.now) }
+    {
+        match &self.first {
+            Link::End => match &other.first {
+                Link::End => true,
+                Link::More(_, _) => false,
+            },
+            Link::More(item, rest) => match &other.first {
+                Link::End => false,
+                Link::More(first, others) => item == first && rest.same(others),
+            },
         }
     }
 
