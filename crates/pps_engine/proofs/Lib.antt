@@ -1,0 +1,4 @@
+pub mod Taken
+pub mod Steps
+pub mod Marks
+pub mod Lists

@@ -1,0 +1,3 @@
+pub mod Planned
+pub mod Carried
+pub mod Runs

@@ -1,0 +1,14 @@
+//! The engine of the service: one event after the other, each planned with all the memory that it wants, and then carried
+//! out without any.
+#![tactic(auto)]
+
+mod carrying;
+mod engine;
+mod in_place;
+mod taking;
+
+pub use engine::Engine;
+pub use in_place::{Plan, Step};
+
+#[cfg(test)]
+mod tests;

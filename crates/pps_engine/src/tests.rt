@@ -1,0 +1,237 @@
+use crate::Engine;
+use open_options::read_path;
+use pps_types::{
+    Action, Bytes, Conn, Event, Handle, Item, Mode, Outcome, Refusal, Request, SharedBytes,
+};
+use std::alloc::{AllocError, Global};
+use std::test::Fail;
+
+const PUBLISHER: u16 = 1;
+
+const SUBSCRIBER: u16 = 2;
+
+fn asked(conn: u16, request: Request) -> Event {
+    Event {
+        conn: Conn::new(conn),
+        request,
+    }
+}
+
+fn open(alloc: Global, conn: u16, letters: &str, text: &[u8]) -> Result<Event, AllocError> {
+    let mode = Mode {
+        r: letters.contains('r'),
+        w: letters.contains('w'),
+        c: letters.contains('c'),
+        t: letters.contains('t'),
+    };
+    let text = Bytes::from_slice(alloc, text)?;
+    Ok(asked(conn, Request::Open { mode, text }))
+}
+
+fn write(alloc: Global, conn: u16, handle: u32, bytes: &[u8]) -> Result<Event, AllocError> {
+    let handle = Handle::new(handle);
+    let bytes = Bytes::from_slice(alloc, bytes)?;
+    Ok(asked(conn, Request::Write { handle, bytes }))
+}
+
+fn read(conn: u16, handle: u32, size: u32) -> Event {
+    let handle = Handle::new(handle);
+    asked(conn, Request::Read { handle, size })
+}
+
+fn data(alloc: Global, bytes: &[u8]) -> Result<Outcome, AllocError> {
+    let bytes = bytes.to_vec(alloc)?;
+    Ok(Outcome::Data(SharedBytes::new(alloc, bytes)?))
+}
+
+fn is_answered(engine: &mut Engine, event: &Event, wanted: &Outcome) -> bool {
+    match engine.step(event) {
+        Err(_) => false,
+        Ok(outcome) => outcome == *wanted,
+    }
+}
+
+fn is_refused(engine: &mut Engine, event: &Event, wanted: Refusal) -> bool {
+    let Err(refusal) = engine.step(event) else {
+        return false;
+    };
+    refusal == wanted
+}
+
+/// One connection has created `/gps` and written to it, and another has opened it in delta mode.
+fn published(alloc: Global) -> Result<Engine, Refusal> {
+    let mut engine = Engine::new(alloc)?;
+    engine.step(&asked(PUBLISHER, Request::Attach))?;
+    engine.step(&open(alloc, PUBLISHER, "rwc", b"/gps")?)?;
+    engine.step(&write(alloc, PUBLISHER, 1, b"speed:n:65\n")?)?;
+    engine.step(&asked(SUBSCRIBER, Request::Attach))?;
+    engine.step(&open(alloc, SUBSCRIBER, "r", b"/gps?delta,wait")?)?;
+    Ok(engine)
+}
+
+#[test]
+fn what_is_written_is_read(rt: HostRuntime) -> Result<(), Fail> {
+    let alloc = rt.alloc();
+    let mut engine = published(alloc)?;
+    let everything = data(alloc, b"@gps\nspeed:n:65\n")?;
+    assert!(rt; is_answered(&mut engine, &read(SUBSCRIBER, 2, 4_096), &everything));
+    assert!(rt; is_answered(&mut engine, &read(SUBSCRIBER, 2, 4_096), &Outcome::Parked));
+    assert!(rt;
+        is_answered(
+            &mut engine,
+            &write(alloc, PUBLISHER, 1, b"speed:n:66\n")?,
+            &Outcome::Wrote(11)
+        )
+    );
+    let Outcome::Data(bytes) = data(alloc, b"@gps\nspeed:n:66\n")? else {
+        panic!(rt; "no data");
+    };
+    let late = Outcome::Item(Item::ReadDone {
+        handle: Handle::new(2),
+        result: Ok(bytes),
+    });
+    assert!(rt; is_answered(&mut engine, &asked(SUBSCRIBER, Request::Receive), &late));
+    assert!(rt;
+        is_answered(
+            &mut engine,
+            &asked(SUBSCRIBER, Request::Receive),
+            &Outcome::Empty
+        )
+    );
+    Ok(())
+}
+
+#[test]
+fn requests_of_all_kinds_are_answered(rt: HostRuntime) -> Result<(), Fail> {
+    let alloc = rt.alloc();
+    let mut engine = published(alloc)?;
+    let path = Bytes::from_slice(alloc, b"/maps")?;
+    assert!(rt;
+        is_answered(
+            &mut engine,
+            &asked(PUBLISHER, Request::Mkdir { path }),
+            &Outcome::Done
+        )
+    );
+    let path = Bytes::from_slice(alloc, b"/")?;
+    let names = data(alloc, b"gps\nmaps/\n")?;
+    assert!(rt;
+        is_answered(
+            &mut engine,
+            &asked(PUBLISHER, Request::List { path }),
+            &names
+        )
+    );
+    let path = Bytes::from_slice(alloc, b"/maps")?;
+    assert!(rt;
+        is_answered(
+            &mut engine,
+            &asked(PUBLISHER, Request::Unlink { path }),
+            &Outcome::Done
+        )
+    );
+    let notify = Request::Notify {
+        handle: Handle::new(2),
+        action: Action::Poll,
+        code: 1,
+        value: 2,
+    };
+    assert!(rt;
+        is_answered(
+            &mut engine,
+            &asked(SUBSCRIBER, notify),
+            &Outcome::Input(true)
+        )
+    );
+    let close = Request::Close {
+        handle: Handle::new(2),
+    };
+    assert!(rt; is_answered(&mut engine, &asked(SUBSCRIBER, close), &Outcome::Done));
+    assert!(rt;
+        is_answered(
+            &mut engine,
+            &asked(SUBSCRIBER, Request::Detach),
+            &Outcome::Done
+        )
+    );
+    assert!(rt;
+        is_refused(
+            &mut engine,
+            &asked(SUBSCRIBER, Request::Receive),
+            Refusal::NotAttached
+        )
+    );
+    Ok(())
+}
+
+#[test]
+fn what_is_planned_is_carried_out(rt: HostRuntime) -> Result<(), Fail> {
+    let alloc = rt.alloc();
+    let mut engine = published(alloc)?;
+    let before = engine.copy()?;
+    let plan = engine.plan(&read(SUBSCRIBER, 2, 4_096))?;
+    assert!(rt; engine.same(&before));
+    let everything = data(alloc, b"@gps\nspeed:n:65\n")?;
+    assert!(rt; *plan.reply() == everything);
+    assert!(rt; engine.commit(plan) == everything);
+    assert!(rt; !engine.same(&before));
+    let after = engine.copy()?;
+    assert!(rt; is_refused(&mut engine, &read(SUBSCRIBER, 9, 4_096), Refusal::BadHandle));
+    assert!(rt; engine.same(&after));
+    Ok(())
+}
+
+#[test]
+fn debts_are_told(rt: HostRuntime) -> Result<(), Fail> {
+    let alloc = rt.alloc();
+    let mut engine = published(alloc)?;
+    let path = read_path(alloc, b"/gps")?;
+    assert!(rt; engine.owed(Handle::new(2)).is_none());
+    engine.step(&read(SUBSCRIBER, 2, 4_096))?;
+    engine.step(&write(alloc, PUBLISHER, 1, b"speed:n:66\n")?)?;
+    assert!(rt; matches!(engine.owed(Handle::new(2)), Some(1)));
+    assert!(rt; matches!(engine.kept(&path), Some(1)));
+    Ok(())
+}
+
+#[test]
+fn engines_begin_as_asked(rt: HostRuntime) -> Result<(), Fail> {
+    let alloc = rt.alloc();
+    let plain = Engine::new(alloc)?;
+    assert_eq!(rt; plain.limit(), 256);
+    let other = Engine::with_limit(alloc, 9)?;
+    assert_eq!(rt; other.limit(), 9);
+    let mut last = Engine::new_at(alloc, Handle::new(4_294_967_295))?;
+    last.step(&asked(PUBLISHER, Request::Attach))?;
+    let event = open(alloc, PUBLISHER, "rwc", b"/a")?;
+    assert!(rt;
+        is_answered(
+            &mut last,
+            &event,
+            &Outcome::Opened(Handle::new(4_294_967_295))
+        )
+    );
+    assert!(rt; is_refused(&mut last, &event, Refusal::TableFull));
+    Ok(())
+}
+
+#[test]
+fn lists_of_events_are_run(rt: HostRuntime) -> Result<(), Fail> {
+    let alloc = rt.alloc();
+    let mut engine = Engine::new(alloc)?;
+    let events = [
+        asked(PUBLISHER, Request::Attach),
+        asked(PUBLISHER, Request::Attach),
+        asked(PUBLISHER, Request::Receive),
+    ];
+    let replies = engine.run_list(&events)?;
+    let [
+        Ok(Outcome::Done),
+        Err(Refusal::AlreadyAttached),
+        Ok(Outcome::Empty),
+    ] = replies.as_slice()
+    else {
+        panic!(rt; "other replies");
+    };
+    Ok(())
+}
