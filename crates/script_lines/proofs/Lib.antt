@@ -1,0 +1,9 @@
+pub mod Cuts
+pub mod Decimals
+pub mod Numbers
+pub mod Regroup
+pub mod Replies
+pub mod RoundTrip
+pub mod Spellings
+pub mod Unescaping
+pub mod Visible

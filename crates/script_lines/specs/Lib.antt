@@ -1,0 +1,5 @@
+pub mod Answer
+pub mod Escapes
+pub mod Laws
+pub mod Script
+pub mod Spelled
