@@ -43,10 +43,6 @@ find-true test (y ∷ ys) x e = go (test y) refl e (find-true test ys x)
     go true t found rest = let is : x ≡ y = cc in rw is t
     go false t found rest = rest found
 
-pub append-empty : {X : Type 0} (xs : List X) → xs ++ [] ≡ xs
-append-empty [] = refl
-append-empty (x ∷ xs) = ap (λ rest. x ∷ rest) (append-empty xs)
-
 pub filter-push : {X : Type 0} (test : X → Bool) (xs : List X) (y : X) → filter test (xs ++ y ∷ []) ≡ filter test xs ++ cond (test y) (y ∷ []) []
 filter-push test [] y = elim (test y) as (λ b. cond b (y ∷ []) [] ≡ cond b (y ∷ []) []) [ true ↦ refl | false ↦ refl ]
 filter-push test (x ∷ xs) y =

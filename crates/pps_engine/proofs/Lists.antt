@@ -1,5 +1,5 @@
 -- Runs over lists of events.
-use Rattle.std.proofs.Common.{arith, ap, sym}
+use Rattle.std.proofs.Common.{append-nil, arith, ap, sym}
 use Rattle.std.specs.Prelude.{◌≡◌, ◌≤◌, ◌<◌, ◌+◌, ℕ, zero, suc, List, [], ◌∷◌, ◌++◌, drop, length, refl}
 use Rattle.std.proofs.Math.ListN.{get_or}
 use Rattle.std.proofs.lemmas.List.{drop_more}
@@ -32,8 +32,4 @@ drop-end (x ∷ xs) zero le = absurd (omega arith)
 drop-end (x ∷ xs) (suc i) le = drop-end xs i (omega arith)
 
 pub runs-all : (old now : Content) (all : List Event) (i : ℕ) (replies : List Reply) → length all ≤ i → RunsOn old now all (drop i all) replies → RunsSeen old (answered all replies) now
-runs-all old now all i replies le runs = rw (sym (append-empty replies)) (runs [] now (rw (drop-end all i le) refl))
-  where
-    append-empty : {X : Type 0} (xs : List X) → xs ++ [] ≡ xs
-    append-empty [] = refl
-    append-empty (x ∷ xs) = ap (λ rest. x ∷ rest) (append-empty xs)
+runs-all old now all i replies le runs = rw (sym (append-nil replies)) (runs [] now (rw (drop-end all i le) refl))

@@ -131,6 +131,9 @@ pub still-planned : (c : Content) (e : Event) (reply : Outcome) (xs : List Move)
 still-planned c e reply xs passes does numbers all =
     planned c e reply xs (apply_all_seen xs c) passes does numbers (sym (ap (λ moves. apply_all_seen moves (apply_all_seen xs c)) (settles-still c (apply_all_seen xs c) all)))
 
+pub settles_unchanged : (c : Content) → IsBound c → settling c c ≡ []
+settles_unchanged c b = settles-still c c (as-before c b)
+
 -- ---- Notify
 
 pub notified : (c : Content) (conn handle : ℕ) (action : Action) (code value : ℕ) (h : Open Seen) (told : Bool) (pulse : Option (ℕ × ℕ)) → IsBound c → is_attached c conn ≡ true → own c conn handle ≡ Some h

@@ -63,16 +63,33 @@ fn changed(alloc: Global, before: &State, changes: Vec<Change>) -> Result<State,
     }
 }
 
-/// Carries out the changes on a copy, and what follows from them.
+// An answer that changes nothing: nothing follows from it.
+#[tactic(auto, using(crate::proofs::Steps::settles_unchanged))]
+fn unchanged(before: &State, reply: Outcome) -> Plan
+    requires { IsBound before.now }
+    ensures { Carries before.now reply [] result }
+{
+    before.has_numbers();
+    Plan {
+        reply,
+        step: Step::Keep,
+    }
+}
+
+/// Carries out the changes on a copy, and what follows from them. Without changes nothing is copied.
 pub(crate) fn carry_out(
     alloc: Global,
     before: &State,
     reply: Outcome,
     changes: Vec<Change>,
 ) -> Result<Plan, Refusal>
+    requires { IsBound before.now }
     ensures ok { IfOk result (λ p. Carries before.now reply (moves changes.items) p) }
     ensures err { IfErr result (λ r. CannotHappen (planning.apply_all_seen (moves changes.items) before.now) r) }
 {
+    if changes.is_empty() {
+        return Ok(unchanged(before, reply));
+    }
     let next = match changed(alloc, before, changes) {
         Err(refusal) => return Err(refusal),
         Ok(next) => next,
@@ -84,6 +101,7 @@ pub(crate) fn carry_out(
 }
 
 fn close_on_copy(alloc: Global, before: &State, h: &Open) -> Result<Plan, Refusal>
+    requires { IsBound before.now }
     ensures ok { IfOk result (λ p. Carries before.now Outcome.Done (planning.closing before.now h.now) p) }
     ensures err { IfErr result (λ r. CannotHappen (planning.apply_all_seen (planning.closing before.now h.now) before.now) r) }
 {

@@ -8,7 +8,7 @@ mod in_place;
 mod taking;
 
 pub use engine::Engine;
-pub use in_place::{Plan, Step};
+pub use in_place::Plan;
 
 #[cfg(test)]
 mod tests;
