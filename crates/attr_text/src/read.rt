@@ -101,8 +101,9 @@ fn read_bracketed(alloc: Global, behind: &[u8]) -> Result<Option<WriteLine>, All
     }
 }
 
-/// Reads a line that is not empty. `None` says that it is malformed.
-fn read_line(alloc: Global, line: &[u8]) -> Result<Option<WriteLine>, AllocError>
+/// Reads a line of a text, without its line feed: it sets or deletes an attribute. `None` says that it is malformed, as an
+/// empty one is.
+pub fn read_write_line(alloc: Global, line: &[u8]) -> Result<Option<WriteLine>, AllocError>
     ensures { IfOk result (λ read. read ≡ text.write_line line.now) }
 {
     match line {
@@ -112,8 +113,8 @@ fn read_line(alloc: Global, line: &[u8]) -> Result<Option<WriteLine>, AllocError
     }
 }
 
-/// What stands before the first line feed, and what stands behind it.
-fn first_line(bytes: &[u8]) -> (&[u8], &[u8])
+/// What stands before the first line feed, and what stands behind it. Without one everything stands before it.
+pub fn first_line(bytes: &[u8]) -> (&[u8], &[u8])
     ensures { (result.0.now, result.1.now) ≡ first_line_of bytes.now }
 {
     match split_at_line_feed(bytes) {
@@ -134,7 +135,7 @@ fn read_lines(alloc: Global, first: u32, bytes: &[u8]) -> Result<WriteLines, Ref
     while !rest.is_empty() {
         let (line, behind) = first_line(rest);
         if !line.is_empty() {
-            let Some(read) = read_line(alloc, line)? else {
+            let Some(read) = read_write_line(alloc, line)? else {
                 return Err(Refusal::BadText { line: number });
             };
             lines.push(read)?;

@@ -1,4 +1,3 @@
-pub mod Cuts
 pub mod Decimals
 pub mod Numbers
 pub mod Regroup
@@ -6,4 +5,5 @@ pub mod Replies
 pub mod RoundTrip
 pub mod Spellings
 pub mod Unescaping
+pub mod ValueLines
 pub mod Visible

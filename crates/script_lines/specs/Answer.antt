@@ -14,8 +14,11 @@ use Rattle.pps_types.specs.Refusal.{number_of, name_of, argument_of}
 use Rattle.script_lines.specs.Escapes.{escaped}
 
 -- how many bytes there are, and the bytes, if there are any
+abbrev pub counted_words : List ℕ → List ℕ
+counted_words bytes = decimal (length bytes) ++ (if is_empty bytes then [] else codes " " ++ escaped bytes)
+
 abbrev pub data_words : List ℕ → List ℕ
-data_words bytes = codes "data " ++ decimal (length bytes) ++ (if is_empty bytes then [] else codes " " ++ escaped bytes)
+data_words bytes = codes "data " ++ counted_words bytes
 
 -- what a refusal carries, if it carries anything
 abbrev pub argument_word : Refusal → List ℕ

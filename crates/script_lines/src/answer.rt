@@ -14,18 +14,25 @@ fn push_number(out: &mut Vec<u8>, number: u64) -> Result<(), AllocError>
     out.extend_from_slice(buffer.format(number).as_bytes())
 }
 
-// Pushes how many bytes there are, and the bytes, if there are any.
+/// Pushes how many bytes there are, and the bytes, if there are any.
 #[tactic(auto, using(crate::proofs::Regroup::regroup))]
-fn push_data(out: &mut Vec<u8>, bytes: &[u8]) -> Result<(), AllocError>
-    ensures { OnOk result (out.new.items ≡ out.old.items ++ script.data_words bytes.now) }
+pub(crate) fn push_counted(out: &mut Vec<u8>, bytes: &[u8]) -> Result<(), AllocError>
+    ensures { OnOk result (out.new.items ≡ out.old.items ++ script.counted_words bytes.now) }
 {
-    out.extend_from_slice(b"data ")?;
     push_number(out, bytes.len() as u64)?;
     if bytes.is_empty() {
         return Ok(());
     }
     out.extend_from_slice(b" ")?;
     push_escaped(out, bytes)
+}
+
+#[tactic(auto, using(crate::proofs::Regroup::regroup))]
+fn push_data(out: &mut Vec<u8>, bytes: &[u8]) -> Result<(), AllocError>
+    ensures { OnOk result (out.new.items ≡ out.old.items ++ script.data_words bytes.now) }
+{
+    out.extend_from_slice(b"data ")?;
+    push_counted(out, bytes)
 }
 
 // Pushes what a refusal carries, if it carries anything.

@@ -1,6 +1,6 @@
 use crate::{
     ScriptLine, answers_are_lines, answers_are_told, commands_are_read, escapes_are_read,
-    numbers_are_decimal, print_answer, read_line,
+    numbers_are_decimal, print_answer, print_shown, read_line,
 };
 use pps_types::{
     Action, Bytes, Conn, Event, Handle, Item, Mode, Outcome, Refusal, Request, SharedBytes,
@@ -374,5 +374,29 @@ fn every_byte_is_printed_and_read_again(rt: HostRuntime) -> Result<(), Fail> {
     let handle = Handle::new(2);
     let bytes = Bytes::new(content);
     assert!(rt; asks(alloc, line.as_slice(), Request::Write { handle, bytes })?);
+    Ok(())
+}
+
+/// Whether this is shown of the values in the bytes.
+fn shows(alloc: Global, bytes: &[u8], wanted: &[u8]) -> Result<bool, AllocError> {
+    Ok(print_shown(alloc, bytes)?.as_slice() == wanted)
+}
+
+#[test]
+fn values_are_shown_in_their_order(rt: HostRuntime) -> Result<(), Fail> {
+    let alloc = rt.alloc();
+    let read = b"@gps\nk:b64:aGVsbG8=\nplain:n:1\nok:b:true\n[n]off:b:false\n";
+    let wanted = b"  k: bytes 5 hello\n  ok: true\n  off: false\n";
+    assert!(rt; shows(alloc, read, wanted)?);
+    assert!(rt; shows(alloc, b"", b"")?);
+    assert!(rt; shows(alloc, b"!@gps\n-k\n\n", b"")?);
+    assert!(rt;
+        shows(
+            alloc,
+            b"k:b64:\nl:b64:XAo=",
+            b"  k: bytes 0\n  l: bytes 2 \\\\\\n\n"
+        )?
+    );
+    assert!(rt; shows(alloc, b"k:b:True\nl:b64:a\n", b"  k: bad\n  l: bad\n")?);
     Ok(())
 }

@@ -1,4 +1,4 @@
-//! The scripts of cases/rows, and what the machine answers them. Made by tools/script_theorems.
+//! The scripts of tests/cases/rows, and what the machine answers them. Made by tools/script_theorems.
 ghost use Rattle.worked_rows.specs.Scripts.ArmingAndDisarming.{ArmingAndDisarming};
 ghost use Rattle.worked_rows.specs.Scripts.AttachAndDetach.{AttachAndDetach};
 ghost use Rattle.worked_rows.specs.Scripts.Backlog.{Backlog};

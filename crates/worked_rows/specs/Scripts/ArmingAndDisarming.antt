@@ -1,6 +1,6 @@
 -- Each Notify first drops what was armed on its handle. Tranarm arms a pulse while there is news, which fires when news
 -- comes anew; Pollarm does not.
--- Made by tools/script_theorems from cases/rows/arming_and_disarming.script.
+-- Made by tools/script_theorems from tests/cases/rows/arming_and_disarming.script.
 use Rattle.std.specs.Prelude.{◌≡◌, List, [], ◌∷◌, true, false, Ok, codes}
 use Rattle.pps_types.specs.declared.event.Event.{Event}
 use Rattle.pps_types.specs.declared.event.Request.TheVariants.{Attach, Open as OpenRequest, Read, Write, Notify, Receive}

@@ -1,6 +1,6 @@
 -- A connection attaches before anything else, once, under a number that there is, and may attach again after it has
 -- detached.
--- Made by tools/script_theorems from cases/rows/attach_and_detach.script.
+-- Made by tools/script_theorems from tests/cases/rows/attach_and_detach.script.
 use Rattle.std.specs.Prelude.{◌≡◌, List, [], ◌∷◌, Ok, Err, codes}
 use Rattle.pps_types.specs.declared.event.Event.{Event}
 use Rattle.pps_types.specs.declared.event.Request.TheVariants.{Attach, Detach, List as ListRequest}

@@ -1,6 +1,6 @@
 -- A client's write is refused where the server is owed as many of its messages as the server's limit; another client
 -- still gets through. A server object cannot be unlinked.
--- Made by tools/script_theorems from cases/rows/backlog.script.
+-- Made by tools/script_theorems from tests/cases/rows/backlog.script.
 use Rattle.std.specs.Prelude.{◌≡◌, List, [], ◌∷◌, true, false, Ok, Err, codes}
 use Rattle.pps_types.specs.declared.event.Event.{Event}
 use Rattle.pps_types.specs.declared.event.Request.TheVariants.{Attach, Open as OpenRequest, Write, Unlink}

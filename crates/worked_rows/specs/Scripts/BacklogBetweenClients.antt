@@ -1,5 +1,5 @@
 -- A server's write to all is refused where one client is owed its limit of messages, and then reaches nobody.
--- Made by tools/script_theorems from cases/rows/backlog_between_clients.script.
+-- Made by tools/script_theorems from tests/cases/rows/backlog_between_clients.script.
 use Rattle.std.specs.Prelude.{◌≡◌, List, [], ◌∷◌, true, false, Ok, Err, codes}
 use Rattle.pps_types.specs.declared.event.Event.{Event}
 use Rattle.pps_types.specs.declared.event.Request.TheVariants.{Attach, Open as OpenRequest, Read, Write}

@@ -1,6 +1,6 @@
 -- Letters of a mode that do not go together, paths that are none, options that are none, and options that do not go
 -- with the path.
--- Made by tools/script_theorems from cases/rows/bad_opens.script.
+-- Made by tools/script_theorems from tests/cases/rows/bad_opens.script.
 use Rattle.std.specs.Prelude.{◌≡◌, List, [], ◌∷◌, true, false, Ok, Err, codes}
 use Rattle.pps_types.specs.declared.event.Event.{Event}
 use Rattle.pps_types.specs.declared.event.Request.TheVariants.{Attach, Open as OpenRequest}

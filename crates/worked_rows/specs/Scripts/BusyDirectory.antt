@@ -1,5 +1,5 @@
 -- A directory cannot be removed while a handle is open on it, and can when that handle is closed.
--- Made by tools/script_theorems from cases/rows/busy_directory.script.
+-- Made by tools/script_theorems from tests/cases/rows/busy_directory.script.
 use Rattle.std.specs.Prelude.{◌≡◌, List, [], ◌∷◌, true, false, Ok, Err, codes}
 use Rattle.pps_types.specs.declared.event.Event.{Event}
 use Rattle.pps_types.specs.declared.event.Request.TheVariants.{Attach, Open as OpenRequest, Close, Unlink, Mkdir}

@@ -1,5 +1,5 @@
 -- The parked read of a handle that closes is ended before what its close tells others.
--- Made by tools/script_theorems from cases/rows/closing_a_parked_read.script.
+-- Made by tools/script_theorems from tests/cases/rows/closing_a_parked_read.script.
 use Rattle.std.specs.Prelude.{◌≡◌, List, [], ◌∷◌, true, false, Ok, Err, codes}
 use Rattle.pps_types.specs.declared.event.Event.{Event}
 use Rattle.pps_types.specs.declared.event.Request.TheVariants.{Attach, Open as OpenRequest, Read, Close, Notify, Receive}

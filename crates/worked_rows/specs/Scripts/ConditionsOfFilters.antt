@@ -1,6 +1,6 @@
 -- Parts of a filter ask for a value below, above or other than theirs; a value that is no number is neither below nor
 -- above one.
--- Made by tools/script_theorems from cases/rows/conditions_of_filters.script.
+-- Made by tools/script_theorems from tests/cases/rows/conditions_of_filters.script.
 use Rattle.std.specs.Prelude.{◌≡◌, List, [], ◌∷◌, true, false, Ok, codes}
 use Rattle.pps_types.specs.declared.event.Event.{Event}
 use Rattle.pps_types.specs.declared.event.Request.TheVariants.{Attach, Open as OpenRequest, Read, Write}

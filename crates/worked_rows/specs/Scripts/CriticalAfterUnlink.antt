@@ -1,5 +1,5 @@
 -- A critical publisher of a deleted object says nothing when its handle closes. `.all` is never critical.
--- Made by tools/script_theorems from cases/rows/critical_after_unlink.script.
+-- Made by tools/script_theorems from tests/cases/rows/critical_after_unlink.script.
 use Rattle.std.specs.Prelude.{◌≡◌, List, [], ◌∷◌, true, false, Ok, Err, codes}
 use Rattle.pps_types.specs.declared.event.Event.{Event}
 use Rattle.pps_types.specs.declared.event.Request.TheVariants.{Attach, Open as OpenRequest, Read, Close, Unlink}

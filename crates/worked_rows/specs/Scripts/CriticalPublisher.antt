@@ -1,6 +1,6 @@
 -- When a critical publisher detaches, the object's nonpersistent attributes are gone, and a subscriber is told so
 -- whatever its filter asks; a subscriber to names is not.
--- Made by tools/script_theorems from cases/rows/critical_publisher.script.
+-- Made by tools/script_theorems from tests/cases/rows/critical_publisher.script.
 use Rattle.std.specs.Prelude.{◌≡◌, List, [], ◌∷◌, true, false, Ok, codes}
 use Rattle.pps_types.specs.declared.event.Event.{Event}
 use Rattle.pps_types.specs.declared.event.Request.TheVariants.{Attach, Detach, Open as OpenRequest, Read, Write}

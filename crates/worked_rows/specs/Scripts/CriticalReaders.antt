@@ -1,5 +1,5 @@
 -- A critical handle that cannot write says nothing when it closes.
--- Made by tools/script_theorems from cases/rows/critical_readers.script.
+-- Made by tools/script_theorems from tests/cases/rows/critical_readers.script.
 use Rattle.std.specs.Prelude.{◌≡◌, List, [], ◌∷◌, true, false, Ok, codes}
 use Rattle.pps_types.specs.declared.event.Event.{Event}
 use Rattle.pps_types.specs.declared.event.Request.TheVariants.{Attach, Open as OpenRequest, Read, Write, Close}

@@ -1,5 +1,5 @@
 -- Where an open names no limit, the service's default stands, here 1: a second change is past it.
--- Made by tools/script_theorems from cases/rows/default_limit.script.
+-- Made by tools/script_theorems from tests/cases/rows/default_limit.script.
 use Rattle.std.specs.Prelude.{◌≡◌, List, [], ◌∷◌, true, false, Ok, codes}
 use Rattle.pps_types.specs.declared.event.Event.{Event}
 use Rattle.pps_types.specs.declared.event.Request.TheVariants.{Attach, Open as OpenRequest, Read, Write}

@@ -1,6 +1,6 @@
 -- Handles of a deleted object are given what they are owed, and then that it is gone. An object of the same name is
 -- another one.
--- Made by tools/script_theorems from cases/rows/deleted_and_created_again.script.
+-- Made by tools/script_theorems from tests/cases/rows/deleted_and_created_again.script.
 use Rattle.std.specs.Prelude.{◌≡◌, List, [], ◌∷◌, true, false, Ok, Err, codes}
 use Rattle.pps_types.specs.declared.event.Event.{Event}
 use Rattle.pps_types.specs.declared.event.Request.TheVariants.{Attach, Open as OpenRequest, Read, Write, Unlink}

@@ -1,6 +1,6 @@
 -- A read that is too small for the first change tells the size and moves nothing. One that is large enough for it gives
 -- whole changes alone.
--- Made by tools/script_theorems from cases/rows/delta_read_too_small.script.
+-- Made by tools/script_theorems from tests/cases/rows/delta_read_too_small.script.
 use Rattle.std.specs.Prelude.{◌≡◌, List, [], ◌∷◌, true, false, Ok, Err, codes}
 use Rattle.pps_types.specs.declared.event.Event.{Event}
 use Rattle.pps_types.specs.declared.event.Request.TheVariants.{Attach, Open as OpenRequest, Read, Write}

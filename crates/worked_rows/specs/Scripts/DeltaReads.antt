@@ -1,5 +1,5 @@
 -- A delta subscriber is given everything at first, and then each change by itself, in order.
--- Made by tools/script_theorems from cases/rows/delta_reads.script.
+-- Made by tools/script_theorems from tests/cases/rows/delta_reads.script.
 use Rattle.std.specs.Prelude.{◌≡◌, List, [], ◌∷◌, true, false, Ok, codes}
 use Rattle.pps_types.specs.declared.event.Event.{Event}
 use Rattle.pps_types.specs.declared.event.Request.TheVariants.{Attach, Open as OpenRequest, Read, Write}

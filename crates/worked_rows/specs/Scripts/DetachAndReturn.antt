@@ -1,5 +1,5 @@
 -- A connection that detaches loses its queue and its handles, and starts anew when it attaches again.
--- Made by tools/script_theorems from cases/rows/detach_and_return.script.
+-- Made by tools/script_theorems from tests/cases/rows/detach_and_return.script.
 use Rattle.std.specs.Prelude.{◌≡◌, List, [], ◌∷◌, true, false, Ok, Err, codes}
 use Rattle.pps_types.specs.declared.event.Event.{Event}
 use Rattle.pps_types.specs.declared.event.Request.TheVariants.{Attach, Detach, Open as OpenRequest, Read, Write, Notify, Receive}

@@ -1,6 +1,6 @@
 -- Directories are made, listed in the byte order of names, refused where the way or the name is wrong, and removed only
 -- where they are empty.
--- Made by tools/script_theorems from cases/rows/directories.script.
+-- Made by tools/script_theorems from tests/cases/rows/directories.script.
 use Rattle.std.specs.Prelude.{◌≡◌, List, [], ◌∷◌, true, false, Ok, Err, codes}
 use Rattle.pps_types.specs.declared.event.Event.{Event}
 use Rattle.pps_types.specs.declared.event.Request.TheVariants.{Attach, Open as OpenRequest, Unlink, Mkdir, List as ListRequest}

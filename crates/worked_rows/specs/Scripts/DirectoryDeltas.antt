@@ -1,6 +1,6 @@
 -- A delta subscriber to a directory is told what happens to the objects directly in it, and nothing of its
 -- subdirectories.
--- Made by tools/script_theorems from cases/rows/directory_deltas.script.
+-- Made by tools/script_theorems from tests/cases/rows/directory_deltas.script.
 use Rattle.std.specs.Prelude.{◌≡◌, List, [], ◌∷◌, true, false, Ok, codes}
 use Rattle.pps_types.specs.declared.event.Event.{Event}
 use Rattle.pps_types.specs.declared.event.Request.TheVariants.{Attach, Open as OpenRequest, Read, Write, Unlink, Mkdir}

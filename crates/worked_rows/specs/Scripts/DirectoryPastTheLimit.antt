@@ -1,5 +1,5 @@
 -- A subscriber to a directory that is past its limit is given a line that says so, and then all members there are.
--- Made by tools/script_theorems from cases/rows/directory_past_the_limit.script.
+-- Made by tools/script_theorems from tests/cases/rows/directory_past_the_limit.script.
 use Rattle.std.specs.Prelude.{◌≡◌, List, [], ◌∷◌, true, false, Ok, codes}
 use Rattle.pps_types.specs.declared.event.Event.{Event}
 use Rattle.pps_types.specs.declared.event.Request.TheVariants.{Attach, Open as OpenRequest, Read, Write, Unlink}

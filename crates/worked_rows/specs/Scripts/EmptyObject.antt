@@ -1,5 +1,5 @@
 -- A write without lines is answered its size and is no change. A read has a size of at least 1.
--- Made by tools/script_theorems from cases/rows/empty_object.script.
+-- Made by tools/script_theorems from tests/cases/rows/empty_object.script.
 use Rattle.std.specs.Prelude.{◌≡◌, List, [], ◌∷◌, true, false, Ok, Err, codes}
 use Rattle.pps_types.specs.declared.event.Event.{Event}
 use Rattle.pps_types.specs.declared.event.Request.TheVariants.{Attach, Open as OpenRequest, Read, Write}

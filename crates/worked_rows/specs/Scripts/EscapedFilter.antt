@@ -1,5 +1,5 @@
 -- A `+` behind a backslash belongs to the value that a filter asks for.
--- Made by tools/script_theorems from cases/rows/escaped_filter.script.
+-- Made by tools/script_theorems from tests/cases/rows/escaped_filter.script.
 use Rattle.std.specs.Prelude.{◌≡◌, List, [], ◌∷◌, true, false, Ok, codes}
 use Rattle.pps_types.specs.declared.event.Event.{Event}
 use Rattle.pps_types.specs.declared.event.Request.TheVariants.{Attach, Open as OpenRequest, Read, Write}

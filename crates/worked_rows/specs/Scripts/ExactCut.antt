@@ -1,6 +1,6 @@
 -- Subscribers at different places of one object each get what they are owed; one that is past its limit gets
 -- everything, marked.
--- Made by tools/script_theorems from cases/rows/exact_cut.script.
+-- Made by tools/script_theorems from tests/cases/rows/exact_cut.script.
 use Rattle.std.specs.Prelude.{◌≡◌, List, [], ◌∷◌, true, false, Ok, codes}
 use Rattle.pps_types.specs.declared.event.Event.{Event}
 use Rattle.pps_types.specs.declared.event.Request.TheVariants.{Attach, Open as OpenRequest, Read, Write, Close}

@@ -1,5 +1,5 @@
 -- The deletion of an attribute matches wherever a part of the filter has its name, whatever that part asks of values.
--- Made by tools/script_theorems from cases/rows/filtered_deletions.script.
+-- Made by tools/script_theorems from tests/cases/rows/filtered_deletions.script.
 use Rattle.std.specs.Prelude.{◌≡◌, List, [], ◌∷◌, true, false, Ok, codes}
 use Rattle.pps_types.specs.declared.event.Event.{Event}
 use Rattle.pps_types.specs.declared.event.Request.TheVariants.{Attach, Open as OpenRequest, Read, Write}

@@ -1,5 +1,5 @@
 -- A change has a block only where a line of it matches the filter, and the block shows the matching lines alone.
--- Made by tools/script_theorems from cases/rows/filtered_deltas.script.
+-- Made by tools/script_theorems from tests/cases/rows/filtered_deltas.script.
 use Rattle.std.specs.Prelude.{◌≡◌, List, [], ◌∷◌, true, false, Ok, codes}
 use Rattle.pps_types.specs.declared.event.Event.{Event}
 use Rattle.pps_types.specs.declared.event.Request.TheVariants.{Attach, Open as OpenRequest, Read, Write}

@@ -1,5 +1,5 @@
 -- A member none of whose attributes match is still named. What a filter hides does not count against the limit.
--- Made by tools/script_theorems from cases/rows/filtered_members.script.
+-- Made by tools/script_theorems from tests/cases/rows/filtered_members.script.
 use Rattle.std.specs.Prelude.{◌≡◌, List, [], ◌∷◌, true, false, Ok, codes}
 use Rattle.pps_types.specs.declared.event.Event.{Event}
 use Rattle.pps_types.specs.declared.event.Request.TheVariants.{Attach, Open as OpenRequest, Read, Write}

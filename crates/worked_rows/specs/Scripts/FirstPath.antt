@@ -1,6 +1,6 @@
 -- One publisher creates an object and writes it, one subscriber opens it in full mode and reads it; without news a
 -- second read gives nothing.
--- Made by tools/script_theorems from cases/rows/first_path.script.
+-- Made by tools/script_theorems from tests/cases/rows/first_path.script.
 use Rattle.std.specs.Prelude.{◌≡◌, List, [], ◌∷◌, true, false, Ok, codes}
 use Rattle.pps_types.specs.declared.event.Event.{Event}
 use Rattle.pps_types.specs.declared.event.Request.TheVariants.{Attach, Open as OpenRequest, Read, Write}

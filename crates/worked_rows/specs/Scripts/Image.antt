@@ -1,5 +1,5 @@
 -- What the saved image is made from: one attribute and one object of these are not persistent.
--- Made by tools/script_theorems from cases/rows/image.script.
+-- Made by tools/script_theorems from tests/cases/rows/image.script.
 use Rattle.std.specs.Prelude.{◌≡◌, List, [], ◌∷◌, true, false, Ok, codes}
 use Rattle.pps_types.specs.declared.event.Event.{Event}
 use Rattle.pps_types.specs.declared.event.Request.TheVariants.{Attach, Open as OpenRequest, Write}

@@ -1,5 +1,5 @@
 -- A write of 65,536 bytes fills an object; one attribute more, or one byte more in a write, is too large.
--- Made by tools/script_theorems from cases/rows/larger_texts.script.
+-- Made by tools/script_theorems from tests/cases/rows/larger_texts.script.
 use Rattle.std.specs.Prelude.{◌≡◌, List, [], ◌∷◌, ◌++◌, true, false, Ok, Err, codes, replicate}
 use Rattle.pps_types.specs.declared.event.Event.{Event}
 use Rattle.pps_types.specs.declared.event.Request.TheVariants.{Attach, Open as OpenRequest, Write}

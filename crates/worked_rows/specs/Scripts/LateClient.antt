@@ -1,6 +1,6 @@
 -- A client is given only what was sent after it opened. An open with `t` tells a server of a client, and truncates
 -- nothing.
--- Made by tools/script_theorems from cases/rows/late_client.script.
+-- Made by tools/script_theorems from tests/cases/rows/late_client.script.
 use Rattle.std.specs.Prelude.{◌≡◌, List, [], ◌∷◌, true, false, Ok, codes}
 use Rattle.pps_types.specs.declared.event.Event.{Event}
 use Rattle.pps_types.specs.declared.event.Request.TheVariants.{Attach, Open as OpenRequest, Read, Write}

@@ -1,6 +1,6 @@
 -- A parked read is answered by what stands after the event that ends it: here that it was too small. Closing a handle
 -- ends its parked read.
--- Made by tools/script_theorems from cases/rows/late_reply_too_small.script.
+-- Made by tools/script_theorems from tests/cases/rows/late_reply_too_small.script.
 use Rattle.std.specs.Prelude.{◌≡◌, List, [], ◌∷◌, true, false, Ok, Err, codes}
 use Rattle.pps_types.specs.declared.event.Event.{Event}
 use Rattle.pps_types.specs.declared.event.Request.TheVariants.{Attach, Open as OpenRequest, Read, Write, Close, Receive}

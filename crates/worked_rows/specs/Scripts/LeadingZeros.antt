@@ -1,5 +1,5 @@
 -- Numbers of options and of headers have no leading zeros, and stay within their limits.
--- Made by tools/script_theorems from cases/rows/leading_zeros.script.
+-- Made by tools/script_theorems from tests/cases/rows/leading_zeros.script.
 use Rattle.std.specs.Prelude.{◌≡◌, List, [], ◌∷◌, true, false, Ok, Err, codes}
 use Rattle.pps_types.specs.declared.event.Event.{Event}
 use Rattle.pps_types.specs.declared.event.Request.TheVariants.{Attach, Open as OpenRequest, Write}

@@ -1,6 +1,6 @@
 -- Names of attributes have at most 255 bytes, encodings 32, names of a path 255; a path has at most 32 names, `.all`
 -- not among them.
--- Made by tools/script_theorems from cases/rows/lengths_of_texts.script.
+-- Made by tools/script_theorems from tests/cases/rows/lengths_of_texts.script.
 use Rattle.std.specs.Prelude.{◌≡◌, List, [], ◌∷◌, ◌++◌, true, false, Ok, Err, codes, replicate}
 use Rattle.pps_types.specs.declared.event.Event.{Event}
 use Rattle.pps_types.specs.declared.event.Request.TheVariants.{Attach, Open as OpenRequest, Write, Mkdir}

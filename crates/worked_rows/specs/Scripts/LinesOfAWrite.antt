@@ -1,5 +1,5 @@
 -- Which lines a write may have, and how a bad one is counted. The lines are judged before the header's name is.
--- Made by tools/script_theorems from cases/rows/lines_of_a_write.script.
+-- Made by tools/script_theorems from tests/cases/rows/lines_of_a_write.script.
 use Rattle.std.specs.Prelude.{◌≡◌, List, [], ◌∷◌, ◌++◌, true, false, Ok, Err, codes}
 use Rattle.pps_types.specs.declared.event.Event.{Event}
 use Rattle.pps_types.specs.declared.event.Request.TheVariants.{Attach, Open as OpenRequest, Read, Write}

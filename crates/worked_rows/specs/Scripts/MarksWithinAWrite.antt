@@ -1,5 +1,5 @@
 -- A line sees what the lines before it in the same write did to the mark of its attribute.
--- Made by tools/script_theorems from cases/rows/marks_within_a_write.script.
+-- Made by tools/script_theorems from tests/cases/rows/marks_within_a_write.script.
 use Rattle.std.specs.Prelude.{◌≡◌, List, [], ◌∷◌, true, false, Ok, codes}
 use Rattle.pps_types.specs.declared.event.Event.{Event}
 use Rattle.pps_types.specs.declared.event.Request.TheVariants.{Attach, Open as OpenRequest, Read, Write}

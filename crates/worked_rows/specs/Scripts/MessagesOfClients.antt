@@ -1,6 +1,6 @@
 -- A client's messages and its notices reach the server in order. Only messages count against the server's limit, and a
 -- write without lines is held up by nothing.
--- Made by tools/script_theorems from cases/rows/messages_of_clients.script.
+-- Made by tools/script_theorems from tests/cases/rows/messages_of_clients.script.
 use Rattle.std.specs.Prelude.{◌≡◌, List, [], ◌∷◌, true, false, Ok, Err, codes}
 use Rattle.pps_types.specs.declared.event.Event.{Event}
 use Rattle.pps_types.specs.declared.event.Request.TheVariants.{Attach, Detach, Open as OpenRequest, Read, Write}

@@ -1,6 +1,6 @@
 -- A server's message goes to the open clients of its own object that are meant, and only these may hold it up. A client
 -- that cannot read never does.
--- Made by tools/script_theorems from cases/rows/messages_of_servers.script.
+-- Made by tools/script_theorems from tests/cases/rows/messages_of_servers.script.
 use Rattle.std.specs.Prelude.{◌≡◌, List, [], ◌∷◌, true, false, Ok, Err, codes}
 use Rattle.pps_types.specs.declared.event.Event.{Event}
 use Rattle.pps_types.specs.declared.event.Request.TheVariants.{Attach, Open as OpenRequest, Read, Write}

@@ -1,5 +1,5 @@
 -- A subscriber to names is given the names of a directory's objects, in byte order, and then which come and go.
--- Made by tools/script_theorems from cases/rows/names_alone.script.
+-- Made by tools/script_theorems from tests/cases/rows/names_alone.script.
 use Rattle.std.specs.Prelude.{◌≡◌, List, [], ◌∷◌, true, false, Ok, codes}
 use Rattle.pps_types.specs.declared.event.Event.{Event}
 use Rattle.pps_types.specs.declared.event.Request.TheVariants.{Attach, Open as OpenRequest, Read, Unlink, Mkdir}

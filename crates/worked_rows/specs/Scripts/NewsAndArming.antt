@@ -1,6 +1,6 @@
 -- A handle that has not read yet has news, so Pollarm arms nothing; a pulse fires when news comes where there was none,
 -- and once.
--- Made by tools/script_theorems from cases/rows/news_and_arming.script.
+-- Made by tools/script_theorems from tests/cases/rows/news_and_arming.script.
 use Rattle.std.specs.Prelude.{◌≡◌, List, [], ◌∷◌, true, false, Ok, Err, codes}
 use Rattle.pps_types.specs.declared.event.Event.{Event}
 use Rattle.pps_types.specs.declared.event.Request.TheVariants.{Attach, Open as OpenRequest, Read, Write, Notify, Receive}

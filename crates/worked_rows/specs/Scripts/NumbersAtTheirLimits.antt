@@ -1,6 +1,6 @@
 -- Connections are numbered from 1 to 1,024, sizes of reads are from 1 to 17,000,000, and codes of pulses up to 127. A
 -- refused Notify leaves what is armed.
--- Made by tools/script_theorems from cases/rows/numbers_at_their_limits.script.
+-- Made by tools/script_theorems from tests/cases/rows/numbers_at_their_limits.script.
 use Rattle.std.specs.Prelude.{◌≡◌, List, [], ◌∷◌, true, false, Ok, Err, codes}
 use Rattle.pps_types.specs.declared.event.Event.{Event}
 use Rattle.pps_types.specs.declared.event.Request.TheVariants.{Attach, Open as OpenRequest, Read, Write, List as ListRequest, Notify, Receive}

@@ -1,6 +1,6 @@
 -- Options may be empty or stand twice where they are words; a filter and a limit stand once. A comma behind a backslash
 -- ends no option.
--- Made by tools/script_theorems from cases/rows/options_of_opens.script.
+-- Made by tools/script_theorems from tests/cases/rows/options_of_opens.script.
 use Rattle.std.specs.Prelude.{◌≡◌, List, [], ◌∷◌, true, false, Ok, Err, codes}
 use Rattle.pps_types.specs.declared.event.Event.{Event}
 use Rattle.pps_types.specs.declared.event.Request.TheVariants.{Attach, Open as OpenRequest, Read, Write}

@@ -1,5 +1,5 @@
 -- A changed attribute keeps its place and its mark; one that was deleted goes last when it is set again.
--- Made by tools/script_theorems from cases/rows/order_of_attributes.script.
+-- Made by tools/script_theorems from tests/cases/rows/order_of_attributes.script.
 use Rattle.std.specs.Prelude.{◌≡◌, List, [], ◌∷◌, true, false, Ok, codes}
 use Rattle.pps_types.specs.declared.event.Event.{Event}
 use Rattle.pps_types.specs.declared.event.Request.TheVariants.{Attach, Open as OpenRequest, Read, Write}

@@ -1,6 +1,6 @@
 -- An open is judged by its letters, its path, its options, how these go together, what stands on the way and what
 -- stands at the end, in this order.
--- Made by tools/script_theorems from cases/rows/order_of_checks_of_opens.script.
+-- Made by tools/script_theorems from tests/cases/rows/order_of_checks_of_opens.script.
 use Rattle.std.specs.Prelude.{◌≡◌, List, [], ◌∷◌, true, false, Ok, Err, codes}
 use Rattle.pps_types.specs.declared.event.Event.{Event}
 use Rattle.pps_types.specs.declared.event.Request.TheVariants.{Attach, Open as OpenRequest, Unlink, Mkdir, List as ListRequest}

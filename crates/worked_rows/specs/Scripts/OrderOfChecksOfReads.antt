@@ -1,6 +1,6 @@
 -- Reads and Notify are judged by the handle's rights first, and then by their numbers; only then a read by the one that
 -- is parked.
--- Made by tools/script_theorems from cases/rows/order_of_checks_of_reads.script.
+-- Made by tools/script_theorems from tests/cases/rows/order_of_checks_of_reads.script.
 use Rattle.std.specs.Prelude.{◌≡◌, List, [], ◌∷◌, true, false, Ok, Err, codes}
 use Rattle.pps_types.specs.declared.event.Event.{Event}
 use Rattle.pps_types.specs.declared.event.Request.TheVariants.{Attach, Open as OpenRequest, Read, Write, Notify}

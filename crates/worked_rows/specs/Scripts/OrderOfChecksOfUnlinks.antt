@@ -1,5 +1,5 @@
 -- A directory that holds something is told before one that is open.
--- Made by tools/script_theorems from cases/rows/order_of_checks_of_unlinks.script.
+-- Made by tools/script_theorems from tests/cases/rows/order_of_checks_of_unlinks.script.
 use Rattle.std.specs.Prelude.{◌≡◌, List, [], ◌∷◌, true, false, Ok, Err, codes}
 use Rattle.pps_types.specs.declared.event.Event.{Event}
 use Rattle.pps_types.specs.declared.event.Request.TheVariants.{Attach, Open as OpenRequest, Close, Unlink, Mkdir, List as ListRequest}

@@ -1,5 +1,5 @@
 -- A write is judged by its handle, its handle's rights, its size, the object's death and its text, in this order.
--- Made by tools/script_theorems from cases/rows/order_of_checks_of_writes.script.
+-- Made by tools/script_theorems from tests/cases/rows/order_of_checks_of_writes.script.
 use Rattle.std.specs.Prelude.{◌≡◌, List, [], ◌∷◌, true, false, Ok, Err, codes, replicate}
 use Rattle.pps_types.specs.declared.event.Event.{Event}
 use Rattle.pps_types.specs.declared.event.Request.TheVariants.{Attach, Open as OpenRequest, Read, Write, Close, Unlink}

@@ -1,5 +1,5 @@
 -- Names are listed in byte order, whether they are of objects or of directories.
--- Made by tools/script_theorems from cases/rows/order_of_names.script.
+-- Made by tools/script_theorems from tests/cases/rows/order_of_names.script.
 use Rattle.std.specs.Prelude.{◌≡◌, List, [], ◌∷◌, true, false, Ok, codes}
 use Rattle.pps_types.specs.declared.event.Event.{Event}
 use Rattle.pps_types.specs.declared.event.Request.TheVariants.{Attach, Open as OpenRequest, Read, Mkdir, List as ListRequest}

@@ -1,6 +1,6 @@
 -- A change ends the parked read and fires the armed pulse of its handle, the pulse first. A second read is refused
 -- while one is parked.
--- Made by tools/script_theorems from cases/rows/parked_read_and_pulse.script.
+-- Made by tools/script_theorems from tests/cases/rows/parked_read_and_pulse.script.
 use Rattle.std.specs.Prelude.{◌≡◌, List, [], ◌∷◌, true, false, Ok, Err, codes}
 use Rattle.pps_types.specs.declared.event.Event.{Event}
 use Rattle.pps_types.specs.declared.event.Request.TheVariants.{Attach, Open as OpenRequest, Read, Write, Notify, Receive}

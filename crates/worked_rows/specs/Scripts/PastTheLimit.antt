@@ -1,5 +1,5 @@
 -- A delta subscriber that is owed more than its limit is given everything again, marked, and from there on changes.
--- Made by tools/script_theorems from cases/rows/past_the_limit.script.
+-- Made by tools/script_theorems from tests/cases/rows/past_the_limit.script.
 use Rattle.std.specs.Prelude.{◌≡◌, List, [], ◌∷◌, true, false, Ok, codes}
 use Rattle.pps_types.specs.declared.event.Event.{Event}
 use Rattle.pps_types.specs.declared.event.Request.TheVariants.{Attach, Open as OpenRequest, Read, Write}

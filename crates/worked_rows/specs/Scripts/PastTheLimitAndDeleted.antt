@@ -1,5 +1,5 @@
 -- Everything of a deleted object is that it is deleted, without the mark of a handle that is past its limit.
--- Made by tools/script_theorems from cases/rows/past_the_limit_and_deleted.script.
+-- Made by tools/script_theorems from tests/cases/rows/past_the_limit_and_deleted.script.
 use Rattle.std.specs.Prelude.{◌≡◌, List, [], ◌∷◌, true, false, Ok, Err, codes}
 use Rattle.pps_types.specs.declared.event.Event.{Event}
 use Rattle.pps_types.specs.declared.event.Request.TheVariants.{Attach, Open as OpenRequest, Read, Write, Unlink}

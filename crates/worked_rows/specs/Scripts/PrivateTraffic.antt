@@ -1,5 +1,5 @@
 -- Two clients of a server: what the one and the server write to each other is not seen by the other.
--- Made by tools/script_theorems from cases/rows/private_traffic.script.
+-- Made by tools/script_theorems from tests/cases/rows/private_traffic.script.
 use Rattle.std.specs.Prelude.{◌≡◌, List, [], ◌∷◌, true, false, Ok, codes}
 use Rattle.pps_types.specs.declared.event.Event.{Event}
 use Rattle.pps_types.specs.declared.event.Request.TheVariants.{Attach, Open as OpenRequest, Read, Write}

@@ -1,5 +1,5 @@
 -- The same without the server's message to the first client: the answers to the second are as before.
--- Made by tools/script_theorems from cases/rows/private_traffic_other_way.script.
+-- Made by tools/script_theorems from tests/cases/rows/private_traffic_other_way.script.
 use Rattle.std.specs.Prelude.{◌≡◌, List, [], ◌∷◌, true, false, Ok, codes}
 use Rattle.pps_types.specs.declared.event.Event.{Event}
 use Rattle.pps_types.specs.declared.event.Request.TheVariants.{Attach, Open as OpenRequest, Read, Write}

@@ -1,5 +1,5 @@
 -- The same without the second client's traffic: the answers to the first are as before.
--- Made by tools/script_theorems from cases/rows/private_traffic_without_the_other.script.
+-- Made by tools/script_theorems from tests/cases/rows/private_traffic_without_the_other.script.
 use Rattle.std.specs.Prelude.{◌≡◌, List, [], ◌∷◌, true, false, Ok, codes}
 use Rattle.pps_types.specs.declared.event.Event.{Event}
 use Rattle.pps_types.specs.declared.event.Request.TheVariants.{Attach, Open as OpenRequest, Read, Write}

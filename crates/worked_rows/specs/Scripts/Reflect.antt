@@ -1,5 +1,5 @@
 -- A handle is not given its own changes, unless it reflects.
--- Made by tools/script_theorems from cases/rows/reflect.script.
+-- Made by tools/script_theorems from tests/cases/rows/reflect.script.
 use Rattle.std.specs.Prelude.{◌≡◌, List, [], ◌∷◌, true, false, Ok, codes}
 use Rattle.pps_types.specs.declared.event.Event.{Event}
 use Rattle.pps_types.specs.declared.event.Request.TheVariants.{Attach, Open as OpenRequest, Read, Write}

@@ -1,5 +1,5 @@
 -- A write is refused as a whole at its first bad line, or at a header that names another object.
--- Made by tools/script_theorems from cases/rows/refused_write.script.
+-- Made by tools/script_theorems from tests/cases/rows/refused_write.script.
 use Rattle.std.specs.Prelude.{◌≡◌, List, [], ◌∷◌, true, false, Ok, Err, codes}
 use Rattle.pps_types.specs.declared.event.Event.{Event}
 use Rattle.pps_types.specs.declared.event.Request.TheVariants.{Attach, Open as OpenRequest, Read, Write}

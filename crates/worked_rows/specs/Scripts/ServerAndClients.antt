@@ -1,6 +1,6 @@
 -- A server is told of its clients and of what they write; its answers reach those that they are meant for. When it
 -- closes, its object is gone.
--- Made by tools/script_theorems from cases/rows/server_and_clients.script.
+-- Made by tools/script_theorems from tests/cases/rows/server_and_clients.script.
 use Rattle.std.specs.Prelude.{◌≡◌, List, [], ◌∷◌, true, false, Ok, Err, codes}
 use Rattle.pps_types.specs.declared.event.Event.{Event}
 use Rattle.pps_types.specs.declared.event.Request.TheVariants.{Attach, Open as OpenRequest, Read, Write, Close}

@@ -1,5 +1,5 @@
 -- A server object is its name alone to a subscriber to its directory, and has one server.
--- Made by tools/script_theorems from cases/rows/server_in_a_directory.script.
+-- Made by tools/script_theorems from tests/cases/rows/server_in_a_directory.script.
 use Rattle.std.specs.Prelude.{◌≡◌, List, [], ◌∷◌, true, false, Ok, Err, codes}
 use Rattle.pps_types.specs.declared.event.Event.{Event}
 use Rattle.pps_types.specs.declared.event.Request.TheVariants.{Attach, Open as OpenRequest, Read, Mkdir}

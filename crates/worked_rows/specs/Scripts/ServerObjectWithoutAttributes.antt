@@ -1,6 +1,6 @@
 -- A server object has none of the attributes of the object that it replaces, and its messages are none. When the server
 -- closes, the object is gone.
--- Made by tools/script_theorems from cases/rows/server_object_without_attributes.script.
+-- Made by tools/script_theorems from tests/cases/rows/server_object_without_attributes.script.
 use Rattle.std.specs.Prelude.{◌≡◌, List, [], ◌∷◌, true, false, Ok, Err, codes}
 use Rattle.pps_types.specs.declared.event.Event.{Event}
 use Rattle.pps_types.specs.declared.event.Request.TheVariants.{Attach, Open as OpenRequest, Read, Write, Close}

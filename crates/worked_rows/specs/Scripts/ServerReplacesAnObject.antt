@@ -1,5 +1,5 @@
 -- A server open on a plain object without handles deletes the object and creates the server object in its place.
--- Made by tools/script_theorems from cases/rows/server_replaces_an_object.script.
+-- Made by tools/script_theorems from tests/cases/rows/server_replaces_an_object.script.
 use Rattle.std.specs.Prelude.{◌≡◌, List, [], ◌∷◌, true, false, Ok, codes}
 use Rattle.pps_types.specs.declared.event.Event.{Event}
 use Rattle.pps_types.specs.declared.event.Request.TheVariants.{Attach, Open as OpenRequest, Read, Close}

@@ -1,5 +1,5 @@
 -- Three sessions whose answers are the same in every order.
--- Made by tools/script_theorems from cases/rows/shared_run_queue.script.
+-- Made by tools/script_theorems from tests/cases/rows/shared_run_queue.script.
 use Rattle.std.specs.Prelude.{◌≡◌, List, [], ◌∷◌, Ok, codes}
 use Rattle.pps_types.specs.declared.event.Event.{Event}
 use Rattle.pps_types.specs.declared.event.Request.TheVariants.{Attach, List as ListRequest}

@@ -1,5 +1,5 @@
 -- An object with values in two encodings that the program can show.
--- Made by tools/script_theorems from cases/rows/shown_values.script.
+-- Made by tools/script_theorems from tests/cases/rows/shown_values.script.
 use Rattle.std.specs.Prelude.{◌≡◌, List, [], ◌∷◌, true, false, Ok, codes}
 use Rattle.pps_types.specs.declared.event.Event.{Event}
 use Rattle.pps_types.specs.declared.event.Request.TheVariants.{Attach, Open as OpenRequest, Read, Write}

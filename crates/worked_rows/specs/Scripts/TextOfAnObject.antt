@@ -1,5 +1,5 @@
 -- An object's text has at most 65,536 bytes after the whole write: its lines as they are printed, with their marks.
--- Made by tools/script_theorems from cases/rows/text_of_an_object.script.
+-- Made by tools/script_theorems from tests/cases/rows/text_of_an_object.script.
 use Rattle.std.specs.Prelude.{◌≡◌, List, [], ◌∷◌, ◌++◌, true, false, Ok, Err, codes, replicate}
 use Rattle.pps_types.specs.declared.event.Event.{Event}
 use Rattle.pps_types.specs.declared.event.Request.TheVariants.{Attach, Open as OpenRequest, Read, Write}

@@ -1,6 +1,6 @@
 -- Truncating and deleting an object are told to its subscribers whatever their filters ask; truncating also where
 -- nothing was left, and not to subscribers to names.
--- Made by tools/script_theorems from cases/rows/truncated_and_deleted.script.
+-- Made by tools/script_theorems from tests/cases/rows/truncated_and_deleted.script.
 use Rattle.std.specs.Prelude.{◌≡◌, List, [], ◌∷◌, true, false, Ok, Err, codes}
 use Rattle.pps_types.specs.declared.event.Event.{Event}
 use Rattle.pps_types.specs.declared.event.Request.TheVariants.{Attach, Open as OpenRequest, Read, Write, Unlink}

@@ -1,6 +1,6 @@
 -- A publisher and a subscriber in sessions of their own, in the one order that a gate forces: the armed pulse fires at
 -- the write.
--- Made by tools/script_theorems from cases/rows/two_sessions.script.
+-- Made by tools/script_theorems from tests/cases/rows/two_sessions.script.
 use Rattle.std.specs.Prelude.{◌≡◌, List, [], ◌∷◌, true, false, Ok, codes}
 use Rattle.pps_types.specs.declared.event.Event.{Event}
 use Rattle.pps_types.specs.declared.event.Request.TheVariants.{Attach, Open as OpenRequest, Read, Write, Notify, Receive}

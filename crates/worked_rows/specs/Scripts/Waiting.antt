@@ -1,6 +1,6 @@
 -- A read with nothing new waits. The late reply is made from what stands after the event. A first read does not wait,
 -- nor does one on a deleted object.
--- Made by tools/script_theorems from cases/rows/waiting.script.
+-- Made by tools/script_theorems from tests/cases/rows/waiting.script.
 use Rattle.std.specs.Prelude.{◌≡◌, List, [], ◌∷◌, true, false, Ok, Err, codes}
 use Rattle.pps_types.specs.declared.event.Event.{Event}
 use Rattle.pps_types.specs.declared.event.Request.TheVariants.{Attach, Open as OpenRequest, Read, Write, Unlink, Mkdir, Receive}

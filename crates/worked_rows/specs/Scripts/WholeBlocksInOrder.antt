@@ -1,5 +1,5 @@
 -- A read gives whole blocks in order, up to the first that does not fit; the others stay owed.
--- Made by tools/script_theorems from cases/rows/whole_blocks_in_order.script.
+-- Made by tools/script_theorems from tests/cases/rows/whole_blocks_in_order.script.
 use Rattle.std.specs.Prelude.{◌≡◌, List, [], ◌∷◌, true, false, Ok, Err, codes}
 use Rattle.pps_types.specs.declared.event.Event.{Event}
 use Rattle.pps_types.specs.declared.event.Request.TheVariants.{Attach, Open as OpenRequest, Read, Write}

@@ -1,5 +1,5 @@
 -- Two sessions that only attach.
--- Made by tools/script_theorems from cases/rows/workers_overlap.script.
+-- Made by tools/script_theorems from tests/cases/rows/workers_overlap.script.
 use Rattle.std.specs.Prelude.{◌≡◌, List, [], ◌∷◌, Ok}
 use Rattle.pps_types.specs.declared.event.Event.{Event}
 use Rattle.pps_types.specs.declared.event.Request.TheVariants.{Attach}

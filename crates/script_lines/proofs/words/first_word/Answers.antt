@@ -1,5 +1,5 @@
 use Rattle.std.proofs.lemmas.List.{take_rest}
-use Rattle.script_lines.proofs.Cuts.{split_at_first-is}
+use Rattle.attr_text.proofs.Reading.{split_at_first-is}
 use Rattle.script_lines.proofs.words.first_word.Goals as goal
 
 pub returns-in_err-at : goal.returns-in_err-at

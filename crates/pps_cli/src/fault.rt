@@ -1,0 +1,45 @@
+//! What ends the program before its time.
+ghost use Rattle.std.specs.Prelude.{◌≡◌};
+ghost use Rattle.pps_cli.specs.Faults.{status_of};
+ghost use Rattle.pps_cli.specs.declared.fault.Fault.TheVariants.{OutOfMemory};
+
+use std::alloc::AllocError;
+use thiserror::Error;
+
+/// What ends the program before its time.
+#[derive(Clone, Copy, Debug, PartialEq, Eq, Error)]
+pub(crate) enum Fault {
+    /// A line of a script, counted from 1, that is none.
+    #[error("line {line}: bad script line")]
+    BadLine { line: u64 },
+    #[error("bad command line")]
+    BadCommandLine,
+    #[error("cannot read input")]
+    CannotReadInput,
+    #[error("cannot write output")]
+    CannotWriteOutput,
+    /// The program itself is refused memory.
+    #[error("out of memory")]
+    OutOfMemory,
+}
+
+impl Fault {
+    /// The exit status.
+    pub(crate) fn status(self) -> u8
+        ensures { result ≡ status_of self }
+    {
+        match self {
+            Fault::BadLine { .. } => 1,
+            Fault::BadCommandLine => 2,
+            Fault::CannotReadInput | Fault::CannotWriteOutput | Fault::OutOfMemory => 3,
+        }
+    }
+}
+
+impl From<AllocError> for Fault {
+    ghost from_gives = { λ _ fault. fault ≡ OutOfMemory };
+
+    fn from(_refused: AllocError) -> Fault {
+        Fault::OutOfMemory
+    }
+}

@@ -1,0 +1,80 @@
+//! One line of a script, served.
+ghost use Rattle.std.specs.Prelude.{◌≡◌, ◌++◌, IfOk, IfErr, OnOk};
+ghost use Rattle.script_lines.specs.Script.{line_of};
+ghost use Rattle.pps_cli.specs.Serving as serving;
+ghost use Rattle.pps_cli.specs.declared.serving.LineFault.TheVariants.{OutOfMemory};
+
+use pps_engine::Engine;
+use pps_types::{Event, Outcome, Refusal, Request};
+use script_lines::{ScriptLine, print_answer, print_shown, read_line};
+use std::alloc::{AllocError, Global};
+
+/// Why a line is not served.
+#[derive(Clone, Copy, Debug, PartialEq, Eq)]
+pub(crate) enum LineFault {
+    BadLine,
+    OutOfMemory,
+}
+
+impl From<AllocError> for LineFault {
+    ghost from_gives = { λ _ fault. fault ≡ OutOfMemory };
+
+    fn from(_refused: AllocError) -> LineFault {
+        LineFault::OutOfMemory
+    }
+}
+
+// Pushes what is shown of the values in an answer.
+fn push_shown(
+    alloc: Global,
+    out: &mut Vec<u8>,
+    request: &Request,
+    answer: &Result<Outcome, Refusal>,
+) -> Result<(), AllocError>
+    ensures { OnOk result (out.new.items ≡ out.old.items ++ serving.shown_for request.now answer.now) }
+{
+    let Request::Read { .. } = request else {
+        return Ok(());
+    };
+    let Ok(Outcome::Data(bytes)) = answer else {
+        return Ok(());
+    };
+    let shown = print_shown(alloc, bytes.as_slice())?;
+    out.extend_from_slice(shown.as_slice())
+}
+
+// What is printed for an event that is answered so.
+fn print_served(
+    alloc: Global,
+    show: bool,
+    event: &Event,
+    answer: &Result<Outcome, Refusal>,
+) -> Result<Vec<u8>, AllocError>
+    ensures { IfOk result (λ text. text.items ≡ serving.printed show event.now answer.now) }
+{
+    let mut text = print_answer(alloc, event.conn, answer)?;
+    if show {
+        push_shown(alloc, &mut text, &event.request, answer)?;
+    }
+    Ok(text)
+}
+
+/// Serves a line of a script, without its line feed, and answers what is to be printed for it.
+pub(crate) fn serve_line(
+    alloc: Global,
+    engine: &mut Engine,
+    show: bool,
+    line: &[u8],
+) -> Result<Vec<u8>, LineFault>
+    ensures served { IfOk result (λ text. serving.Serves show engine.old (line_of line.now) text.items engine.new) }
+    ensures bad { IfErr result (λ fault. serving.IsBadFor engine.old (line_of line.now) engine.new fault) }
+{
+    match read_line(alloc, line)? {
+        None => Err(LineFault::BadLine),
+        Some(ScriptLine::Nothing) => Ok(Vec::new(alloc)),
+        Some(ScriptLine::Command(event)) => {
+            let answer = engine.step(&event);
+            Ok(print_served(alloc, show, &event, &answer)?)
+        }
+    }
+}
