@@ -1,4 +1,6 @@
 //! The works of `pps_bench`, written by hand in plain Rust. The first word names the work, the second how often.
+mod trees;
+
 use std::env::args;
 
 #[derive(Clone, Copy)]
@@ -213,6 +215,9 @@ fn main() {
         ),
         "print" => print_often(rounds),
         "match" => match_often(rounds),
+        "find" => trees::find_often(rounds),
+        "change_few" => trees::change_often(16, rounds),
+        "change_many" => trees::change_often(256, rounds),
         _ => None,
     };
     if let Some(done) = done {

@@ -2,11 +2,14 @@
 //! it does nothing.
 #![tactic(auto)]
 
+mod trees;
+
 use attr_text::{print_line, read_write};
 use pps_filter::read_filter;
 use pps_types::{Bytes, Line, Refusal};
 use std::alloc::{AllocError, Global};
 use std::{env, io};
+use trees::{change_often, find_often};
 
 /// That line so many times.
 fn repeated(alloc: Global, line: &[u8], count: u32) -> Result<Vec<u8>, AllocError> {
@@ -88,6 +91,9 @@ fn done(alloc: Global, work: &str, rounds: u32) -> Result<u64, Refusal> {
         ),
         "print" => print_often(alloc, rounds),
         "match" => match_often(alloc, rounds),
+        "find" => find_often(alloc, rounds),
+        "change_few" => change_often(alloc, 16, rounds),
+        "change_many" => change_often(alloc, 256, rounds),
         _ => Ok(0),
     }
 }

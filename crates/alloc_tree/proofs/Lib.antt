@@ -1,0 +1,14 @@
+pub mod Orders
+pub mod Flatten
+pub mod Places
+pub mod Ordered
+pub mod Members
+pub mod Levels
+pub mod News
+pub mod Edits
+pub mod Maps
+pub mod Refusals
+pub mod Steps
+pub mod Walks
+pub mod Keys
+pub mod Depths

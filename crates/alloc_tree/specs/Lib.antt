@@ -1,0 +1,9 @@
+pub mod Path
+pub mod Contents
+pub mod Refused
+pub mod View
+pub mod Entries
+pub mod Falls
+pub mod Held
+pub mod HeldView
+pub mod Walk

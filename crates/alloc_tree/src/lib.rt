@@ -1,0 +1,16 @@
+//! Names below the mount point as a tree of objects and directories, over any allocator.
+#![tactic(auto)]
+
+mod copies;
+mod directory;
+mod edit;
+mod entries;
+mod kind;
+mod listed;
+mod tree;
+
+pub use listed::{Member, Standing};
+pub use tree::Tree;
+
+#[cfg(test)]
+mod tests;

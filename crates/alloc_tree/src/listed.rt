@@ -1,0 +1,90 @@
+//! What lists of names are made of.
+ghost use Rattle.std.specs.Prelude.{◌≡◌};
+
+use pps_types::Found;
+use std::alloc::Allocator;
+use std::marker::Model;
+
+/// A name, and what stands there.
+#[derive(Drop)]
+pub struct Member<A: Allocator> {
+    name: Vec<u8, A>,
+    found: Found,
+}
+
+impl<A: Allocator> Model for Member<A> {
+    ghost use Rattle.pps_types.specs.declared.found.Found.{Found};
+    ghost use Rattle.pps_types.specs.Names.{Name};
+    ghost use Rattle.alloc_tree.specs.Contents.{coded_member};
+
+    ghost Value = { Name × Found };
+
+    ghost coded = { coded_member };
+
+    ghost view = { λ m. (m.name.items, m.found) };
+}
+
+impl<A: Allocator> Member<A> {
+    /// A name and what stands there. It takes no memory.
+    pub fn new(name: Vec<u8, A>, found: Found) -> Self
+        ensures { result ≡ (name.items, found) }
+    {
+        Member { name, found }
+    }
+
+    pub fn name(&self) -> &[u8]
+        ensures { result.now ≡ self.now.0 }
+    {
+        self.name.as_slice()
+    }
+
+    pub fn found(&self) -> Found
+        ensures { result ≡ self.now.1 }
+    {
+        self.found
+    }
+}
+
+/// A path, and what stands there.
+#[derive(Drop)]
+pub struct Standing<A: Allocator> {
+    path: Vec<Vec<u8, A>, A>,
+    found: Found,
+}
+
+impl<A: Allocator> Model for Standing<A> {
+    ghost use Rattle.pps_types.specs.declared.found.Found.{Found};
+    ghost use Rattle.pps_types.specs.Names.{Path};
+    ghost use Rattle.alloc_tree.specs.Contents.{coded_standing};
+    ghost use Rattle.alloc_tree.specs.Walk.{names};
+
+    ghost Value = { Path × Found };
+
+    ghost coded = { coded_standing };
+
+    ghost view = { λ s. (names s.path.items, s.found) };
+}
+
+impl<A: Allocator> Standing<A> {
+    ghost use Rattle.alloc_tree.specs.Walk.{names};
+
+    /// A path, by its names from the root on, and what stands there. It takes no memory.
+    pub fn new(path: Vec<Vec<u8, A>, A>, found: Found) -> Self
+        ensures { result ≡ (names path.items, found) }
+    {
+        Standing { path, found }
+    }
+
+    /// The names of the path, from the root on.
+    pub fn path(&self) -> &[Vec<u8, A>]
+        ensures { names result.now ≡ self.now.0 }
+    {
+        self.path.as_slice()
+    }
+
+    pub fn found(&self) -> Found
+        ensures { result ≡ self.now.1 }
+    {
+        self.found
+    }
+}
