@@ -17,7 +17,7 @@ use Rattle.pps_types.proofs.FrameEvents.{IsBytes-take, IsBytes-drop, event_takes
 -- ---- one frame
 
 -- where a frame stands at the front: the length that is told, the body, and what follows
-told_frame : (e : Event) (s : List ℕ) → HasFrame e → told (frame e ++ s) ≡ length (event_body e)
+pub told_frame : (e : Event) (s : List ℕ) → HasFrame e → told (frame e ++ s) ≡ length (event_body e)
 told_frame e s h = from_be_bytes-to_be_bytes_4 (length (event_body e)) (omega (arith, h.short))
 
 body_in_frame : (e : Event) (s : List ℕ) → take (length (event_body e)) (drop 4 (frame e ++ s)) ≡ event_body e
@@ -51,7 +51,7 @@ no_prefix e f more h k q = (same_front e f more [] h k (q ∙ sym (append-nil (f
 
 -- ---- one reading
 
-stream_cons : (e : Event) (es : List Event) (x : List ℕ) → stream_of (e ∷ es) x ≡ frame e ++ stream_of es x
+pub stream_cons : (e : Event) (es : List Event) (x : List ℕ) → stream_of (e ∷ es) x ≡ frame e ++ stream_of es x
 stream_cons e es x = ap (λ (t : List ℕ). t ++ x) (flat_map-cons frame e es) ∙ append_assoc (frame e) _ x
 
 -- what begins with a whole frame is no end

@@ -1,0 +1,17 @@
+//! The service over a stream of bytes: requests and answers as frames, and a decoder that takes a stream in any pieces.
+#![tactic(auto)]
+
+mod answers;
+mod decoder;
+mod fault;
+mod reading;
+mod requests;
+
+pub use answers::encode_outcome;
+pub use decoder::{Decoder, Fed};
+pub use fault::FeedFault;
+pub use reading::read_conn;
+pub use requests::encode_request;
+
+#[cfg(test)]
+mod tests;

@@ -1,0 +1,82 @@
+//! Answers as frames.
+ghost use Rattle.std.specs.Prelude.{◌≡◌, IfOk};
+ghost use Rattle.pps_types.specs.Outcome.{IsSendable};
+
+use crate::encode_outcome;
+use pps_types::{Conn, Handle, Item, Outcome, Refusal, SharedBytes};
+use std::alloc::{AllocError, Global};
+use std::test::Fail;
+
+fn shared(alloc: Global, bytes: &[u8]) -> Result<SharedBytes, AllocError>
+    ensures { IfOk result (λ s. s ≡ bytes.now) }
+{
+    SharedBytes::new(alloc, bytes.to_vec(alloc)?)
+}
+
+/// An answer of each form.
+fn answer(alloc: Global, number: usize) -> Result<Result<Outcome, Refusal>, AllocError>
+    ensures { IfOk result (λ a. IsSendable a) }
+{
+    let handle = Handle::new(1);
+    Ok(match number {
+        0 => Ok(Outcome::Done),
+        1 => Ok(Outcome::Opened(handle)),
+        2 => Ok(Outcome::Data(shared(alloc, b"@lamp\non:b:true\n")?)),
+        3 => Ok(Outcome::Wrote(10)),
+        4 => Ok(Outcome::Parked),
+        5 => Ok(Outcome::Input(true)),
+        6 => Ok(Outcome::Input(false)),
+        7 => Ok(Outcome::Item(Item::Pulse {
+            code: 5,
+            value: 300,
+        })),
+        8 => Ok(Outcome::Item(Item::ReadDone {
+            handle,
+            result: Ok(shared(alloc, b"a")?),
+        })),
+        9 => Ok(Outcome::Item(Item::ReadDone {
+            handle,
+            result: Err(Refusal::BadHandle),
+        })),
+        10 => Ok(Outcome::Empty),
+        11 => Err(Refusal::TooSmall { need: 16 }),
+        _ => Err(Refusal::NotFound),
+    })
+}
+
+/// The frames of these answers, to connection 7.
+const FRAMES: [&[u8]; 13] = [
+    b"\0\0\0\x03\0\x07\x01",
+    b"\0\0\0\x07\0\x07\x02\0\0\0\x01",
+    b"\0\0\0\x13\0\x07\x03@lamp\non:b:true\n",
+    b"\0\0\0\x07\0\x07\x04\0\0\0\x0a",
+    b"\0\0\0\x03\0\x07\x05",
+    b"\0\0\0\x04\0\x07\x06\x01",
+    b"\0\0\0\x04\0\x07\x06\0",
+    b"\0\0\0\x08\0\x07\x07\x05\0\0\x01\x2c",
+    b"\0\0\0\x08\0\x07\x08\0\0\0\x01a",
+    b"\0\0\0\x0c\0\x07\x09\0\0\0\x01\x0d\0\0\0\0",
+    b"\0\0\0\x03\0\x07\x0a",
+    b"\0\0\0\x08\0\x07\0\x13\0\0\0\x10",
+    b"\0\0\0\x08\0\x07\0\x07\0\0\0\0",
+];
+
+#[test]
+fn each_answer_has_its_frame(rt: HostRuntime) -> Result<(), Fail> {
+    let alloc = rt.alloc();
+    for (number, frame) in FRAMES.iter().enumerate() {
+        let encoded = encode_outcome(alloc, Conn::new(7), &answer(alloc, number)?)?;
+        assert_eq!(rt; encoded.as_slice(), *frame, "{number}");
+    }
+    Ok(())
+}
+
+#[test]
+fn a_malformed_frame_is_answered_by_no_connection(rt: HostRuntime) -> Result<(), Fail> {
+    let encoded = encode_outcome(rt.alloc(), Conn::new(0), &Err(Refusal::BadFrame))?;
+    assert_eq!(rt;
+        encoded.as_slice(),
+        b"\0\0\0\x08\0\0\0\x02\0\0\0\0".as_slice()
+    );
+    Ok(())
+}
