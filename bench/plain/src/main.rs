@@ -1,4 +1,5 @@
 //! The works of `pps_bench`, written by hand in plain Rust. The first word names the work, the second how often.
+mod objects;
 mod trees;
 
 use std::env::args;
@@ -216,6 +217,15 @@ fn main() {
         "print" => print_often(rounds),
         "match" => match_often(rounds),
         "find" => trees::find_often(rounds),
+        "write_1_of_10" => objects::write_often(10, 1, rounds),
+        "write_8_of_10" => objects::write_often(10, 8, rounds),
+        "write_64_of_10" => objects::write_often(10, 64, rounds),
+        "write_1_of_1000" => objects::write_often(1_000, 1, rounds),
+        "write_8_of_1000" => objects::write_often(1_000, 8, rounds),
+        "write_64_of_1000" => objects::write_often(1_000, 64, rounds),
+        "print_10" => objects::print_object_often(10, rounds),
+        "print_1000" => objects::print_object_often(1_000, rounds),
+        "print_3_of_1000" => objects::print_some_often(1_000, rounds),
         "change_few" => trees::change_often(16, rounds),
         "change_many" => trees::change_often(256, rounds),
         _ => None,

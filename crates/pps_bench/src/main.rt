@@ -2,9 +2,11 @@
 //! it does nothing.
 #![tactic(auto)]
 
+mod objects;
 mod trees;
 
 use attr_text::{print_line, read_write};
+use objects::{print_object_often, print_some_often, write_often};
 use pps_filter::read_filter;
 use pps_types::{Bytes, Line, Refusal};
 use std::alloc::{AllocError, Global};
@@ -92,6 +94,15 @@ fn done(alloc: Global, work: &str, rounds: u32) -> Result<u64, Refusal> {
         "print" => print_often(alloc, rounds),
         "match" => match_often(alloc, rounds),
         "find" => find_often(alloc, rounds),
+        "write_1_of_10" => write_often(alloc, 10, 1, rounds),
+        "write_8_of_10" => write_often(alloc, 10, 8, rounds),
+        "write_64_of_10" => write_often(alloc, 10, 64, rounds),
+        "write_1_of_1000" => write_often(alloc, 1_000, 1, rounds),
+        "write_8_of_1000" => write_often(alloc, 1_000, 8, rounds),
+        "write_64_of_1000" => write_often(alloc, 1_000, 64, rounds),
+        "print_10" => print_object_often(alloc, 10, rounds),
+        "print_1000" => print_object_often(alloc, 1_000, rounds),
+        "print_3_of_1000" => print_some_often(alloc, 1_000, rounds),
         "change_few" => change_often(alloc, 16, rounds),
         "change_many" => change_often(alloc, 256, rounds),
         _ => Ok(0),

@@ -1,0 +1,13 @@
+//! What a connection has to come: queued items, armed pulses and parked reads.
+#![tactic(auto)]
+
+mod alike;
+mod armed;
+mod outbox;
+mod rising;
+mod room;
+
+pub use outbox::Outbox;
+
+#[cfg(test)]
+mod tests;

@@ -1,0 +1,5 @@
+pub mod Names
+pub mod Printing
+pub mod LineChanges
+pub mod Entries
+pub mod Foretold

@@ -1,0 +1,6 @@
+pub mod Held
+pub mod Entries
+pub mod Effect
+pub mod Lent
+pub mod Limits
+pub mod HeldView

@@ -1,0 +1,108 @@
+//! Changes of attributes. They take no memory, and tell how long the printed lines are then.
+ghost use Rattle.std.specs.Prelude.{◌≡◌, ◌+◌, ◌≤◌, ◌<◌, ◌^◌, filter as those, fold, length, not};
+ghost use Rattle.indexmap.specs.IndexMap.{spare};
+ghost use Rattle.pps_types.specs.Bytes.{same};
+ghost use Rattle.pps_types.specs.History as history;
+ghost use Rattle.pps_types.specs.Text as text;
+ghost use Rattle.object_state.specs.Effect.{printed_length};
+ghost use Rattle.object_state.specs.Entries.{attribute_of, attributes_of};
+
+use crate::content::{Attributes, Content};
+use crate::name::Name;
+use pps_types::Line;
+
+/// Puts an attribute in the place of the one of that name, or last, for which there is room.
+fn set(map: &mut Attributes, text_len: usize, name: Name, content: Content) -> usize
+    requires room { 0 < spare map.old }
+    requires kept { text_len ≡ history.text_length (attributes_of map.old.entries) }
+    requires fits { text_len + printed_length (attribute_of (name, content)) < 2 ^ 64 }
+    ensures attributes { attributes_of map.new.entries ≡ history.put (attributes_of map.old.entries) (attribute_of (name, content)) }
+    ensures kept { result ≡ history.text_length (attributes_of map.new.entries) }
+    ensures room { spare map.old ≤ spare map.new + 1 }
+{
+    let name_len = name.len();
+    let line_len = content.line_len(name_len);
+    match map.insert(name, content).unwrap() {
+        None => text_len + line_len,
+        Some(replaced) => text_len + line_len - replaced.line_len(name_len),
+    }
+}
+
+/// Deletes the attribute of that name, where there is one. The others keep their order.
+fn delete(map: &mut Attributes, text_len: usize, name: &Name) -> usize
+    requires kept { text_len ≡ history.text_length (attributes_of map.old.entries) }
+    requires fits { text_len < 2 ^ 64 }
+    ensures attributes { attributes_of map.new.entries ≡ those (λ (a : history.Attribute). not (same a.name name.now)) (attributes_of map.old.entries) }
+    ensures kept { result ≡ history.text_length (attributes_of map.new.entries) }
+    ensures room { spare map.old ≤ spare map.new }
+{
+    // `len` says that no name stands twice.
+    let _len = map.len();
+    match map.shift_remove(name) {
+        None => text_len,
+        Some(deleted) => text_len - deleted.line_len(name.len()),
+    }
+}
+
+fn apply_line(map: &mut Attributes, text_len: usize, line: Line) -> usize
+    requires room { 0 < spare map.old }
+    requires kept { text_len ≡ history.text_length (attributes_of map.old.entries) }
+    requires fits { text_len + length (text.print_line line) < 2 ^ 64 }
+    ensures attributes { attributes_of map.new.entries ≡ history.apply_line (attributes_of map.old.entries) line }
+    ensures kept { result ≡ history.text_length (attributes_of map.new.entries) }
+    ensures room { spare map.old ≤ spare map.new + 1 }
+{
+    match line {
+        Line::Set {
+            name,
+            enc,
+            value,
+            n,
+        } => set(map, text_len, Name::new(name), Content { enc, value, n }),
+        Line::Del { name } => delete(map, text_len, &Name::new(name)),
+    }
+}
+
+/// Each line takes effect, one after the other.
+pub(crate) fn apply_lines(map: &mut Attributes, text_len: usize, lines: Vec<Line>) -> usize
+    requires room { length lines.items ≤ spare map.old }
+    requires kept { text_len ≡ history.text_length (attributes_of map.old.entries) }
+    requires fits { text_len + length (text.print_lines lines.items) < 2 ^ 64 }
+    ensures attributes { attributes_of map.new.entries ≡ fold history.apply_line (attributes_of map.old.entries) lines.items }
+    ensures kept { result ≡ history.text_length (attributes_of map.new.entries) }
+{
+    let mut text_len = text_len;
+    'lines: for line in lines {
+        text_len = apply_line(map, text_len, line);
+    }
+    text_len
+}
+
+/// How long the printed lines of the persistent attributes are.
+fn persistent_len(map: &Attributes) -> usize
+    requires { history.text_length (history.persistent (attributes_of map.now.entries)) < 2 ^ 64 }
+    ensures { result ≡ history.text_length (history.persistent (attributes_of map.now.entries)) }
+{
+    let mut total = 0;
+    'entries: for (name, content) in map {
+        if !content.n {
+            total += content.line_len(name.len());
+        }
+    }
+    total
+}
+
+/// Deletes the nonpersistent attributes. The others keep their order.
+pub(crate) fn drop_nonpersistent(map: &mut Attributes) -> usize
+    requires { history.text_length (attributes_of map.old.entries) < 2 ^ 64 }
+    ensures attributes { attributes_of map.new.entries ≡ history.persistent (attributes_of map.old.entries) }
+    ensures kept { result ≡ history.text_length (attributes_of map.new.entries) }
+{
+    let text_len = persistent_len(map);
+    map.retain(
+        |_name: &Name, content: &mut Content| -> bool
+            ensures { (result ≡ not content.old.n) × (content.new ≡ content.old) }
+        { !content.n },
+    );
+    text_len
+}

@@ -1,0 +1,124 @@
+//! What lines would make of attributes, told without changing them.
+ghost use Rattle.std.specs.Prelude.{◌≡◌, ℕ, ◌+◌, ◌-◌, ◌≤◌, ◌<◌, ◌^◌, List, IfOk, OnOk, Some, if◌then◌else◌, fold, length, nat_eq};
+ghost use lib.Pointwise.{pointwise};
+ghost use Rattle.indexmap.specs.IndexMap.{get};
+ghost use Rattle.pps_types.specs.Bytes.{same};
+ghost use Rattle.pps_types.specs.History as history;
+ghost use Rattle.pps_types.specs.Text as text;
+ghost use Rattle.object_state.specs.Effect.{length_at, noted_or, count_of as counted, bytes_of, Foretells};
+ghost use Rattle.object_state.specs.Entries.{attributes_of};
+ghost use Rattle.object_state.specs.Limits.{is_past_limits};
+
+use crate::content::Attributes;
+use crate::name::Name;
+use attr_text::line_len;
+use indexmap::IndexMap;
+use pps_types::Line;
+use std::alloc::{AllocError, Global};
+
+/// How many attributes there would be, how long their printed lines would be together, and, of each name that a line
+/// named, how long its own would be.
+#[derive(Drop)]
+struct Effect {
+    noted: IndexMap<Name, Option<usize>>,
+    count: usize,
+    text_len: usize,
+}
+
+fn count_of(len: Option<usize>) -> usize
+    ensures is { result ≡ counted len }
+    ensures most { result ≤ 1 }
+{
+    match len {
+        None => 0,
+        Some(_) => 1,
+    }
+}
+
+// How long the printed line of the attribute of that name is, where there is one.
+fn len_before(map: &Attributes, name: &Name) -> Option<usize>
+    requires { history.text_length (attributes_of map.now.entries) < 2 ^ 64 }
+    ensures { result ≡ length_at name.now (attributes_of map.now.entries) }
+{
+    match map.get(name) {
+        None => None,
+        Some(content) => Some(content.line_len(name.len())),
+    }
+}
+
+// How long it would be.
+fn len_of(noted: &IndexMap<Name, Option<usize>>, map: &Attributes, name: &Name) -> Option<usize>
+    requires { history.text_length (attributes_of map.now.entries) < 2 ^ 64 }
+    ensures { result ≡ noted_or (get (pointwise nat_eq) noted.now name.now) (length_at name.now (attributes_of map.now.entries)) }
+{
+    match noted.get(name) {
+        None => len_before(map, name),
+        Some(len) => *len,
+    }
+}
+
+impl Effect {
+    // Notes how long the printed line of the attribute of that name would be.
+    fn note(&mut self, map: &Attributes, name: Name, len: Option<usize>) -> Result<(), AllocError>
+        requires text { history.text_length (attributes_of map.now.entries) < 2 ^ 64 }
+        requires counts { self.old.count + 1 < 2 ^ 64 }
+        requires fits { self.old.text_len + bytes_of len < 2 ^ 64 }
+        ensures noted { OnOk result ((q : List ℕ) → get (pointwise nat_eq) self.new.noted q
+            ≡ (if same name q then Some len else get (pointwise nat_eq) self.old.noted q)) }
+        ensures count { OnOk result (self.new.count
+            ≡ self.old.count + counted len - counted (noted_or (get (pointwise nat_eq) self.old.noted name) (length_at name (attributes_of map.now.entries)))) }
+        ensures text_len { OnOk result (self.new.text_len
+            ≡ self.old.text_len + bytes_of len - bytes_of (noted_or (get (pointwise nat_eq) self.old.noted name) (length_at name (attributes_of map.now.entries)))) }
+    {
+        let before = len_of(&self.noted, map, &name);
+        self.noted.insert(name, len)?;
+        self.count = (self.count + count_of(len)).saturating_sub(count_of(before));
+        self.text_len = (self.text_len + len.unwrap_or(0)).saturating_sub(before.unwrap_or(0));
+        Ok(())
+    }
+
+    fn note_line(&mut self, map: &Attributes, line: &Line) -> Result<(), AllocError>
+        requires text { history.text_length (attributes_of map.now.entries) < 2 ^ 64 }
+        requires counts { self.old.count + 1 < 2 ^ 64 }
+        requires fits { self.old.text_len + length (text.print_line line.now) < 2 ^ 64 }
+        ensures { OnOk result ((after : List history.Attribute)
+            → Foretells (get (pointwise nat_eq) self.old.noted) self.old.count self.old.text_len (attributes_of map.now.entries) after
+            → Foretells (get (pointwise nat_eq) self.new.noted) self.new.count self.new.text_len (attributes_of map.now.entries) (history.apply_line after line.now)) }
+    {
+        match line {
+            Line::Set { name, .. } => {
+                let name = Name::new(name.copy()?);
+                self.note(map, name, line_len(line))?;
+                Ok(())
+            }
+            Line::Del { name } => {
+                let name = Name::new(name.copy()?);
+                self.note(map, name, None)?;
+                Ok(())
+            }
+        }
+    }
+}
+
+/// Whether the attributes would pass a limit of objects, once all of the lines had taken effect.
+pub(crate) fn would_pass_limits(
+    alloc: Global,
+    map: &Attributes,
+    text_len: usize,
+    lines: &[Line],
+) -> Result<bool, AllocError>
+    requires kept { text_len ≡ history.text_length (attributes_of map.now.entries) }
+    requires fits { text_len + length (text.print_lines lines.now) < 2 ^ 64 }
+    requires counts { length (attributes_of map.now.entries) + length lines.now < 2 ^ 64 }
+    ensures { IfOk result (λ passes. passes ≡ is_past_limits (fold history.apply_line (attributes_of map.now.entries) lines.now)) }
+{
+    let mut effect = Effect {
+        noted: IndexMap::new(alloc),
+        count: map.len(),
+        text_len,
+    };
+    'lines: for line in lines {
+        effect.note_line(map, line)?;
+    }
+    Ok(effect.count > 1024 || effect.text_len > 65536)
+}

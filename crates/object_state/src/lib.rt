@@ -1,0 +1,18 @@
+//! The attributes of one object: in order, within their limits, and as the lines of writes change them.
+#![tactic(auto)]
+
+mod changes;
+mod content;
+mod effect;
+mod lent;
+mod lines;
+mod marks;
+mod name;
+mod object;
+mod print;
+
+pub use lent::AttributeRef;
+pub use object::Object;
+
+#[cfg(test)]
+mod tests;

@@ -1,0 +1,266 @@
+//! One object's attributes.
+ghost use Rattle.std.specs.Prelude.{◌≡◌, ◌≢◌, ◌^◌, ◌+◌, ◌≤◌, ◌<◌, ◌++◌, ◌↔◌, IsTrue, IfOk, IfSome, IsSome, OnOk, OnErr, IsOkUnless, None, Some, [], option_map, slice_get, fold, length, vec_len, vec_capacity};
+ghost use Rattle.std.specs.Option.{option_copied};
+ghost use Rattle.pps_types.specs.History.{text_length, persistent, apply_line};
+ghost use Rattle.pps_types.specs.History as history;
+ghost use Rattle.pps_types.specs.Names as names;
+ghost use Rattle.pps_types.specs.Checks.{first_refusal, limit_checks};
+ghost use Rattle.pps_types.specs.Text.{print_lines};
+ghost use Rattle.pps_types.specs.declared.refusal.Refusal.TheVariants.{OutOfMemory};
+ghost use Rattle.object_state.specs.Held.{print_matching};
+ghost use Rattle.object_state.specs.Limits.{is_past_limits};
+
+use crate::changes::{apply_lines, drop_nonpersistent};
+use crate::content::Attributes;
+use crate::effect::would_pass_limits;
+use crate::lent::AttributeRef;
+use crate::lines::{copies_of, len_with};
+use crate::marks::resolve;
+use crate::print::{matching_len, push_matching};
+use indexmap::IndexMap;
+use pps_filter::Filter;
+use pps_types::{Line, Refusal, WriteLine};
+use std::alloc::{AllocError, Global};
+use std::marker::Model;
+
+// Whether both maps have the same entries in the same order.
+fn are_same(map: &Attributes, other: &Attributes) -> bool
+    ensures { IsTrue result ↔ (map.now.entries ≡ other.now.entries) }
+{
+    map.as_slice() == other.as_slice()
+}
+
+/// The attributes of one object, in the order in which they were created.
+///
+/// There are at most 1,024 of them, and their printed lines have at most 65,536 bytes together. Both limits are our own.
+#[derive(Drop)]
+pub struct Object {
+    map: Attributes,
+    text_len: usize,
+    ready: Option<Vec<Line>>,
+}
+
+impl Model for Object {
+    ghost use Rattle.object_state.specs.Held.{Held};
+
+    ghost Value = { Held };
+
+    ghost use Rattle.object_state.specs.HeldView.{held, IsHeldInside};
+
+    ghost view = { held };
+
+    ghost invariant = { IsHeldInside };
+}
+
+impl Object {
+    ghost use Rattle.object_state.specs.Lent.{lent};
+
+    /// An object without attributes. It takes no memory.
+    pub fn new(alloc: Global) -> Object
+        ensures attributes { result.attributes ≡ [] }
+        ensures ready { result.ready ≡ None }
+    {
+        Object {
+            map: IndexMap::new(alloc),
+            text_len: 0,
+            ready: None,
+        }
+    }
+
+    /// How many attributes there are.
+    pub fn len(&self) -> usize
+        ensures len { result ≡ length self.now.attributes }
+        ensures limit { result ≤ 1024 }
+    {
+        self.map.len()
+    }
+
+    /// Whether there are no attributes.
+    pub fn is_empty(&self) -> bool
+        ensures { IsTrue result ↔ (self.now.attributes ≡ []) }
+    {
+        self.map.is_empty()
+    }
+
+    /// The attribute in that place, counted from 0, where there is one. It takes no memory.
+    pub fn attribute(&self, index: usize) -> Option<AttributeRef<'_>>
+        ensures { option_map lent result ≡ slice_get self.now.attributes index }
+    {
+        let (name, content) = self.map.get_index(index)?;
+        Some(AttributeRef {
+            name: name.as_slice(),
+            enc: content.enc.as_slice(),
+            value: content.value.as_slice(),
+            n: content.n,
+        })
+    }
+
+    /// How many bytes the printed lines of all attributes have. It is kept, so it costs nothing.
+    pub fn text_len(&self) -> usize
+        ensures len { result ≡ text_length self.now.attributes }
+        ensures limit { result ≤ 65536 }
+    {
+        self.text_len
+    }
+
+    /// How many bytes the printed lines of those attributes have that match. It takes no memory.
+    #[tactic(auto, using(crate::proofs::Printing::matching_le))]
+    pub fn print_len(&self, filter: Option<&Filter>) -> usize
+        ensures { result ≡ length (print_matching (option_copied filter.entry) self.now.attributes) }
+    {
+        match filter {
+            None => self.text_len,
+            Some(_) => matching_len(&self.map, filter),
+        }
+    }
+
+    /// Pushes the printed lines of those attributes that match, for which there is room. It takes no memory.
+    pub fn push_print(&self, out: &mut Vec<u8>, filter: Option<&Filter>)
+        requires { vec_len out.old + length (print_matching (option_copied filter) self.now.attributes) ≤ vec_capacity out.old }
+        ensures items { out.new.items ≡ out.old.items ++ print_matching (option_copied filter.entry) self.now.attributes }
+        ensures capacity { vec_capacity out.old ≤ vec_capacity out.new }
+    {
+        push_matching(out, &self.map, filter);
+    }
+
+    /// The printed lines of those attributes that match. Without a filter all match.
+    ///
+    /// A line is `name:encoding:value`, behind `[n]` where the attribute is nonpersistent (QNX PPS guide, on the format
+    /// of objects). OutOfMemory is the only error.
+    pub fn print(&self, filter: Option<&Filter>) -> Result<Vec<u8>, Refusal>
+        ensures ok { IfOk result (λ printed. printed.items ≡ print_matching (option_copied filter.entry) self.now.attributes) }
+        ensures err { IsOkUnless result Refusal.OutOfMemory }
+    {
+        let alloc: Global = *self.map.allocator();
+        let mut printed = Vec::with_capacity(alloc, self.print_len(filter))?;
+        self.push_print(&mut printed, filter);
+        Ok(printed)
+    }
+
+    /// Deletes all attributes. It takes no memory.
+    pub fn truncate(&mut self)
+        ensures attributes { self.new.attributes ≡ [] }
+        ensures ready { self.new.ready ≡ None }
+    {
+        self.ready = None;
+        self.map.clear();
+        self.text_len = 0;
+    }
+
+    /// Deletes the nonpersistent attributes. The others keep their order. It takes no memory.
+    pub fn drop_nonpersistent(&mut self)
+        ensures attributes { self.new.attributes ≡ persistent self.old.attributes }
+        ensures ready { self.new.ready ≡ None }
+    {
+        self.ready = None;
+        self.text_len = drop_nonpersistent(&mut self.map);
+    }
+
+    /// What the lines of a write come to: each with its mark resolved where those before it took effect.
+    ///
+    /// Without a bracket an attribute stays persistent or nonpersistent, as it was just before its line, and a new one
+    /// is persistent (QNX PPS guide, on persistence). OutOfMemory is the only error.
+    pub fn resolve(&self, lines: &[WriteLine]) -> Result<Vec<Line>, Refusal>
+        ensures ok { IfOk result (λ made. made.items ≡ history.resolve self.now.attributes lines.now) }
+        ensures err { IsOkUnless result Refusal.OutOfMemory }
+    {
+        let alloc: Global = *self.map.allocator();
+        Ok(resolve(alloc, &self.map, lines)?)
+    }
+
+    // Whether the attributes would pass a limit with these lines, which with the text are that long. Where they are few
+    // and short enough, nothing is simulated.
+    fn is_too_large(&self, lines: &[Line], whole_len: usize) -> Result<bool, AllocError>
+        requires { whole_len ≡ text_length self.now.attributes + length (print_lines lines.now) }
+        ensures { IfOk result (λ passes. passes ≡ is_past_limits (fold apply_line self.now.attributes lines.now)) }
+    {
+        if lines.len() <= 1024 - self.map.len() && whole_len <= 65536 {
+            return Ok(false);
+        }
+        let alloc: Global = *self.map.allocator();
+        would_pass_limits(alloc, &self.map, self.text_len, lines)
+    }
+
+    // Copies of lines that do not pass a limit.
+    fn checked_copies(&self, lines: &[Line]) -> Result<Vec<Line>, Refusal>
+        ensures refusal { names.refusal_of result ≢ Some OutOfMemory → names.refusal_of result ≡ first_refusal (limit_checks (fold apply_line self.now.attributes lines.now)) }
+        ensures ok { IfOk result (λ copies. copies.items ≡ lines.now) }
+        ensures len { OnOk result (text_length self.now.attributes + length (print_lines lines.now) < 2 ^ 64) }
+    {
+        let Some(whole_len) = len_with(self.text_len, lines) else {
+            return Err(Refusal::OutOfMemory);
+        };
+        if self.is_too_large(lines, whole_len)? {
+            return Err(Refusal::TooLarge);
+        }
+        let alloc: Global = *self.map.allocator();
+        let copies = copies_of(alloc, lines)?;
+        Ok(copies)
+    }
+
+    /// Takes all memory that applying these lines can want, and applies nothing. Whatever was ready before is not any
+    /// more.
+    ///
+    /// It is TooLarge exactly where the object would have more than 1,024 attributes, or more than 65,536 bytes of
+    /// printed lines, after all of these lines. Else OutOfMemory is the only error.
+    pub fn apply_ready(&mut self, lines: &[Line]) -> Result<(), Refusal>
+        ensures refusal { names.refusal_of result ≢ Some OutOfMemory → names.refusal_of result ≡ first_refusal (limit_checks (fold apply_line self.old.attributes lines.now)) }
+        ensures ok { OnOk result (self.new.ready ≡ Some lines.now) }
+        ensures same { self.new.attributes ≡ self.old.attributes }
+        ensures err { OnErr result (self.new.ready ≡ None) }
+    {
+        self.ready = None;
+        let copies = self.checked_copies(lines)?;
+        self.map.reserve(copies.len())?;
+        self.ready = Some(copies);
+        Ok(())
+    }
+
+    /// Applies lines, each after those before it, or refuses them all.
+    ///
+    /// A line that sets an absent attribute makes it the last, one that sets an attribute that is there changes it in
+    /// its place, and a deletion leaves the others in their order (QNX PPS guide, on changing attributes). It is refused
+    /// as [`apply_ready`](Object::apply_ready) is. Whatever was ready before is not any more.
+    pub fn apply(&mut self, lines: &[Line]) -> Result<(), Refusal>
+        ensures refusal { names.refusal_of result ≢ Some OutOfMemory → names.refusal_of result ≡ first_refusal (limit_checks (fold apply_line self.old.attributes lines.now)) }
+        ensures attributes { OnOk result (self.new.attributes ≡ fold apply_line self.old.attributes lines.now) }
+        ensures err { OnErr result (self.new.attributes ≡ self.old.attributes) }
+        ensures ready { self.new.ready ≡ None }
+    {
+        self.apply_ready(lines)?;
+        self.apply_commit();
+        Ok(())
+    }
+
+    /// Applies the lines that were made ready. It takes no memory.
+    pub fn apply_commit(&mut self)
+        requires { IsSome self.old.ready }
+        ensures attributes { IfSome self.old.ready (λ lines. self.new.attributes ≡ fold apply_line self.old.attributes lines) }
+        ensures ready { self.new.ready ≡ None }
+    {
+        if let Some(lines) = self.ready.take() {
+            self.text_len = apply_lines(&mut self.map, self.text_len, lines);
+        }
+    }
+
+    /// Another object with the same attributes. Nothing is ready in it. OutOfMemory is the only error.
+    pub fn copy(&self) -> Result<Object, Refusal>
+        ensures attributes { IfOk result (λ copy. copy.attributes ≡ self.now.attributes) }
+        ensures ready { IfOk result (λ copy. copy.ready ≡ None) }
+        ensures err { IsOkUnless result Refusal.OutOfMemory }
+    {
+        let map = self.map.clone()?;
+        Ok(Object {
+            map,
+            text_len: self.text_len,
+            ready: None,
+        })
+    }
+
+    /// Whether both have the same attributes in the same order. What is ready does not count. It takes no memory.
+    pub fn same(&self, other: &Object) -> bool
+        ensures { IsTrue result ↔ (self.now.attributes ≡ other.now.attributes) }
+    {
+        self.text_len == other.text_len && are_same(&self.map, &other.map)
+    }
+}
