@@ -3,3 +3,4 @@ pub mod Printing
 pub mod LineChanges
 pub mod Entries
 pub mod Foretold
+pub mod Dropping

@@ -1,5 +1,6 @@
 -- The entries of the map that keeps an object's attributes, as attributes.
-use Rattle.std.specs.Prelude.{ℕ, ◌+◌, List, if◌then◌else◌, map, length}
+use Rattle.std.specs.Prelude.{ℕ, ◌+◌, List, Option, None, Some, if◌then◌else◌, map, length, slice_get}
+use Rattle.std.specs.Option.{option_map_or}
 use Rattle.pps_types.specs.History.{Attribute}
 use Rattle.object_state.specs.declared.content.Content.{Content}
 
@@ -12,3 +13,7 @@ attributes_of entries = map attribute_of entries
 -- how long the printed line of this content is, under a name of that length
 abbrev pub line_length : ℕ → Content → ℕ
 line_length name content = (if content.n then 6 else 3) + name + length content.enc + length content.value
+
+-- how long the printed line of the entry in that place is, where it is persistent
+abbrev pub persistent_length : List (List ℕ × Content) → ℕ → Option ℕ
+persistent_length entries place = option_map_or (λ (e : List ℕ × Content). if e.1.n then None else Some (line_length (length e.0) e.1)) (slice_get entries place) None

@@ -1,11 +1,12 @@
 //! Changes of attributes. They take no memory, and tell how long the printed lines are then.
-ghost use Rattle.std.specs.Prelude.{◌≡◌, ◌+◌, ◌≤◌, ◌<◌, ◌^◌, filter as those, fold, length, not};
+ghost use Rattle.std.specs.Prelude.{◌≡◌, ◌+◌, ◌≤◌, ◌<◌, ◌^◌, IfSome, filter as those, fold, length, not};
+ghost use Rattle.std.specs.List.{swap};
 ghost use Rattle.indexmap.specs.IndexMap.{spare};
 ghost use Rattle.pps_types.specs.Bytes.{same};
 ghost use Rattle.pps_types.specs.History as history;
 ghost use Rattle.pps_types.specs.Text as text;
 ghost use Rattle.object_state.specs.Effect.{printed_length};
-ghost use Rattle.object_state.specs.Entries.{attribute_of, attributes_of};
+ghost use Rattle.object_state.specs.Entries.{attribute_of, attributes_of, persistent_length};
 
 use crate::content::{Attributes, Content};
 use crate::name::Name;
@@ -78,18 +79,27 @@ pub(crate) fn apply_lines(map: &mut Attributes, text_len: usize, lines: Vec<Line
     text_len
 }
 
-/// How long the printed lines of the persistent attributes are.
-fn persistent_len(map: &Attributes) -> usize
-    requires { history.text_length (history.persistent (attributes_of map.now.entries)) < 2 ^ 64 }
-    ensures { result ≡ history.text_length (history.persistent (attributes_of map.now.entries)) }
+// How long the printed line of the attribute in that place is, where that is persistent.
+fn persistent_len(map: &Attributes, place: usize) -> Option<usize>
+    requires { IfSome (persistent_length map.now.entries place) (λ len. len < 2 ^ 64) }
+    ensures { result ≡ persistent_length map.now.entries place }
 {
-    let mut total = 0;
-    'entries: for (name, content) in map {
-        if !content.n {
-            total += content.line_len(name.len());
-        }
+    let (name, content) = map.get_index(place)?;
+    if content.n {
+        return None;
     }
-    total
+    Some(content.line_len(name.len()))
+}
+
+// Moves the attribute in that place to the place behind those that are kept.
+fn move_down(map: &mut Attributes, kept: usize, place: usize)
+    requires behind { kept ≤ place }
+    requires within { place < length map.old.entries }
+    ensures { map.new.entries ≡ swap map.old.entries kept place }
+{
+    if kept < place {
+        map.swap_indices(kept, place);
+    }
 }
 
 /// Deletes the nonpersistent attributes. The others keep their order.
@@ -98,11 +108,16 @@ pub(crate) fn drop_nonpersistent(map: &mut Attributes) -> usize
     ensures attributes { attributes_of map.new.entries ≡ history.persistent (attributes_of map.old.entries) }
     ensures kept { result ≡ history.text_length (attributes_of map.new.entries) }
 {
-    let text_len = persistent_len(map);
-    map.retain(
-        |_name: &Name, content: &mut Content| -> bool
-            ensures { (result ≡ not content.old.n) × (content.new ≡ content.old) }
-        { !content.n },
-    );
+    // `retain` would not do: its contract does not tell what its closure has summed up.
+    let mut text_len = 0;
+    let mut kept = 0;
+    'places: for place in 0..map.len() {
+        if let Some(line_len) = persistent_len(map, place) {
+            move_down(map, kept, place);
+            kept += 1;
+            text_len += line_len;
+        }
+    }
+    map.truncate(kept);
     text_len
 }

@@ -16,7 +16,7 @@ use crate::effect::would_pass_limits;
 use crate::lent::AttributeRef;
 use crate::lines::{copies_of, len_with};
 use crate::marks::resolve;
-use crate::print::{matching_len, push_matching};
+use crate::print::{matching_len, printed_matching, push_matching};
 use indexmap::IndexMap;
 use pps_filter::Filter;
 use pps_types::{Line, Refusal, WriteLine};
@@ -127,11 +127,15 @@ impl Object {
     ///
     /// A line is `name:encoding:value`, behind `[n]` where the attribute is nonpersistent (QNX PPS guide, on the format
     /// of objects). OutOfMemory is the only error.
+    #[tactic(auto, using(crate::proofs::Printing::matching_le))]
     pub fn print(&self, filter: Option<&Filter>) -> Result<Vec<u8>, Refusal>
         ensures ok { IfOk result (λ printed. printed.items ≡ print_matching (option_copied filter.entry) self.now.attributes) }
         ensures err { IsOkUnless result Refusal.OutOfMemory }
     {
         let alloc: Global = *self.map.allocator();
+        if filter.is_some() {
+            return Ok(printed_matching(alloc, &self.map, filter)?);
+        }
         let mut printed = Vec::with_capacity(alloc, self.print_len(filter))?;
         self.push_print(&mut printed, filter);
         Ok(printed)

@@ -212,7 +212,7 @@ fn all_write_again(alloc: Global, object: &mut Object, texts: &[&[u8]]) -> Resul
     Ok(true)
 }
 
-/// Run with each request for memory refused in turn (`rt try --test --fail-alloc 1..`).
+/// Run with each request for memory refused in turn (`rt try --test --fail-alloc N`).
 #[test]
 fn a_write_without_memory_leaves_the_object(rt: HostRuntime) -> Result<(), Fail> {
     let mut object = Object::new(rt.alloc());
@@ -285,8 +285,12 @@ fn refuses_lines(object: &mut Object, lines: &[Line]) -> Result<bool, Refusal> {
     let ready = object.apply_ready(lines);
     let same = object.same(&before);
     let applied = object.apply(lines);
+    let unchanged = same && object.same(&before);
+    if unchanged && (ready == Err(Refusal::OutOfMemory) || applied == Err(Refusal::OutOfMemory)) {
+        return Err(Refusal::OutOfMemory);
+    }
     let too_large = Err(Refusal::TooLarge);
-    Ok(same && ready == too_large && applied == too_large && object.same(&before))
+    Ok(unchanged && ready == too_large && applied == too_large)
 }
 
 fn refuses(alloc: Global, object: &mut Object, changes: &[Change]) -> Result<bool, Refusal> {
