@@ -1,0 +1,4 @@
+pub mod Columns
+pub mod Fits
+pub mod Needs
+pub mod Tallies

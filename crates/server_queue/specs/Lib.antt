@@ -1,0 +1,8 @@
+pub mod Blocks
+pub mod Face
+pub mod Messages
+pub mod OwedTo
+pub mod Queued
+pub mod Reads
+pub mod Senders
+pub mod Tally

@@ -1,0 +1,14 @@
+-- Whose queue it is.
+use Rattle.std.specs.Prelude.{◌≡◌, List, [], ◌∷◌, true}
+use Rattle.pps_types.specs.History.{Entry}
+use Rattle.pps_types.specs.Reading.{Open, Seen, Queue, style, visible}
+
+-- each is visible to the handle
+abbrev pub AllVisible : Open Seen → List Entry → Type 0
+AllVisible h [] = Unit {0}
+AllVisible h (e ∷ es) = (visible h e ≡ true) × AllVisible h es
+
+-- these are owed to a server's or a client's handle
+pub record IsOwedTo (h : Open Seen) (owed : List Entry) : Type 0 where
+  pub kind : style h.kind ≡ Queue
+  pub seen : AllVisible h owed

@@ -1,0 +1,97 @@
+//! Records that queues share.
+ghost use Rattle.std.specs.Prelude.{◌≡◌, IfOk};
+
+use crate::sender::{Sender, said_by};
+use pps_types::{Bytes, Record};
+use std::alloc::{AllocError, Global};
+use std::marker::Model;
+use std::sync::Arc;
+
+/// A record, with the directory and the name of its object.
+#[derive(Drop)]
+struct Told {
+    directory: u64,
+    name: Bytes,
+    made: Record,
+}
+
+/// A record in the history, with the directory and the name of its object. Queues share it.
+#[derive(Drop)]
+pub struct Entry {
+    told: Arc<Told>,
+}
+
+impl Model for Entry {
+    ghost use Rattle.std.specs.Arc.{arc_value};
+    ghost use Rattle.pps_types.specs.History.{Entry as Held};
+
+    ghost Value = { Held };
+
+    ghost view = { λ a. record { directory = (arc_value a.told).directory; name = (arc_value a.told).name; record_of = (arc_value a.told).made } };
+}
+
+impl Entry {
+    ghost use Rattle.server_queue.specs.Senders.{client_messages};
+
+    /// This record, so that it can be shared, with the number of the directory that its object is in, and the object's
+    /// name.
+    ///
+    /// AllocError comes only where memory is wanting.
+    pub fn new(
+        alloc: Global,
+        directory: u64,
+        name: Bytes,
+        made: Record,
+    ) -> Result<Entry, AllocError>
+        ensures { IfOk result (λ entry. entry ≡ record { directory = directory; name = name; record_of = made }) }
+    {
+        let told = Arc::new(
+            alloc,
+            Told {
+                directory,
+                name,
+                made,
+            },
+        )?;
+        Ok(Entry { told })
+    }
+
+    /// The number of the directory that its object is in.
+    pub fn directory(&self) -> u64
+        ensures { result ≡ self.now.directory }
+    {
+        self.told.directory
+    }
+
+    /// The name of its object, without the directory.
+    pub fn name(&self) -> &[u8]
+        ensures { result.now ≡ self.now.name }
+    {
+        self.told.name.as_slice()
+    }
+
+    /// The record itself.
+    pub fn record(&self) -> &Record
+        ensures { result.now ≡ self.now.record_of }
+    {
+        &self.told.made
+    }
+
+    /// How many messages of clients it is: one, or none. A queue counts these by client.
+    pub fn client_messages(&self) -> usize
+        ensures { result ≡ client_messages self.now.record_of.kind }
+    {
+        match said_by(&self.told.made.kind) {
+            Some(Sender::Client(_)) => 1,
+            _ => 0,
+        }
+    }
+
+    /// One more share of the same record. A share may be refused memory.
+    pub fn share(&self) -> Result<Entry, AllocError>
+        ensures { IfOk result (λ entry. entry ≡ self.now) }
+    {
+        let told = Arc::try_clone(&self.told)?;
+        Ok(Entry { told })
+    }
+}

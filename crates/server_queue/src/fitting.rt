@@ -1,0 +1,56 @@
+//! The blocks of what is queued and, behind that, of more records: how many fit, and their text.
+ghost use Rattle.std.specs.Prelude.{◌≡◌, ◌<◌, ◌≤◌, ◌+◌, ◌++◌, Some, length, take, OnOk, slice_get};
+ghost use Rattle.std.specs.List.{concat};
+ghost use Rattle.pps_types.specs.Reading as reading;
+ghost use Rattle.server_queue.specs.Blocks.{queue_blocks};
+
+use crate::block::{block_len, put_block};
+use crate::entry::Entry;
+use std::alloc::AllocError;
+use std::collections::VecDeque;
+
+/// The record at a place.
+pub(crate) fn entry_at<'a>(owed: &'a VecDeque<Entry>, extra: &'a [Entry], place: usize) -> &'a Entry
+    requires { place < length owed.now.items + length extra.now }
+    ensures { slice_get (owed.now.items ++ extra.now) place ≡ Some result.now }
+{
+    if place < owed.len() {
+        return &owed[place];
+    }
+    &extra[place - owed.len()]
+}
+
+/// How many blocks fit into the room, from the first on. It takes no memory.
+pub(crate) fn count_fitting(owed: &VecDeque<Entry>, extra: &[Entry], room: usize) -> usize
+    ensures fits { result ≡ (reading.fitting room (queue_blocks (owed.now.items ++ extra.now))).0 }
+    ensures in_range { result ≤ length owed.now.items + length extra.now }
+{
+    let mut left = room;
+    let count = owed.len() + extra.len();
+    'places: for place in 0..count {
+        let Some(len) = block_len(entry_at(owed, extra, place)) else {
+            return place;
+        };
+        if len > left {
+            return place;
+        }
+        left -= len;
+    }
+    count
+}
+
+/// Puts so many blocks, from the first on.
+pub(crate) fn put_blocks(
+    out: &mut Vec<u8>,
+    owed: &VecDeque<Entry>,
+    extra: &[Entry],
+    count: usize,
+) -> Result<(), AllocError>
+    requires { count ≤ length owed.now.items + length extra.now }
+    ensures { OnOk result (out.new.items ≡ out.old.items ++ concat (take count (queue_blocks (owed.now.items ++ extra.now)))) }
+{
+    'places: for place in 0..count {
+        put_block(out, entry_at(owed, extra, place))?;
+    }
+    Ok(())
+}

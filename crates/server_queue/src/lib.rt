@@ -1,0 +1,21 @@
+//! What the server of a server object, or one of its clients, is owed: messages, and notices of clients.
+#![tactic(auto)]
+
+mod block;
+mod counts;
+mod entry;
+mod face;
+mod fitting;
+mod lines;
+mod plan;
+mod queue;
+mod same;
+mod sender;
+
+pub use entry::Entry;
+pub use plan::Plan;
+pub use queue::Queue;
+pub use sender::Sender;
+
+#[cfg(test)]
+mod tests;

@@ -1,0 +1,22 @@
+//! Subscribers: where each stands in the shared records of its target, how much it is owed, and what a read gives it.
+#![tactic(auto)]
+
+mod block;
+mod face;
+mod lent;
+mod owed;
+mod place;
+mod plan;
+mod settings;
+mod sight;
+mod sub;
+mod table;
+mod whole;
+
+pub use lent::Lent;
+pub use plan::{Output, Plan};
+pub use settings::{Settings, Subject};
+pub use sub::Sub;
+
+#[cfg(test)]
+mod tests;
