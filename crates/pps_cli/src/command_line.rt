@@ -23,8 +23,20 @@ pub(crate) struct RunOptions {
 #[derive(Drop)]
 pub(crate) enum Asked {
     Run(RunOptions),
+    /// Frames are to be served; handles that name no limit have this one.
+    Frames(NonZeroU16),
     /// The help or the version.
     Text(String),
+}
+
+fn limit_option<'a>(alloc: Global) -> Arg<'a> {
+    Arg::new(alloc, "limit")
+        .long("limit")
+        .value_name("N")
+        .help(
+            "How many changes a handle that names no limit may be owed, 1 to 65535 [default: 256]",
+        )
+        .value_parser(value_parser!(u16))
 }
 
 fn run_command<'a>(alloc: Global) -> Result<Command<'a>, AllocError> {
@@ -32,17 +44,18 @@ fn run_command<'a>(alloc: Global) -> Result<Command<'a>, AllocError> {
         .long("show")
         .help("Shows the values of encoding b and b64 in the answers to reads")
         .action(ArgAction::SetTrue);
-    let limit = Arg::new(alloc, "limit")
-        .long("limit")
-        .value_name("N")
-        .help(
-            "How many changes a handle that names no limit may be owed, 1 to 65535 [default: 256]",
-        )
-        .value_parser(value_parser!(u16));
     Command::new(alloc, "run")
         .about("Takes a script from standard input, and prints an answer for each of its commands")
         .arg(show)?
-        .arg(limit)
+        .arg(limit_option(alloc))
+}
+
+fn frames_command<'a>(alloc: Global) -> Result<Command<'a>, AllocError> {
+    Command::new(alloc, "frames")
+        .about(
+            "Takes requests as frames from standard input, and writes a frame for each as its answer",
+        )
+        .arg(limit_option(alloc))
 }
 
 fn whole_command<'a>(alloc: Global) -> Result<Command<'a>, AllocError> {
@@ -57,16 +70,13 @@ fn whole_command<'a>(alloc: Global) -> Result<Command<'a>, AllocError> {
         .disable_help_subcommand(true)
         .subcommand_required(true)
         .arg(version)?
-        .subcommand(run_command(alloc)?)
+        .subcommand(run_command(alloc)?)?
+        .subcommand(frames_command(alloc)?)
 }
 
-fn run_options(matches: &ArgMatches<'_>) -> Result<RunOptions, Fault> {
-    let show = matches.get_flag("show");
+fn asked_limit(matches: &ArgMatches<'_>) -> Result<NonZeroU16, Fault> {
     let limit = matches.get_one::<u16>("limit").unwrap_or(DEFAULT_LIMIT);
-    match NonZeroU16::new(limit) {
-        None => Err(Fault::BadCommandLine),
-        Some(limit) => Ok(RunOptions { show, limit }),
-    }
+    NonZeroU16::new(limit).ok_or(Fault::BadCommandLine)
 }
 
 /// What the words of a command line ask for, the first of which is the program's name.
@@ -78,7 +88,11 @@ pub(crate) fn read_words<S: AsStr>(alloc: Global, words: &[S]) -> Result<Asked, 
         Err(e) => return Ok(Asked::Text(format!(in alloc; "{e}")?)),
     };
     match matches.subcommand() {
-        Some(("run", matches)) => Ok(Asked::Run(run_options(matches)?)),
+        Some(("run", matches)) => Ok(Asked::Run(RunOptions {
+            show: matches.get_flag("show"),
+            limit: asked_limit(matches)?,
+        })),
+        Some(("frames", matches)) => Ok(Asked::Frames(asked_limit(matches)?)),
         _ => Err(Fault::BadCommandLine),
     }
 }

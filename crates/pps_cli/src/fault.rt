@@ -18,6 +18,12 @@ pub(crate) enum Fault {
     CannotReadInput,
     #[error("cannot write output")]
     CannotWriteOutput,
+    /// A frame that is none.
+    #[error("malformed frame")]
+    MalformedFrame,
+    /// The input ends inside a frame.
+    #[error("the last frame is cut short")]
+    CutFrame,
     /// The program itself is refused memory.
     #[error("out of memory")]
     OutOfMemory,
@@ -31,7 +37,11 @@ impl Fault {
         match self {
             Fault::BadLine { .. } => 1,
             Fault::BadCommandLine => 2,
-            Fault::CannotReadInput | Fault::CannotWriteOutput | Fault::OutOfMemory => 3,
+            Fault::CannotReadInput
+            | Fault::CannotWriteOutput
+            | Fault::MalformedFrame
+            | Fault::CutFrame
+            | Fault::OutOfMemory => 3,
         }
     }
 }

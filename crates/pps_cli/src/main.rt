@@ -3,11 +3,13 @@
 
 mod command_line;
 mod fault;
+mod frames;
 mod script;
 mod serving;
 
 use command_line::{Asked, read_words};
 use fault::Fault;
+use frames::serve_frames;
 use script::run_script;
 use std::convert::AsStr;
 use std::env;
@@ -26,6 +28,7 @@ fn run_asked<S: AsStr, I: Read, O: Write>(
 ) -> Result<(), Fault> {
     match read_words(rt.alloc(), words)? {
         Asked::Run(options) => run_script(rt.alloc(), options, input, output),
+        Asked::Frames(limit) => serve_frames(rt.alloc(), limit, input, output),
         Asked::Text(text) => match output.write_all(text.as_bytes()) {
             Err(_) => Err(Fault::CannotWriteOutput),
             Ok(()) => Ok(()),

@@ -7,6 +7,7 @@ use std::test::Fail;
 
 mod commands;
 mod faults;
+mod frames;
 mod rows;
 mod waiting;
 

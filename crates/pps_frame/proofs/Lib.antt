@@ -1,3 +1,4 @@
 pub mod Fronts
 pub mod Gathering
 pub mod Pieces
+pub mod Streams

@@ -3,15 +3,20 @@
 
 mod answers;
 mod decoder;
+mod ends;
 mod fault;
 mod reading;
 mod requests;
+mod sending;
+mod serving;
 
 pub use answers::encode_outcome;
 pub use decoder::{Decoder, Fed};
+pub use ends::{Ended, RunError};
 pub use fault::FeedFault;
 pub use reading::read_conn;
 pub use requests::encode_request;
+pub use serving::run;
 
 #[cfg(test)]
 mod tests;

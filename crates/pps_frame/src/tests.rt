@@ -2,6 +2,7 @@
 
 mod answers;
 mod requests;
+mod serving;
 mod streams;
 
 use pps_types::{Action, Bytes, Conn, Event, Handle, Mode, Request};

@@ -23,6 +23,7 @@ fn help_and_version_are_told(rt: HostRuntime) -> Result<(), Fail> {
         ["pps", "--help"].as_slice(),
         &["pps", "-h"],
         &["pps", "run", "--help"],
+        &["pps", "frames", "--help"],
     ] {
         let told = run(&rt, words, b"1 attach\n");
         assert_eq!(rt; told.status, 0);
@@ -59,6 +60,9 @@ fn other_words_are_a_bad_command_line(rt: HostRuntime) -> Result<(), Fail> {
         &["pps", "run", "--limit", "-1"],
         &["pps", "run", "--limit", "one"],
         &["pps", "run", "--limit", "1", "--limit", "1"],
+        &["pps", "frames", "more"],
+        &["pps", "frames", "--show"],
+        &["pps", "frames", "--limit", "0"],
     ] {
         assert!(rt;
             ends(

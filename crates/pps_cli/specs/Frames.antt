@@ -1,0 +1,14 @@
+-- What the program does with a stream of requests.
+use Rattle.std.specs.Prelude.{ℕ, List, Option, Result, Ok, Err}
+use Rattle.pps_types.specs.Content.{Content}
+use Rattle.pps_frame.specs.Served.{AnswersAll, Stops}
+use Rattle.pps_frame.specs.declared.ends.Ended.TheVariants.{Clean, Malformed, Truncated}
+use Rattle.pps_cli.specs.declared.fault.Fault.{Fault}
+use Rattle.pps_cli.specs.declared.fault.Fault.TheVariants.{MalformedFrame, CutFrame}
+
+-- All requests are answered, and the end is told as it was; or, at another fault, the first ones are.
+abbrev pub ServesStream : {X : Type 0} → (from to before after : Option (List ℕ)) → Content → Content → Result X Fault → Type 0
+ServesStream from to before after old new (Ok done) = AnswersAll from to before after old new Clean
+ServesStream from to before after old new (Err MalformedFrame) = AnswersAll from to before after old new Malformed
+ServesStream from to before after old new (Err CutFrame) = AnswersAll from to before after old new Truncated
+ServesStream from to before after old new (Err _) = Stops from to before after old new

@@ -1,0 +1,50 @@
+//! A stream of requests, served.
+ghost use Rattle.std.specs.Prelude.{◌≡◌, false};
+ghost use Rattle.pps_types.specs.Device.{device_inner, device_failed};
+ghost use Rattle.pps_cli.specs.Frames.{ServesStream};
+
+use crate::fault::Fault;
+use pps_engine::Engine;
+use pps_frame::{Ended, RunError, run};
+use pps_types::Device;
+use std::alloc::Global;
+use std::io::{Read, Write};
+use std::num::NonZeroU16;
+
+// Serves the stream, and says what it ended with.
+fn serve_stream<I: Read, O: Write>(
+    alloc: Global,
+    engine: &mut Engine,
+    input: &mut Device<I>,
+    output: &mut Device<O>,
+) -> Result<(), Fault>
+    requires input { device_failed input.old ≡ false }
+    requires output { device_failed output.old ≡ false }
+    ensures { ServesStream (I.remaining (device_inner input.old)) (I.remaining (device_inner input.new))
+        (O.contents (device_inner output.old)) (O.contents (device_inner output.new)) engine.old engine.new result }
+{
+    match run(alloc, engine, input, output) {
+        Ok(Ended::Clean) => Ok(()),
+        Ok(Ended::Malformed) => Err(Fault::MalformedFrame),
+        Ok(Ended::Truncated) => Err(Fault::CutFrame),
+        Err(RunError::OutOfMemory) => Err(Fault::OutOfMemory),
+        Err(RunError::ReadFault) => Err(Fault::CannotReadInput),
+        Err(RunError::WriteFault) => Err(Fault::CannotWriteOutput),
+    }
+}
+
+/// Serves the frames of the input on a new service, and writes a frame for each to the output, before it reads on.
+pub(crate) fn serve_frames<I: Read, O: Write>(
+    alloc: Global,
+    limit: NonZeroU16,
+    input: &mut I,
+    output: &mut O,
+) -> Result<(), Fault> {
+    let mut engine = Engine::with_limit(alloc, u32::from(limit.get()))?;
+    serve_stream(
+        alloc,
+        &mut engine,
+        &mut Device::new(input),
+        &mut Device::new(output),
+    )
+}
