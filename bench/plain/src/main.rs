@@ -1,5 +1,6 @@
 //! The works of `pps_bench`, written by hand in plain Rust. The first word names the work, the second how often.
 mod objects;
+mod subscribers;
 mod trees;
 
 use std::env::args;
@@ -99,9 +100,12 @@ pub fn read_write(bytes: &[u8]) -> Result<WriteText, u32> {
     Ok(WriteText { header, lines })
 }
 
-fn print_line(line: &Line) -> Vec<u8> {
+fn line_len(line: &Line) -> usize {
     let marks = if line.n { 6 } else { 3 };
-    let mut out = Vec::with_capacity(marks + line.name.len() + line.enc.len() + line.value.len());
+    marks + line.name.len() + line.enc.len() + line.value.len()
+}
+
+fn push_line(out: &mut Vec<u8>, line: &Line) {
     if line.n {
         out.extend_from_slice(b"[n]");
     }
@@ -111,6 +115,11 @@ fn print_line(line: &Line) -> Vec<u8> {
     out.push(b':');
     out.extend_from_slice(&line.value);
     out.push(b'\n');
+}
+
+fn print_line(line: &Line) -> Vec<u8> {
+    let mut out = Vec::with_capacity(line_len(line));
+    push_line(&mut out, line);
     out
 }
 
@@ -228,7 +237,7 @@ fn main() {
         "print_3_of_1000" => objects::print_some_often(1_000, rounds),
         "change_few" => trees::change_often(16, rounds),
         "change_many" => trees::change_often(256, rounds),
-        _ => None,
+        _ => subscribers::feed_of(work).and_then(|feed| subscribers::offer_often(feed, rounds)),
     };
     if let Some(done) = done {
         println!("{done}");

@@ -1,5 +1,5 @@
 //! Attributes of an object: a vector of attributes, and a map of their places.
-use crate::Line;
+use crate::{line_len, Line};
 use std::collections::HashMap;
 
 const WRITES: u32 = 16;
@@ -39,11 +39,6 @@ impl Attribute {
         out.extend_from_slice(&self.value);
         out.push(b'\n');
     }
-}
-
-fn line_len(line: &Line) -> usize {
-    let bracket = if line.n { 3 } else { 0 };
-    bracket + line.name.len() + line.enc.len() + line.value.len() + 3
 }
 
 #[derive(Default)]
@@ -116,7 +111,7 @@ fn name(number: u32) -> Vec<u8> {
     vec![b'n', b'a' + high, b'a' + low / 16, b'a' + low % 16]
 }
 
-fn set_line(number: u32, time: u32) -> Line {
+pub fn set_line(number: u32, time: u32) -> Line {
     Line {
         name: name(number),
         enc: b"n".to_vec(),

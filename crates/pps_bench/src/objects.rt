@@ -16,7 +16,7 @@ fn name(alloc: Global, number: u32) -> Result<Bytes, AllocError> {
 }
 
 /// The line that sets an attribute for the so-many-th time.
-fn set_line(alloc: Global, number: u32, time: u32) -> Result<Line, AllocError> {
+pub(crate) fn set_line(alloc: Global, number: u32, time: u32) -> Result<Line, AllocError> {
     let digit = b'0' + (time % 10) as u8;
     Ok(Line::Set {
         name: name(alloc, number)?,

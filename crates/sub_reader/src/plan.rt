@@ -164,11 +164,12 @@ fn read_part<L: Lent>(
     owed: u32,
     max: u32,
 ) -> Result<Plan, Refusal>
+    requires owes { 0 < owed }
     requires from_start { L.first lent.now ≤ position }
     requires up_to_end { position ≤ L.first lent.now + length (L.records lent.now ++ extra.now) }
     requires numbers { L.first lent.now + length (L.records lent.now ++ extra.now) < 2 ^ 64 }
     ensures reach { IfOk result (λ plan. PlanReaches plan (L.first lent.now) (L.first lent.now + length (L.records lent.now ++ extra.now))) }
-    ensures answer { (log : List Record) (seen : reading.Seen) (dead : Bool) → Stands settings.now (L.origins lent.now) (At position owed) log seen → 0 < owed
+    ensures answer { (log : List Record) (seen : reading.Seen) (dead : Bool) → Stands settings.now (L.origins lent.now) (At position owed) log seen
         → IsEndOf (L.first lent.now) (L.records lent.now ++ extra.now) log
         → Answers settings.now (L.origins lent.now) log seen result (reading.owed_answer settings.now.wait (blocks_of settings.now (L.origins lent.now) (drop position log)) dead max) }
 {

@@ -13,4 +13,4 @@ returns-else-owed-eq0-clause-answer g c = λ log seen h e.
     let owes = c.if-owed-eq0.false in
     let some : 0 < c.in-At.owed = omega arith in
     subst (Answers s o log seen c.read_part.result) (at-answer s o c.args.place c.in-At.position c.in-At.owed c.args.max log seen t c.in-At.is h some)
-    (c.read_part.ensures.answer log seen (is_dead s.subject t.alive) (subst (λ p. Stands s o p log seen) c.in-At.is h) some e)
+    (c.read_part.ensures.answer log seen (is_dead s.subject t.alive) (subst (λ p. Stands s o p log seen) c.in-At.is h) e)

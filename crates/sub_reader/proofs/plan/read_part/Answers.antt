@@ -14,14 +14,14 @@ use Rattle.sub_reader.proofs.Parts.{part-needs, part-blocks, behind-place}
 use Rattle.sub_reader.proofs.plan.read_part.Goals as goal
 
 pub returns-then-fit-eq0-clause-answer : goal.returns-then-fit-eq0-clause-answer
-returns-then-fit-eq0-clause-answer g c = λ log seen dead h some e.
+returns-then-fit-eq0-clause-answer g c = λ log seen dead h e.
     let s = c.args.settings.now in
     let o = g.L.Lent.origins c.args.lent.now in
     let all : List Record = g.L.Lent.records c.args.lent.now ++ c.args.extra.now in
     let start = g.L.Lent.first c.args.lent.now in
     let fit : IsFit s o all (c.args.position - start) c.args.max c.fit_blocks-fit.result = subst (λ k. IsFit s o all (c.args.position - k) c.args.max c.fit_blocks-fit.result) c.start-start.ensures c.fit_blocks-fit.ensures in
     let small = c.ranges.max.fits in
-    part-needs s o start all log e c.args.position c.args.owed c.args.max c.fit_blocks-fit.result fit c.requires.from_start h.0 s.wait dead c.needs.result (omega arith) some c.if-fit-eq0.true c.needs.ensures
+    part-needs s o start all log e c.args.position c.args.owed c.args.max c.fit_blocks-fit.result fit c.requires.from_start h.0 s.wait dead c.needs.result (omega arith) c.requires.owes c.if-fit-eq0.true c.needs.ensures
 
 pub push_blocks-requires-clause-room : goal.push_blocks-requires-clause-room
 push_blocks-requires-clause-room g c =
@@ -34,7 +34,7 @@ push_blocks-requires-clause-room g c =
     omega (arith, same, fit.long, c.in-Ok.ensures.capacity, c.in-Ok.ensures.len)
 
 pub returns-clause-answer : goal.returns-clause-answer
-returns-clause-answer g c = λ log seen dead h some e.
+returns-clause-answer g c = λ log seen dead h e.
     let s = c.args.settings.now in
     let o = g.L.Lent.origins c.args.lent.now in
     let all : List Record = g.L.Lent.records c.args.lent.now ++ c.args.extra.now in
@@ -50,6 +50,6 @@ returns-clause-answer g c = λ log seen dead h some e.
     let stands : Stands s o c.place_behind.result log (left (reader s) f.given seen) =
     subst (λ place. Stands s o place log (left (reader s) f.given seen)) (sym c.place_behind.ensures)
     (subst (λ k. Stands s o (cond (leb c.args.owed f.given) (At (c.end.result + length c.args.extra.now) 0) (At (k + f.next) (c.args.owed - f.given))) log (left (reader s) f.given seen)) (sym c.start-start.ensures)
-    (behind-place s o start all log e c.args.position c.args.owed c.args.max f fit c.requires.from_start h.0 (c.end.result + length c.args.extra.now) seen ends h.1 some)) in
+    (behind-place s o start all log e c.args.position c.args.owed c.args.max f fit c.requires.from_start h.0 (c.end.result + length c.args.extra.now) seen ends h.1 c.requires.owes)) in
     subst (λ a. IsOutput (Data out) a × Stands s o c.place_behind.result log (seen_after s seen a))
     (sym (part-blocks s o start all log e c.args.position c.args.owed c.args.max f fit c.requires.from_start h.0 s.wait dead c.if-fit-eq0.false)) (bytes, stands)
