@@ -12,6 +12,3 @@ pub use print::{
 };
 pub use read::{WRITE_LIMIT, WriteLines, WriteText, first_line, read_write, read_write_line};
 pub use show::show_value;
-
-#[cfg(test)]
-mod tests;

@@ -10,6 +10,3 @@ pub use closing::{close, does_close_take_memory};
 pub use connections::{attach, detach, own_handle, receive};
 pub use notices::{Notified, notify};
 pub use outbox::park_refusal;
-
-#[cfg(test)]
-mod tests;

@@ -6,6 +6,3 @@ mod change;
 
 pub use apply::apply_all;
 pub use change::{Change, Done, NewObject, entry_about, on_target, one};
-
-#[cfg(test)]
-mod tests;

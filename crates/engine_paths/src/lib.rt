@@ -14,6 +14,3 @@ pub use list::listed;
 pub use new_directory::mkdir;
 pub use new_handle::open;
 pub use removal::unlink;
-
-#[cfg(test)]
-mod tests;

@@ -11,6 +11,3 @@ mod states;
 
 pub use owing::{kept, owed};
 pub use states::same;
-
-#[cfg(test)]
-mod tests;

@@ -18,6 +18,3 @@ pub use answer::Measure;
 pub use measuring::measure;
 pub use names::listing;
 pub use text::text_of;
-
-#[cfg(test)]
-mod tests;

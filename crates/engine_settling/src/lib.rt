@@ -6,6 +6,3 @@ mod settling;
 
 pub use reading::read;
 pub use settling::settle;
-
-#[cfg(test)]
-mod tests;

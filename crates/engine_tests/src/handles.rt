@@ -1,4 +1,4 @@
-use crate::{
+use engine_handles::{
     Notified, attach, close, detach, does_close_take_memory, notify, own_handle, park_refusal,
     receive,
 };

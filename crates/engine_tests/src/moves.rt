@@ -1,4 +1,4 @@
-use crate::{Change, NewObject, apply_all, entry_about, on_target, one};
+use engine_moves::{Change, NewObject, apply_all, entry_about, on_target, one};
 use engine_state::{Opening, Pulse, State};
 use pps_types::{Bytes, Conn, Handle, HandleKind, Item, Kind, Line, Lines, Refusal};
 use std::alloc::{AllocError, Global};

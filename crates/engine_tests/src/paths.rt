@@ -1,5 +1,5 @@
-use crate::{listed, mkdir, open, unlink};
 use engine_moves::{Change, Done, apply_all};
+use engine_paths::{listed, mkdir, open, unlink};
 use engine_state::{Entry, State};
 use pps_filter::read_filter;
 use pps_types::{Bytes, Conn, Handle, HandleKind, Kind, Mode, Outcome, Refusal};

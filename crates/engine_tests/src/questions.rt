@@ -1,4 +1,4 @@
-use crate::{kept, owed, same};
+use engine_questions::{kept, owed, same};
 use engine_state::{Entry, Known, Opening, Pulse, Slot, State};
 use pps_filter::read_filter;
 use pps_types::{

@@ -1,4 +1,4 @@
-use crate::{Measure, listing, measure, text_of};
+use engine_reads::{Measure, listing, measure, text_of};
 use engine_state::{Entry, Known, Open, Opening, State};
 use pps_filter::read_filter;
 use pps_types::{Bytes, Conn, Handle, HandleKind, Kind, Line, Lines, ObjId, Record, Refusal};

@@ -1,6 +1,6 @@
-use crate::{read, settle};
 use engine_moves::{Change, Done, NewObject, apply_all, entry_about, one};
 use engine_reads::{Measure, measure};
+use engine_settling::{read, settle};
 use engine_state::{Copied, Opening, Pulse, State};
 use pps_types::{
     Bytes, Conn, Handle, HandleKind, Item, Kind, Line, Lines, Outcome, Refusal, SharedBytes,
@@ -105,7 +105,7 @@ fn await_news(alloc: Global, state: &mut State, number: u32, size: u32) -> Resul
     apply_all(alloc, state, changes)
 }
 
-#[tactic(auto, using(crate::proofs::Measured::is_everything, crate::proofs::Measured::is_blocks, crate::proofs::Measured::is_needs, crate::proofs::Measured::is_gone, crate::proofs::Measured::is_waits, crate::proofs::Measured::is_nothing))]
+#[tactic(auto, using(engine_settling::proofs::Measured::is_everything, engine_settling::proofs::Measured::is_blocks, engine_settling::proofs::Measured::is_needs, engine_settling::proofs::Measured::is_gone, engine_settling::proofs::Measured::is_waits, engine_settling::proofs::Measured::is_nothing))]
 fn read_by(alloc: Global, state: &State, number: u32, size: u32) -> Result<Done, Refusal> {
     let Some(h) = state.handle(Handle::new(number)) else {
         return Err(Refusal::BadHandle);

@@ -1,7 +1,7 @@
-use crate::write;
 use attr_text::print_line;
 use engine_moves::{Change, Done, NewObject, apply_all, one};
 use engine_state::{Opening, State};
+use engine_writes::write;
 use pps_types::{Bytes, Conn, Handle, HandleKind, Kind, Line, Outcome, Refusal};
 use std::alloc::Global;
 use std::test::Fail;

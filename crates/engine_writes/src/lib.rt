@@ -8,6 +8,3 @@ mod resolve;
 mod writing;
 
 pub use writing::write;
-
-#[cfg(test)]
-mod tests;

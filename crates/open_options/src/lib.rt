@@ -9,6 +9,3 @@ mod word;
 
 pub use open::{OpenSpec, read_open};
 pub use path::{Path, read_path};
-
-#[cfg(test)]
-mod tests;

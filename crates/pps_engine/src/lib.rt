@@ -9,6 +9,3 @@ mod taking;
 
 pub use engine::Engine;
 pub use in_place::Plan;
-
-#[cfg(test)]
-mod tests;

@@ -10,6 +10,3 @@ mod read;
 pub use filter::{Filter, matches, matches_set};
 pub use pieces::first_plain_piece;
 pub use read::{read_filter, read_parts};
-
-#[cfg(test)]
-mod tests;

@@ -17,6 +17,3 @@ pub use fault::FeedFault;
 pub use reading::read_conn;
 pub use requests::encode_request;
 pub use serving::run;
-
-#[cfg(test)]
-mod tests;

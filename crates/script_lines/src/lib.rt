@@ -15,6 +15,3 @@ pub use laws::{
 };
 pub use line::{ScriptLine, read_line};
 pub use shown::print_shown;
-
-#[cfg(test)]
-mod tests;

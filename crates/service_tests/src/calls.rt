@@ -1,5 +1,5 @@
-use crate::Engine;
 use open_options::read_path;
+use pps_engine::Engine;
 use pps_types::{
     Action, Bytes, Conn, Event, Handle, Item, Mode, Outcome, Refusal, Request, SharedBytes,
 };

@@ -1,9 +1,13 @@
-//! Tests of the engine by scripts: how much is kept and owed, and full directories.
+//! Tests of the service: the engine's calls, how much it keeps and owes, full directories, and streams of frames.
 #![tactic(auto)]
 
+#[cfg(test)]
+mod calls;
 #[cfg(test)]
 mod crowds;
 #[cfg(test)]
 mod debts;
+#[cfg(test)]
+mod frames;
 #[cfg(test)]
 mod scripts;

@@ -1,4 +1,7 @@
-use super::*;
+use attr_text::{
+    client_header_len, header_len, line_len, print_header, print_line, push_client_header,
+    push_header, push_line, push_set, read_write, set_len, show_value,
+};
 use pps_types::{Bytes, Handle, Line, Mark, Refusal, Shown, WriteLine};
 use std::alloc::{AllocError, Global};
 use std::test::Fail;

@@ -1,4 +1,4 @@
-use crate::{Filter, first_plain_piece, matches, matches_set, read_filter, read_parts};
+use pps_filter::{Filter, first_plain_piece, matches, matches_set, read_filter, read_parts};
 use pps_types::{Bytes, Line, Refusal};
 use std::alloc::Global;
 use std::test::Fail;

@@ -1,4 +1,4 @@
-use crate::{OpenSpec, Path, read_open, read_path};
+use open_options::{OpenSpec, Path, read_open, read_path};
 use pps_filter::read_filter;
 use pps_types::Refusal;
 use std::alloc::{AllocError, Global};

@@ -1,9 +1,9 @@
-use crate::{
-    ScriptLine, answers_are_lines, answers_are_told, commands_are_read, escapes_are_read,
-    numbers_are_decimal, print_answer, print_shown, read_line,
-};
 use pps_types::{
     Action, Bytes, Conn, Event, Handle, Item, Mode, Outcome, Refusal, Request, SharedBytes,
+};
+use script_lines::{
+    ScriptLine, answers_are_lines, answers_are_told, commands_are_read, escapes_are_read,
+    numbers_are_decimal, print_answer, print_shown, read_line,
 };
 use std::alloc::{AllocError, Global};
 use std::test::Fail;

@@ -2,7 +2,7 @@
 ghost use Rattle.std.specs.Prelude.{◌≡◌, IfOk};
 ghost use Rattle.pps_types.specs.Outcome.{IsSendable};
 
-use crate::encode_outcome;
+use pps_frame::encode_outcome;
 use pps_types::{Conn, Handle, Item, Outcome, Refusal, SharedBytes};
 use std::alloc::{AllocError, Global};
 use std::test::Fail;

@@ -1,7 +1,7 @@
 //! Streams that are served.
 
-use crate::{Ended, RunError, run};
 use pps_engine::Engine;
+use pps_frame::{Ended, RunError, run};
 use pps_types::Device;
 use std::io;
 use std::io::{ErrorKind, Read, Write};

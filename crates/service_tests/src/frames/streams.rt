@@ -1,7 +1,7 @@
 //! Streams in pieces.
 
 use super::{FRAMES, event, stream};
-use crate::{Decoder, FeedFault};
+use pps_frame::{Decoder, FeedFault};
 use pps_types::Event;
 use std::alloc::Global;
 use std::test::Fail;

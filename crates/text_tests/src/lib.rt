@@ -1,0 +1,11 @@
+//! Tests of what reads and prints texts: with ample memory, and at the edges.
+#![tactic(auto)]
+
+#[cfg(test)]
+mod attributes;
+#[cfg(test)]
+mod filters;
+#[cfg(test)]
+mod opens;
+#[cfg(test)]
+mod scripts;
