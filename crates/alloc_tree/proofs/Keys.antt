@@ -12,10 +12,9 @@ use Rattle.pps_types.specs.declared.found.Found.{Found}
 use Rattle.pps_types.specs.declared.found.Found.TheVariants.{Object as FoundObject, Directory as FoundDirectory}
 use Rattle.pps_types.specs.Names.{Name, Path, name_cmp}
 use Rattle.alloc_tree.specs.Contents.{Contents, whole}
-use Rattle.alloc_tree.specs.View.{under, flatten, standing, made_of, contents_of}
-use Rattle.alloc_tree.specs.Entries.{AllNames, AllAbove, IsRising}
+use Rattle.alloc_tree.specs.View.{under, flatten, standing, made_of}
+use Rattle.alloc_tree.specs.Entries.{AllAbove, IsRising}
 use Rattle.alloc_tree.specs.declared.directory.Entry.{Entry}
-use Rattle.alloc_tree.proofs.Ordered.{whole_view}
 
 -- a name, and what stands there and below
 abbrev pub key : {A : Type 0} → Entry A → Name × List (Path × Found)

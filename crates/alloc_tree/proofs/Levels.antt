@@ -1,11 +1,11 @@
 -- One level of a tree: what a path leads to beyond its first name.
-use Rattle.std.proofs.Common.{◌≡◌, ℕ, nat_eq, true, false, length, suc, List, [], ◌∷◌, ◌++◌, take, drop, Some, None, Option, Result, Err, Ok, ok_or, refl, ap, sym, subst, ◌∙◌, arith}
+use Rattle.std.proofs.Common.{◌≡◌, ℕ, nat_eq, true, false, length, suc, List, [], ◌∷◌, ◌++◌, take, drop, None, Option, Result, Err, Ok, ok_or, refl, ap, sym, subst, ◌∙◌, arith}
 use Rattle.std.proofs.lemmas.List.{take-append-drop}
 use Rattle.std.proofs.lemmas.Bool.{eqb-true}
 use Rattle.std.specs.FinMap.{find}
 use Rattle.pps_types.specs.Bytes.{◌>>=◌}
 use Rattle.pps_types.specs.declared.found.Found.{Found}
-use Rattle.pps_types.specs.declared.found.Found.TheVariants.{Object, Directory}
+use Rattle.pps_types.specs.declared.found.Found.TheVariants.{Object}
 use Rattle.pps_types.specs.declared.refusal.Refusal.{Refusal}
 use Rattle.pps_types.specs.declared.refusal.Refusal.TheVariants.{NotFound, NotDirectory}
 use Rattle.pps_types.specs.Names.{Name, Path, path_cmp, place, find_at}

@@ -1,16 +1,15 @@
 -- What stands directly in a directory.
-use Rattle.std.proofs.Common.{◌≡◌, ℕ, suc, take, drop, length, Vec, cond, List, [], ◌∷◌, ◌++◌, map, Some, None, Option, refl, ap, sym, subst, ◌∙◌, append-nil, option_map}
+use Rattle.std.proofs.Common.{◌≡◌, ℕ, suc, take, drop, cond, List, [], ◌∷◌, ◌++◌, map, None, Option, refl, ap, sym, subst, ◌∙◌, append-nil, option_map}
 use Rattle.std.specs.declared.cmp.Ordering.TheVariants.{Less}
 use Rattle.std.specs.FinMap.{entries}
 use Rattle.std.specs.FinMap.Entries.{where_key}
 use Rattle.std.proofs.lemmas.Cmp.{tied_itself}
-use Rattle.std.proofs.lemmas.List.{take-append-drop, length-map}
+use Rattle.std.proofs.lemmas.List.{take-append-drop}
 use Rattle.std.proofs.lemmas.List.Elements.{filter_map-append}
-use Rattle.pps_types.specs.declared.found.Found.{Found}
 use Rattle.pps_types.specs.declared.found.Found.TheVariants.{Object as FoundObject, Directory as FoundDirectory}
 use Rattle.pps_types.specs.Names.{Name, Path, path_cmp, name_in, members_in}
 use Rattle.alloc_tree.specs.Contents.{whole, is_below}
-use Rattle.alloc_tree.specs.View.{under, flatten, standing, node_found, made_of}
+use Rattle.alloc_tree.specs.View.{under, flatten, standing, node_found}
 use Rattle.alloc_tree.specs.Entries.{AllNames, AllBelow, AllAbove, IsGapFor}
 use Rattle.alloc_tree.specs.declared.directory.Entry.{Entry}
 use Rattle.alloc_tree.specs.declared.directory.Node.{Node}

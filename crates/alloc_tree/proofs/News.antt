@@ -3,13 +3,12 @@ use Rattle.std.proofs.Common.{◌≡◌, ℕ, suc, ◌<◌, nat_eq, nat_le, Bool
 use Rattle.std.specs.Option.{option_or}
 use Rattle.std.proofs.lemmas.List.{take-set, drop-set-lt, set_split, length-set}
 use Rattle.std.proofs.lemmas.List.Sums.{sum_by-cons}
-use Rattle.std.specs.FinMap.{find}
 use Rattle.pps_types.specs.Bytes.{◌>>=◌}
 use Rattle.pps_types.specs.declared.found.Found.{Found}
-use Rattle.pps_types.specs.declared.found.Found.TheVariants.{Object, Directory}
+use Rattle.pps_types.specs.declared.found.Found.TheVariants.{Object}
 use Rattle.pps_types.specs.declared.refusal.Refusal.{Refusal}
 use Rattle.pps_types.specs.declared.refusal.Refusal.TheVariants.{OutOfMemory, NotFound, NotDirectory, Exists, TableFull}
-use Rattle.pps_types.specs.Names.{Name, Path, path_cmp, place, new_refusal, refusal_of, refused_if, last_name, parent, members_in}
+use Rattle.pps_types.specs.Names.{Name, Path, place, new_refusal, refusal_of, refused_if, last_name, parent}
 use Rattle.alloc_tree.specs.Path.{at, room_for}
 use Rattle.alloc_tree.specs.Refused.{is_of, count_in, new_refused}
 use Rattle.alloc_tree.specs.Contents.{whole, Contents}

@@ -1,26 +1,22 @@
 -- The entries of a directory are in preorder.
-use Rattle.std.proofs.Common.{◌≡◌, ℕ, suc, take, drop, length, Vec, Bool, ◌&&◌, true, false, cond, List, [], ◌∷◌, ◌++◌, map, Some, None, Option, T, refl, ap, sym, subst, ◌∙◌, append-nil, option_map}
+use Rattle.std.proofs.Common.{◌≡◌, ℕ, Vec, Bool, ◌&&◌, true, false, cond, List, [], ◌∷◌, ◌++◌, Some, Option, T, refl, ap, sym, subst, ◌∙◌}
 use Rattle.std.specs.declared.cmp.Ordering.{Ordering}
 use Rattle.std.specs.declared.cmp.Ordering.TheVariants.{Less, Equal, Greater}
 use Rattle.std.specs.Ordering.{is_lt, ordering_then, eq_by_cmp}
 use Rattle.std.specs.FinMap.{find, entries, from_entries, from_sorted, get-from_entries, get-from_sorted, entries-from_sorted, same_map, is_sorted, entries_sorted}
 use Rattle.std.specs.FinMap.Entries.{below_all, where_key, is_sorted-where_key}
 use Rattle.std.proofs.lemmas.Cmp.{tied_itself}
-use Rattle.std.proofs.lemmas.List.Elements.{filter_map-append}
 use Rattle.pps_types.specs.Names.{Name, Path, name_cmp, path_cmp}
 use Rattle.alloc_tree.specs.Path.{Changes}
 use Rattle.alloc_tree.specs.Contents.{Contents, whole, is_below}
 use Rattle.pps_types.specs.declared.found.Found.{Found}
-use Rattle.pps_types.specs.declared.found.Found.TheVariants.{Object as FoundObject, Directory as FoundDirectory}
-use Rattle.alloc_tree.proofs.Places.{IsAt}
-use Rattle.std.proofs.lemmas.List.{take-append-drop, length-map}
-use Rattle.alloc_tree.specs.View.{under, flatten, standing, node_found, contents_of}
-use Rattle.alloc_tree.specs.Entries.{AllNames, AllBelow, AllAbove, IsRising, IsGapFor}
+use Rattle.pps_types.specs.declared.found.Found.TheVariants.{Directory as FoundDirectory}
+use Rattle.alloc_tree.specs.View.{under, flatten, standing, contents_of}
+use Rattle.alloc_tree.specs.Entries.{AllAbove, IsRising}
 use Rattle.alloc_tree.specs.declared.directory.Entry.{Entry}
 use Rattle.alloc_tree.specs.declared.directory.Node.{Node}
 use Rattle.alloc_tree.specs.declared.directory.Node.TheVariants.{Object, Directory}
-use Rattle.alloc_tree.proofs.Orders.{names_total, paths_total, paths_exact, Differ}
-use Rattle.alloc_tree.proofs.Flatten.{flatten-append, apart_below, apart_above}
+use Rattle.alloc_tree.proofs.Orders.{names_total, paths_total, paths_exact}
 
 -- each path comes after p
 abbrev pub AllAfter : {X : Type 0} → Path → List (Path × X) → Type 0

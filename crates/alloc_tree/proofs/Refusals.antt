@@ -1,5 +1,5 @@
 -- One level of a tree: why a change of what stands at a path is refused.
-use Rattle.std.proofs.Common.{◌≡◌, ℕ, suc, nat_eq, Bool, true, false, not, List, [], ◌∷◌, length, Some, None, Option, Result, Ok, Err, map, ok_or, if◌then◌else◌, refl, ap, sym, ◌∙◌, arith}
+use Rattle.std.proofs.Common.{◌≡◌, ℕ, suc, nat_eq, Bool, true, false, not, List, [], ◌∷◌, length, Some, None, Option, Result, Ok, Err, map, ok_or, if◌then◌else◌, refl, ap, ◌∙◌, arith}
 use Rattle.std.specs.Bool.{OnTrue}
 use Rattle.std.specs.Option.{option_or}
 use Rattle.std.proofs.lemmas.Bool.{eqb-true}
@@ -8,16 +8,14 @@ use Rattle.pps_types.specs.declared.found.Found.{Found}
 use Rattle.pps_types.specs.declared.found.Found.TheVariants.{Object, Directory}
 use Rattle.pps_types.specs.declared.refusal.Refusal.{Refusal}
 use Rattle.pps_types.specs.declared.refusal.Refusal.TheVariants.{NotFound, NotDirectory, IsDirectory, NotEmpty}
-use Rattle.pps_types.specs.Names.{Name, Path, find_at, refusal_of, refused_if, is_object, members_in}
-use Rattle.alloc_tree.specs.Path.{at}
+use Rattle.pps_types.specs.Names.{Name, Path, refusal_of, refused_if, is_object, members_in}
 use Rattle.alloc_tree.specs.Contents.{Contents, whole}
-use Rattle.alloc_tree.specs.Refused.{object_refused, list_refused, rmdir_refused, edit_refused, root_refusal}
+use Rattle.alloc_tree.specs.Refused.{object_refused, list_refused, edit_refused, root_refusal}
 use Rattle.alloc_tree.specs.View.{standing, made_of, node_found, empty_refused, node_refused}
 use Rattle.alloc_tree.specs.Entries.{IsGapFor}
 use Rattle.alloc_tree.specs.declared.edit.Edit.{Edit}
 use Rattle.alloc_tree.specs.declared.edit.Edit.TheVariants.{RemovesObject, ReplacesObject, RemovesDirectory}
 use Rattle.alloc_tree.specs.declared.directory.Entry.{Entry}
-use Rattle.alloc_tree.specs.declared.directory.Node.{Node}
 use Rattle.alloc_tree.specs.declared.directory.Node.TheVariants.{Directory as DirectoryNode}
 use Rattle.alloc_tree.proofs.Places.{IsAt}
 use Rattle.alloc_tree.proofs.Levels.{find_entry, find_absent}

@@ -1,7 +1,7 @@
 -- What a directory is seen as.
 use Rattle.std.specs.Prelude.{ℕ, List, [], ◌∷◌, Bool, true, false, ◌⊎◌, refl}
 use Rattle.std.proofs.Common.{inl, inr}
-use Rattle.std.specs.FinMap.{FinMap, code, entries}
+use Rattle.std.specs.FinMap.{code, entries}
 use Rattle.std.specs.FinMap.Entries.{where_key}
 use Rattle.std.specs.Coded.{Coded, code_by, coded×, coded⊎, coded_ℕ, coded_list}
 use Rattle.pps_types.specs.declared.found.Found.{Found}

@@ -1,5 +1,5 @@
 -- How a root and what is ready make a tree.
-use Rattle.std.specs.Prelude.{ℕ, Option, Some, None}
+use Rattle.std.specs.Prelude.{Option, Some, None}
 use Rattle.std.specs.FinMap.{from_entries}
 use Rattle.pps_types.specs.Names.{Name}
 use Rattle.alloc_tree.specs.Contents.{Contents, whole}

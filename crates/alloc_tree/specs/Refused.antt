@@ -1,5 +1,5 @@
 -- Why a change of what stands at paths is refused, where `es` is what stands.
-use Rattle.std.specs.Prelude.{ℕ, List, [], ◌∷◌, Bool, not, nat_le, count_by, if◌then◌else◌, Option, Some, None, Ok, Err}
+use Rattle.std.specs.Prelude.{ℕ, List, Bool, not, nat_le, count_by, if◌then◌else◌, Option, Some, None, Ok, Err}
 use Rattle.std.specs.Option.{option_or}
 use Rattle.pps_types.specs.Bytes.{is_empty, ◌>>=◌}
 use Rattle.pps_types.specs.declared.found.Found.{Found}

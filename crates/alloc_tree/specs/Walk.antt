@@ -1,6 +1,6 @@
 -- Lists of names and of paths.
-use Rattle.std.specs.Prelude.{ℕ, List, [], ◌∷◌, ◌++◌, map, Vec}
-use Rattle.pps_types.specs.Names.{Name, Path}
+use Rattle.std.specs.Prelude.{ℕ, List, ◌++◌, map, Vec}
+use Rattle.pps_types.specs.Names.{Path}
 
 -- the names that vectors hold
 abbrev pub names : {A : Type 0} → List (Vec ℕ A) → Path

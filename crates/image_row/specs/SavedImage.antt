@@ -1,5 +1,5 @@
 -- An image that is saved and started again: what is nonpersistent isn't in it. QNX PPS guide, on persistence; the text is our own.
-use Rattle.std.specs.Prelude.{◌≡◌, ℕ, List, [], ◌∷◌, ◌++◌, true, false, Option, Some, Result, Ok, Err, codes, length, option_map, drop}
+use Rattle.std.specs.Prelude.{◌≡◌, ℕ, List, [], ◌∷◌, ◌++◌, true, false, Option, Some, Ok, Err, codes, length, option_map, drop}
 use Rattle.std.specs.Result.{result_ok}
 use Rattle.pps_types.specs.declared.event.Request.TheVariants.{Attach, Open as OpenRequest, Read, Write, Mkdir, List as ListRequest}
 use Rattle.pps_types.specs.declared.event.Mode.{Mode}
@@ -9,7 +9,7 @@ use Rattle.pps_types.specs.declared.refusal.Refusal.TheVariants.{NotFound}
 use Rattle.pps_types.specs.Outcome.{Reply}
 use Rattle.pps_types.specs.Machine.{Machine, start, shown}
 use Rattle.pps_types.specs.Runs.{replies, after}
-use Rattle.pps_types.specs.Image.{Image, image, read_image, started}
+use Rattle.pps_types.specs.Image.{image, read_image, started}
 
 abbrev pub line : List ℕ → List ℕ
 line bytes = bytes ++ 10 ∷ []

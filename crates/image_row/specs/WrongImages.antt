@@ -1,5 +1,5 @@
 -- Texts that are no images, and the line at which each is told. Own.
-use Rattle.std.specs.Prelude.{◌≡◌, ℕ, ◌+◌, List, [], ◌∷◌, ◌++◌, Bool, true, false, not, ◌==◌, Result, Ok, Err, codes, take, replicate}
+use Rattle.std.specs.Prelude.{◌≡◌, ℕ, List, [], ◌∷◌, ◌++◌, Bool, true, ◌==◌, Result, Ok, Err, codes, take}
 use Rattle.std.specs.List.{list_all}
 use Rattle.pps_types.specs.Image.{Image, read_image}
 use Rattle.image_row.specs.SavedImage.{line, image_saved, older_image}

@@ -1,10 +1,10 @@
 -- Reading a limit one digit at a time.
-use Rattle.std.proofs.Common.{◌≡◌, ℕ, ◌+◌, ◌*◌, ◌-◌, ◌<◌, ◌≤◌, Bool, true, false, List, [], ◌∷◌, length, get_or, drop, Option, Some, None, refl, sym, ap, ◌∙◌, arith}
-use Rattle.std.specs.Prelude.{nat_le, ◌&&◌, not, if◌then◌else◌}
+use Rattle.std.proofs.Common.{◌≡◌, ℕ, ◌+◌, ◌*◌, ◌-◌, ◌<◌, ◌≤◌, Bool, true, false, List, [], ◌∷◌, length, get_or, drop, Option, Some, None, refl, ◌∙◌, arith}
+use Rattle.std.specs.Prelude.{nat_le, ◌&&◌, if◌then◌else◌}
 use Rattle.std.specs.List.{list_all}
 use Rattle.std.proofs.lemmas.Bool.Decides.{nat_tests}
 use Rattle.std.proofs.lemmas.List.{at_drop_more, at_drop_all}
-use Rattle.pps_types.specs.Bytes.{is_digit, is_digits, is_empty, starts_with, number_from, number_up_to}
+use Rattle.pps_types.specs.Bytes.{is_digit, is_empty, starts_with, number_from, number_up_to}
 
 -- what digits give behind a number, where the whole keeps to the most
 abbrev pub limit_from : ℕ → ℕ → List ℕ → Option ℕ

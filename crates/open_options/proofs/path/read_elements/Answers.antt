@@ -1,10 +1,10 @@
-use Rattle.std.proofs.Common.{◌≡◌, ◌∙◌, [], ◌∷◌, ap, sym, refl, inr, true, false, length, arith, rules}
+use Rattle.std.proofs.Common.{◌≡◌, ◌∙◌, [], ap, sym, refl, inr, true, false, length, arith, rules}
 use Rattle.std.specs.Prelude.{◌&&◌, ◌||◌, ◌==◌, not, codes}
 use Rattle.std.specs.Option.{option_copied}
 use Rattle.std.proofs.lemmas.Bool.Decides.{nat_tests}
 use Rattle.pps_types.specs.Bytes.{same, is_empty, pieces}
 use Rattle.pps_types.specs.OpenText.{is_path_name}
-use Rattle.open_options.specs.Elements.{elements_left, path_of}
+use Rattle.open_options.specs.Elements.{elements_left}
 use Rattle.open_options.proofs.Elements.{walked, walked-is, walked-refused, elements_left-some, and_false, or_not}
 use Rattle.open_options.proofs.path.read_elements.Goals as goal
 use Rattle.open_options.proofs.path.read_elements.Goals.{else-is_none-via-then-is_none+else-eq, else-is_none-via-else-is_none, then-len-eq-NAMES_MAX-via-then-len-eq-NAMES_MAX, then-len-eq-NAMES_MAX-via-else-len-eq-NAMES_MAX+then-not-is_name}

@@ -1,4 +1,4 @@
-use Rattle.std.proofs.Common.{◌≡◌, inr, refl}
+use Rattle.std.proofs.Common.{inr, refl}
 use Rattle.std.proofs.lemmas.Result.{err_from_is_err_and}
 use Rattle.open_options.specs.Seen.{path_seen}
 use Rattle.open_options.proofs.Elements.{path-refused, path_text-names, path_text-all}

@@ -1,10 +1,6 @@
-use Rattle.std.proofs.Common.{◌≡◌, ◌<◌, ◌≤◌, [], ◌∷◌, ◌++◌, map, length, refl, sym, ap, subst, ◌∙◌, arith}
+use Rattle.std.proofs.Common.{◌≡◌, ◌<◌, ◌≤◌, [], ◌∷◌, ◌++◌, map, length, refl, sym, ap, ◌∙◌, arith}
 use Rattle.std.proofs.lemmas.List.{take_all, length-map}
-use Rattle.pps_types.specs.declared.found.Found.{Found}
-use Rattle.pps_types.specs.Names.{Name, Path}
-use Rattle.alloc_tree.specs.Contents.{whole}
 use Rattle.alloc_tree.specs.View.{standing, made_of}
-use Rattle.alloc_tree.proofs.Depths.{depth_below}
 use Rattle.alloc_tree.proofs.Keys.{key, keys_same, number_same, key_at, made_by_keys, no_object_is, says_no, refuted}
 use Rattle.alloc_tree.proofs.Ordered.{whole_is}
 use Rattle.alloc_tree.proofs.Steps.{map_one_more}
