@@ -1,7 +1,7 @@
 //! A stream of requests, served.
 ghost use Rattle.std.specs.Prelude.{◌≡◌, false};
-ghost use Rattle.pps_types.specs.Device.{device_inner, device_failed};
-ghost use Rattle.pps_cli.specs.Frames.{ServesStream};
+ghost use Rattle.pps_types.specs.Device.{device_inner, device_failed, device_reads, device_stalls};
+ghost use Rattle.pps_cli.specs.Frames.{ServesStream, DeviceFaults};
 
 use crate::fault::Fault;
 use pps_engine::Engine;
@@ -20,8 +20,10 @@ fn serve_stream<I: Read, O: Write>(
 ) -> Result<(), Fault>
     requires input { device_failed input.old ≡ false }
     requires output { device_failed output.old ≡ false }
-    ensures { ServesStream (I.remaining (device_inner input.old)) (I.remaining (device_inner input.new))
+    ensures serves { ServesStream (I.remaining (device_inner input.old)) (I.remaining (device_inner input.new))
         (O.contents (device_inner output.old)) (O.contents (device_inner output.new)) engine.old engine.new result }
+    ensures fault { DeviceFaults result (device_failed input.new) (device_failed output.new) (device_reads input.old)
+        (device_reads input.new) (device_stalls output.old) (device_stalls output.new) }
 {
     match run(alloc, engine, input, output) {
         Ok(Ended::Clean) => Ok(()),
