@@ -1,6 +1,6 @@
 -- What an event that no check refuses changes is fit.
 use Rattle.std.proofs.Common.{arith, ap, sym}
-use Rattle.std.specs.Prelude.{◌≡◌, ◌≤◌, ◌<◌, ℕ, ◌^◌, List, [], ◌∷◌, ◌++◌, ◌==◌, ◌&&◌, ◌||◌, not, Bool, true, false, cond, nat_lt, Option, Some, None, is_some, Result, Ok, Err, find, map, fold, length, refl}
+use Rattle.std.specs.Prelude.{◌≡◌, ◌≤◌, ◌<◌, ℕ, ◌^◌, List, [], ◌∷◌, ◌++◌, ◌==◌, ◌&&◌, not, Bool, true, false, cond, nat_lt, Option, Some, None, is_some, Result, Ok, Err, find, map, fold, length, refl}
 use Rattle.std.proofs.lemmas.Bool.Decides.{nat_tests}
 use Rattle.std.specs.Option.{option_map_or}
 use Rattle.std.specs.List.{AllByRecursion}
@@ -15,47 +15,20 @@ use Rattle.pps_types.specs.declared.handle_kind.HandleKind.TheVariants.{Object a
 use Rattle.pps_types.specs.Bytes.{is_empty}
 use Rattle.pps_types.specs.Text.{WriteText, write_text, print_lines}
 use Rattle.pps_types.specs.History.{Attribute, after_kind, text_length, resolve, message_line, apply_line}
-use Rattle.pps_types.specs.Reading.{Open, Seen, is_directory_kind}
-use Rattle.pps_types.specs.Content.{Known, Content, object_numbered, attributes_of, handle_numbered, handles_of}
-use Rattle.pps_types.specs.Checks.{Check, Refuse, Memory, first_refusal, parsed, Addressee, Everyone, OneClient, Nobody, addressee, own_header, limit_checks, changed, text_checks, write_checks}
+use Rattle.pps_types.specs.Reading.{Open, is_directory_kind}
+use Rattle.pps_types.specs.Rests.{Seen}
+use Rattle.pps_types.specs.Content.{Known, Content, object_numbered, attributes_of, handles_of}
+use Rattle.pps_types.specs.Checks.{first_refusal, parsed, Addressee, Everyone, OneClient, Nobody, addressee, own_header, limit_checks, changed, text_checks, write_checks}
 use Rattle.pps_types.specs.Plan.{Move, Happens, Closes, Queues, Leaves, apply_seen, apply_all_seen, entry_of, on_target, written_kind, sent, writing, parting, closing, closings, with_result}
+use Rattle.pps_types.specs.WellFormed.{AreInOrder}
 use Rattle.pps_types.proofs.Lists.{all-weaken}
+use Rattle.pps_types.proofs.Finds.{all-find, all-filter}
+use Rattle.pps_types.proofs.Rising.{rising-below, only-one}
+use Rattle.pps_types.proofs.Passes.{all-pass, none-fails, passes-both, or-false}
 use Rattle.content_bounds.specs.Bounds.{lines_of, client_of, IsBoundObject, IsBoundHandle, IsBound}
 use Rattle.content_bounds.specs.Fit.{IsFit, AreFit}
-use Rattle.content_bounds.proofs.Lists.{all-find, all-filter}
 use Rattle.content_bounds.proofs.Moves.{keeps-all}
-use Rattle.content_bounds.proofs.Rising.{rising-below}
 use Rattle.content_bounds.proofs.Texts.{OfOk, PrintsShort, prints-short, kept-length}
-use Rattle.content_bounds.proofs.Owners.{found-only}
-
--- ---- checks that pass
-
--- each test, where no check fails
-abbrev pub AllPass : List Check → Type 0
-AllPass [] = Unit {0}
-AllPass (Refuse fails r ∷ cs) = (fails ≡ false) × AllPass cs
-AllPass (Memory ∷ cs) = AllPass cs
-
-pub all-pass : (cs : List Check) → first_refusal cs ≡ None → AllPass cs
-all-pass [] p = tt
-all-pass (Memory ∷ cs) p = all-pass cs p
-all-pass (Refuse true r ∷ cs) p = absurd (let h = p in cc)
-all-pass (Refuse false r ∷ cs) p = (refl, all-pass cs p)
-
-pub none-fails : (cs : List Check) → AllPass cs → first_refusal cs ≡ None
-none-fails [] p = refl
-none-fails (Memory ∷ cs) p = none-fails cs p
-none-fails (Refuse fails r ∷ cs) p = rw p.0 (none-fails cs p.1)
-
-pub passes-both : (xs ys : List Check) → first_refusal (xs ++ ys) ≡ None → (first_refusal xs ≡ None) × (first_refusal ys ≡ None)
-passes-both [] ys p = (refl, p)
-passes-both (Memory ∷ xs) ys p = passes-both xs ys p
-passes-both (Refuse true r ∷ xs) ys p = absurd (let h = p in cc)
-passes-both (Refuse false r ∷ xs) ys p = passes-both xs ys p
-
-pub or-false : (a b : Bool) → (a || b) ≡ false → (a ≡ false) × (b ≡ false)
-or-false true b e = absurd (let h = e in cc)
-or-false false b e = (refl, e)
 
 -- ---- moves in a row
 
@@ -88,12 +61,12 @@ target-fit c h kind writer b lines client stay = go (object_numbered c h.target)
 -- ---- Write
 
 -- a change whose whole result is within the limit
-change-stays : (c : Content) (target : ℕ) (text : WriteText) → IsBound c → text_length (fold apply_line (attributes_of c target) (resolve (attributes_of c target) text.lines)) ≤ 65536
+change-stays : (c : Content) (target : ℕ) (text : WriteText) → AreInOrder c → text_length (fold apply_line (attributes_of c target) (resolve (attributes_of c target) text.lines)) ≤ 65536
     → (o : Known) → object_numbered c target ≡ Some o → AllStay c o.object.number (Change (resolve (attributes_of c target) text.lines))
-change-stays c target text b le o e =
+change-stays c target text order le o e =
     all-weaken {P = λ (p : Known). p.object.number ≡ o.object.number → p ≡ o} {Q = λ (p : Known). p.object.number ≡ o.object.number → text_length (fold apply_line p.attributes (resolve (attributes_of c target) text.lines)) ≤ 65536}
     (λ p only own. (let is : p ≡ o = only own in let attributes : attributes_of c target ≡ o.attributes = ap (λ f. option_map_or (λ (o : Known). o.attributes) f []) e in rw (is, sym attributes) le))
-    c.objects (found-only (λ (o : Known). o.object.number) target 0 c.next_object c.objects b.objects_rise o e)
+    c.objects (only-one (λ (o : Known). o.object.number) (λ (o : Known). o.object.number == target) 0 c.next_object c.objects order.objects_rise o e)
 
 within-limit : (attributes : List Attribute) → first_refusal (limit_checks attributes) ≡ None → text_length attributes ≤ 65536
 within-limit attributes p =
@@ -106,35 +79,35 @@ sent-fit c h Everyone text b le = target-fit c h (ToAll (map message_line text.l
 sent-fit c h Nobody text b le = target-fit c h (ToAll (map message_line text.lines)) (Some h.number) b le (omega arith) (λ o e. shrink (ToAll (map message_line text.lines)) (λ attributes. omega arith) c b o.object.number)
 sent-fit c h (OneClient id) text b le = target-fit c h (ToClient id (map message_line text.lines)) (Some h.number) b le (omega arith) (λ o e. shrink (ToClient id (map message_line text.lines)) (λ attributes. omega arith) c b o.object.number)
 
-written-fit : (c : Content) (h : Open Seen) (kind : HandleKind) (text : WriteText) → IsBound c → h.number < 2 ^ 32 → is_directory_kind kind ≡ false → PrintsShort text → first_refusal (text_checks c h kind text) ≡ None
+written-fit : (c : Content) (h : Open Seen) (kind : HandleKind) (text : WriteText) → AreInOrder c → IsBound c → h.number < 2 ^ 32 → is_directory_kind kind ≡ false → PrintsShort text → first_refusal (text_checks c h kind text) ≡ None
     → AreFit c (on_target c h (written_kind c h kind text) (Some h.number))
-written-fit c h (ObjectHandle delta) text b low plain short p =
+written-fit c h (ObjectHandle delta) text order b low plain short p =
     target-fit c h (Change (resolve (attributes_of c h.target) text.lines)) (Some h.number) b (short.0 (attributes_of c h.target)) (omega arith)
-    (change-stays c h.target text b (within-limit (changed c h text) (passes-both (own_header h.name text.header) (limit_checks (changed c h text)) p).1))
-written-fit c h ServerHandle text b low plain short p = sent-fit c h (addressee h.name text.header) text b short.1
-written-fit c h ClientHandle text b low plain short p =
+    (change-stays c h.target text order (within-limit (changed c h text) (passes-both (own_header h.name text.header) (limit_checks (changed c h text)) p).1))
+written-fit c h ServerHandle text order b low plain short p = sent-fit c h (addressee h.name text.header) text b short.1
+written-fit c h ClientHandle text order b low plain short p =
     target-fit c h (FromClient h.number (map message_line text.lines)) (Some h.number) b short.1 low (λ o e. shrink (FromClient h.number (map message_line text.lines)) (λ attributes. omega arith) c b o.object.number)
-written-fit c h (DirectoryHandle delta) text b low plain short p = absurd (let h = plain in cc)
-written-fit c h NamesHandle text b low plain short p = absurd (let h = plain in cc)
+written-fit c h (DirectoryHandle delta) text order b low plain short p = absurd (let h = plain in cc)
+written-fit c h NamesHandle text order b low plain short p = absurd (let h = plain in cc)
 
-pub low-number : (c : Content) (h : Open Seen) (number : ℕ) → IsBound c → handle_numbered c number ≡ Some h → h.number < 2 ^ 32
-low-number c h number b e =
-    let below : h.number < c.next_handle = all-find (λ (h : Open Seen). h.number < c.next_handle) (λ h. h.number == number) c.handles h (rising-below (λ (h : Open Seen). h.number) 0 c.next_handle c.handles b.handles_rise) e in
+pub low-number : (c : Content) (h : Open Seen) (test : Open Seen → Bool) → AreInOrder c → IsBound c → find test c.handles ≡ Some h → h.number < 2 ^ 32
+low-number c h test order b e =
+    let below : h.number < c.next_handle = all-find (λ (h : Open Seen). h.number < c.next_handle) test c.handles h (rising-below (λ (h : Open Seen). h.number) 0 c.next_handle c.handles order.handles_rise) e in
     omega (arith, below, b.handles_end)
 
-pub bound-handle : (c : Content) (h : Open Seen) (number : ℕ) → IsBound c → handle_numbered c number ≡ Some h → IsBoundHandle h
-bound-handle c h number b e = all-find IsBoundHandle (λ h. h.number == number) c.handles h b.handles e
+pub bound-handle : (c : Content) (h : Open Seen) (test : Open Seen → Bool) → IsBound c → find test c.handles ≡ Some h → IsBoundHandle h
+bound-handle c h test b e = all-find IsBoundHandle test c.handles h b.handles e
 
-pub write-fit : (c : Content) (h : Open Seen) (number : ℕ) (bytes : List ℕ) → IsBound c → handle_numbered c number ≡ Some h → first_refusal (write_checks c bytes h) ≡ None
+pub write-fit : (c : Content) (h : Open Seen) (test : Open Seen → Bool) (bytes : List ℕ) → AreInOrder c → IsBound c → find test c.handles ≡ Some h → first_refusal (write_checks c bytes h) ≡ None
     → AreFit c (with_result (write_text bytes) (λ text. (Outcome.Wrote (length bytes), writing c h text))).1
-write-fit c h number bytes b e p =
+write-fit c h test bytes order b e p =
     let tests = all-pass (write_checks c bytes h) p in
     go (write_text bytes) (prints-short bytes (grind (arith, nat_tests, tests.1.0))) (none-fails (parsed (write_text bytes) (text_checks c h h.kind)) tests.1.1.1)
-    (elim (is_directory_kind h.kind) as (λ k. (k ≡ true → h.writes ≡ false) → k ≡ false) [ true ↦ (λ listens. absurd (let no = listens refl in let yes = tests.0 in cc)) | false ↦ (λ listens. refl) ] (bound-handle c h number b e).listens)
+    (elim (is_directory_kind h.kind) as (λ k. (k ≡ true → h.writes ≡ false) → k ≡ false) [ true ↦ (λ listens. absurd (let no = listens refl in let yes = tests.0 in cc)) | false ↦ (λ listens. refl) ] (bound-handle c h test b e).listens)
   where
     go : (r : Result WriteText Refusal) → OfOk PrintsShort r → first_refusal (parsed r (text_checks c h h.kind)) ≡ None → is_directory_kind h.kind ≡ false → AreFit c (with_result r (λ text. (Outcome.Wrote (length bytes), writing c h text))).1
     go (Err r) short q plain = tt
-    go (Ok text) short q plain = elim (is_empty text.lines) as (λ k. AreFit c (cond k [] (on_target c h (written_kind c h h.kind text) (Some h.number)))) [ true ↦ tt | false ↦ written-fit c h h.kind text b (low-number c h number b e) plain short q ]
+    go (Ok text) short q plain = elim (is_empty text.lines) as (λ k. AreFit c (cond k [] (on_target c h (written_kind c h h.kind text) (Some h.number)))) [ true ↦ tt | false ↦ written-fit c h h.kind text order b (low-number c h test order b e) plain short q ]
 
 -- ---- Close
 
@@ -169,8 +142,8 @@ closings-fit (h ∷ hs) c b low =
     let f = closing-fit c h b low.0 in
     fit-append (closing c h) (closings (apply_all_seen (closing c h) c) hs) c f (closings-fit hs (apply_all_seen (closing c h) c) (keeps-all (closing c h) c b f) low.1)
 
-pub leaving-fit : (c : Content) (conn : ℕ) → IsBound c → AreFit c (closings c (handles_of c conn) ++ Leaves conn ∷ [])
-leaving-fit c conn b = fit-append (closings c (handles_of c conn)) (Leaves conn ∷ []) c
+pub leaving-fit : (c : Content) (conn : ℕ) → AreInOrder c → IsBound c → AreFit c (closings c (handles_of c conn) ++ Leaves conn ∷ [])
+leaving-fit c conn order b = fit-append (closings c (handles_of c conn)) (Leaves conn ∷ []) c
     (closings-fit (handles_of c conn) c b (all-filter (λ (h : Open Seen). h.number < 2 ^ 32) (λ h. h.connection == conn) c.handles
-    (all-weaken {P = λ (h : Open Seen). h.number < c.next_handle} {Q = λ (h : Open Seen). h.number < 2 ^ 32} (λ h below. omega (arith, below, b.handles_end)) c.handles (rising-below (λ (h : Open Seen). h.number) 0 c.next_handle c.handles b.handles_rise))))
+    (all-weaken {P = λ (h : Open Seen). h.number < c.next_handle} {Q = λ (h : Open Seen). h.number < 2 ^ 32} (λ h below. omega (arith, below, b.handles_end)) c.handles (rising-below (λ (h : Open Seen). h.number) 0 c.next_handle c.handles order.handles_rise))))
     (tt, tt)

@@ -16,19 +16,23 @@ use Rattle.pps_types.specs.Outcome.{IsSendable}
 use Rattle.pps_types.specs.Text.{WriteText, write_text}
 use Rattle.pps_types.specs.Names.{Path, same_path, parent, last_name, name_cmp, sorted_by}
 use Rattle.pps_types.specs.OpenText.{path_text, OpenSpec, open_text}
-use Rattle.pps_types.specs.Reading.{Open, Seen, Answer, Everything, Blocks, Needs, TargetGone, Waits, Nothing}
+use Rattle.pps_types.specs.Reading.{Open, Answer, Everything, Blocks, Needs, TargetGone, Waits, Nothing}
+use Rattle.pps_types.specs.Rests.{Seen}
 use Rattle.pps_types.specs.Outbox.{arms, first_of}
-use Rattle.pps_types.specs.Content.{Directory, Known, Connection, Content, is_attached, handle_numbered, connection_numbered, queue_of, members, subdirectories, directory_at, object_at, read_answer, news}
-use Rattle.pps_types.specs.Checks.{Check, Refuse, Memory, first_refusal, parsed, on_handle, on_path, letters_fit, open_checks, read_checks, write_checks, close_checks, unlink_checks, mkdir_checks, notify_checks, checks}
+use Rattle.pps_types.specs.Content.{Directory, Known, Connection, Content, is_attached, own_handle, connection_numbered, queue_of, members, subdirectories, directory_at, object_at, read_answer, news}
+use Rattle.pps_types.specs.Checks.{Check, Refuse, Memory, first_refusal, parsed, on_handle, on_path, letters_fit, open_checks, read_checks, write_checks, close_checks, mkdir_checks, notify_checks, checks}
 use Rattle.pps_types.specs.Plan.{Move, Arms, MakesDirectory, effect, opening, found_object, unlinking, writing, passes_last_number, closing, listing, received, read_effect, with_result, decided, all_checks_of, plan, settling, step_seen, apply_all_seen}
+use Rattle.pps_types.specs.WellFormed.{IsContent}
 use Rattle.pps_types.specs.Machine.{start, shown}
 use Rattle.content_bounds.specs.Bounds.{IsBoundObject, IsBoundItem, IsBoundConnection, IsBound}
 use Rattle.content_bounds.specs.Fit.{AreFit}
 use Rattle.content_bounds.specs.Laws.{BoundsStay, SizesFit}
-use Rattle.content_bounds.proofs.Lists.{all-append, all-filter, all-find}
+use Rattle.pps_types.proofs.Finds.{all-filter, all-find}
+use Rattle.pps_types.proofs.Passes.{all-pass, none-fails, passes-both}
+use Rattle.content_bounds.proofs.Lists.{all-append}
 use Rattle.content_bounds.proofs.Moves.{keeps-all}
 use Rattle.content_bounds.proofs.Owners.{handled}
-use Rattle.content_bounds.proofs.Effects.{all-pass, none-fails, passes-both, fit-append, low-number, bound-handle, write-fit, closing-fit, leaving-fit}
+use Rattle.content_bounds.proofs.Effects.{fit-append, low-number, bound-handle, write-fit, closing-fit, leaving-fit}
 use Rattle.content_bounds.proofs.Opens.{members-crowd, sorted-length, unlink-fit, mkdir-fit, open-fit}
 use Rattle.content_bounds.proofs.Replies.{FitsIn, read-fits, settling-fit, needs-fit, names-length, all-sorted}
 
@@ -52,32 +56,32 @@ read-fit c h size le (Needs need) = tt
 read-fit c h size le TargetGone = tt
 read-fit c h size le Nothing = tt
 
-effect-fit : (c : Content) (conn : ℕ) (request : Request) → IsBound c → first_refusal (checks c conn request) ≡ None → AreFit c (effect c conn request).1
+effect-fit : (c : Content) (conn : ℕ) (request : Request) → IsContent c → IsBound c → first_refusal (checks c conn request) ≡ None → AreFit c (effect c conn request).1
 unfolding checks effect
-effect-fit c conn Attach b p = (tt, tt)
-effect-fit c conn Detach b p = leaving-fit c conn b
-effect-fit c conn (OpenRequest mode text) b p =
-    open-fit c conn mode text b (none-fails (parsed (open_text text) (open_checks c mode)) (all-pass (Refuse (not (is_attached c conn)) Refusal.NotAttached ∷ Refuse (not (letters_fit mode)) Refusal.BadMode ∷ Memory ∷ parsed (open_text text) (open_checks c mode)) p).1.1)
-effect-fit c conn (Read handle size) b p =
-    let own = handled c conn handle (read_checks c size) b (behind (not (is_attached c conn)) Refusal.NotAttached (on_handle c conn handle (read_checks c size)) p) in
+effect-fit c conn Attach w b p = (tt, tt)
+effect-fit c conn Detach w b p = leaving-fit c conn w.order b
+effect-fit c conn (OpenRequest mode text) w b p =
+    open-fit c conn mode text w.tree b (none-fails (parsed (open_text text) (open_checks c mode)) (all-pass (Refuse (not (is_attached c conn)) Refusal.NotAttached ∷ Refuse (not (letters_fit mode)) Refusal.BadMode ∷ Memory ∷ parsed (open_text text) (open_checks c mode)) p).1.1)
+effect-fit c conn (Read handle size) w b p =
+    let own = handled c conn handle (read_checks c size) (behind (not (is_attached c conn)) Refusal.NotAttached (on_handle c conn handle (read_checks c size)) p) in
     rw own.1 (read-fit c own.0 size (read-size c size own.0 own.2) (read_answer c own.0 size))
-effect-fit c conn (Write handle bytes) b p =
-    let own = handled c conn handle (write_checks c bytes) b (behind (not (is_attached c conn)) Refusal.NotAttached (on_handle c conn handle (write_checks c bytes)) p) in
-    rw own.1 (write-fit c own.0 handle bytes b own.1 own.2)
-effect-fit c conn (Close handle) b p =
-    let own = handled c conn handle (close_checks c) b (behind (not (is_attached c conn)) Refusal.NotAttached (on_handle c conn handle (close_checks c)) p) in
-    rw own.1 (closing-fit c own.0 b (low-number c own.0 handle b own.1))
-effect-fit c conn (Unlink path) b p = unlink-fit c path b (behind (not (is_attached c conn)) Refusal.NotAttached (Memory ∷ on_path path (unlink_checks c)) p)
-effect-fit c conn (Mkdir path) b p = mkdir-fit c path b (behind (not (is_attached c conn)) Refusal.NotAttached (Memory ∷ on_path path (mkdir_checks c)) p)
-effect-fit c conn (ListRequest path) b p = go (path_text path)
+effect-fit c conn (Write handle bytes) w b p =
+    let own = handled c conn handle (write_checks c bytes) (behind (not (is_attached c conn)) Refusal.NotAttached (on_handle c conn handle (write_checks c bytes)) p) in
+    rw own.1 (write-fit c own.0 (λ h. (h.number == handle) && (h.connection == conn)) bytes w.order b own.1 own.2)
+effect-fit c conn (Close handle) w b p =
+    let own = handled c conn handle (close_checks c) (behind (not (is_attached c conn)) Refusal.NotAttached (on_handle c conn handle (close_checks c)) p) in
+    rw own.1 (closing-fit c own.0 b (low-number c own.0 (λ h. (h.number == handle) && (h.connection == conn)) w.order b own.1))
+effect-fit c conn (Unlink path) w b p = unlink-fit c path b
+effect-fit c conn (Mkdir path) w b p = mkdir-fit c path b (behind (not (is_attached c conn)) Refusal.NotAttached (Memory ∷ on_path path (mkdir_checks c)) p)
+effect-fit c conn (ListRequest path) w b p = go (path_text path)
   where
     go : (o : Option Path) → AreFit c (option_map_or {U = Outcome × List Move} (λ names. (Outcome.Data (listing c names), [])) o (Outcome.Done, [])).1
     go None = tt
     go (Some names) = tt
-effect-fit c conn (Notify handle action code value) b p =
-    let own = handled c conn handle (notify_checks c action code) b (behind (not (is_attached c conn)) Refusal.NotAttached (on_handle c conn handle (notify_checks c action code)) p) in
+effect-fit c conn (Notify handle action code value) w b p =
+    let own = handled c conn handle (notify_checks c action code) (behind (not (is_attached c conn)) Refusal.NotAttached (on_handle c conn handle (notify_checks c action code)) p) in
     rw own.1 (tt, tt)
-effect-fit c conn Receive b p = go (first_of (queue_of c conn))
+effect-fit c conn Receive w b p = go (first_of (queue_of c conn))
   where
     go : (o : Option Item) → AreFit c (received conn o).1
     go None = tt
@@ -149,9 +153,9 @@ effect-sendable c conn (OpenRequest mode text) b p = go (open_text text)
     go (Ok spec) = tt
     go (Err r) = tt
 effect-sendable c conn (Read handle size) b p =
-    let own = handled c conn handle (read_checks c size) b (behind (not (is_attached c conn)) Refusal.NotAttached (on_handle c conn handle (read_checks c size)) p) in
+    let own = handled c conn handle (read_checks c size) (behind (not (is_attached c conn)) Refusal.NotAttached (on_handle c conn handle (read_checks c size)) p) in
     rw own.1 (read-sendable own.0 size (read-size c size own.0 own.2) (read_answer c own.0 size) (read-fits c own.0 size))
-effect-sendable c conn (Write handle bytes) b p = on (handle_numbered c handle)
+effect-sendable c conn (Write handle bytes) b p = on (own_handle c conn handle)
   where
     go : (h : Open Seen) (r : Result WriteText Refusal) → IsSendable (Ok (with_result r (λ text. (Outcome.Wrote (length bytes), writing c h text))).0)
     go h (Ok text) = tt
@@ -160,7 +164,7 @@ effect-sendable c conn (Write handle bytes) b p = on (handle_numbered c handle)
     on : (o : Option (Open Seen)) → IsSendable (Ok (option_map_or {U = Outcome × List Move} (λ h. with_result (write_text bytes) (λ text. (Outcome.Wrote (length bytes), writing c h text))) o (Outcome.Done, [])).0)
     on None = tt
     on (Some h) = go h (write_text bytes)
-effect-sendable c conn (Close handle) b p = go (handle_numbered c handle)
+effect-sendable c conn (Close handle) b p = go (own_handle c conn handle)
   where
     go : (o : Option (Open Seen)) → IsSendable (Ok (option_map_or {U = Outcome × List Move} (λ h. (Outcome.Done, closing c h)) o (Outcome.Done, [])).0)
     go None = tt
@@ -180,7 +184,7 @@ effect-sendable c conn (ListRequest path) b p = go (path_text path)
     go : (o : Option Path) → IsSendable (Ok (option_map_or {U = Outcome × List Move} (λ names. (Outcome.Data (listing c names), [])) o (Outcome.Done, [])).0)
     go None = tt
     go (Some names) = listing-length c names b
-effect-sendable c conn (Notify handle action code value) b p = go (handle_numbered c handle)
+effect-sendable c conn (Notify handle action code value) b p = go (own_handle c conn handle)
   where
     go : (o : Option (Open Seen)) → IsSendable (Ok (option_map_or {U = Outcome × List Move} (λ h. (Outcome.Input (news h), Arms h.number (if arms action (news h) then Some (code, value) else None) ∷ [])) o (Outcome.Done, [])).0)
     go None = tt
@@ -193,9 +197,9 @@ effect-sendable c conn Receive b p = go (queue_of c conn) (queue-bound c conn b)
 
 -- ---- steps
 
-pub step-keeps : (c : Content) → IsBound c → (e : Event) → IsBound (step_seen c e).1
+pub step-keeps : (c : Content) → IsContent c → IsBound c → (e : Event) → IsBound (step_seen c e).1
 unfolding plan step_seen
-step-keeps c b e = go (first_refusal (all_checks_of c e)) refl
+step-keeps c w b e = go (first_refusal (all_checks_of c e)) refl
   where
     done : Outcome × List Move
     done = effect c e.conn e.request
@@ -203,7 +207,7 @@ step-keeps c b e = go (first_refusal (all_checks_of c e)) refl
     go : (o : Option Refusal) → first_refusal (all_checks_of c e) ≡ o → IsBound (apply_all_seen (decided c done o).1 c)
     go (Some r) p = b
     go None p =
-        let fit = effect-fit c e.conn e.request b (passes-both (checks c e.conn e.request) (Refuse (passes_last_number (apply_all_seen done.1 c)) Refusal.TableFull ∷ []) p).0 in
+        let fit = effect-fit c e.conn e.request w b (passes-both (checks c e.conn e.request) (Refuse (passes_last_number (apply_all_seen done.1 c)) Refusal.TableFull ∷ []) p).0 in
         let after = keeps-all done.1 c b fit in
         keeps-all (done.1 ++ settling c (apply_all_seen done.1 c)) c b (fit-append done.1 (settling c (apply_all_seen done.1 c)) c fit (settling-fit c (apply_all_seen done.1 c) after))
 
@@ -220,13 +224,9 @@ step-sends c b e = go (first_refusal (all_checks_of c e)) refl
 
 start-bound : (first_handle default_limit : ℕ) → first_handle ≤ 4294967296 → IsBound (shown (start first_handle default_limit))
 start-bound first_handle default_limit le = record {
-  handles_rise = omega arith;
   handles_end = le;
-  objects_rise = omega arith;
   objects = tt;
   crowds = λ directory. omega arith;
-  root = ((refl, refl), tt);
-  directories_follow = omega arith;
   directories = (omega arith, tt);
   branches = λ path. omega arith;
   handles = tt;
@@ -237,4 +237,4 @@ pub bounds-stay : BoundsStay
 bounds-stay = record { begins = start-bound; stays = step-keeps }
 
 pub sizes-fit : SizesFit
-sizes-fit = record { needs = λ c b number h e max need a. needs-fit c h max need b (bound-handle c h number b e) a; answers = step-sends }
+sizes-fit = record { needs = λ c b number h e max need a. needs-fit c h max need b (bound-handle c h (λ h. h.number == number) b e) a; answers = step-sends }

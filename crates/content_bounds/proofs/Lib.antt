@@ -1,5 +1,4 @@
 pub mod Lists
-pub mod Rising
 pub mod Moves
 pub mod Texts
 pub mod Owners
@@ -8,4 +7,3 @@ pub mod Paths
 pub mod Opens
 pub mod Replies
 pub mod Events
-pub mod Refusals

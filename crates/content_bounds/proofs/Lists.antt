@@ -1,26 +1,14 @@
 -- What holds of all of a list holds of its parts.
 use Rattle.std.proofs.Common.{ap}
-use Rattle.std.specs.Prelude.{◌≡◌, ℕ, zero, suc, List, [], ◌∷◌, ◌++◌, Bool, true, false, cond, Some, filter, find, refl}
+use Rattle.std.specs.Prelude.{◌≡◌, ℕ, zero, suc, List, [], ◌∷◌, ◌++◌, Bool, true, false, cond, filter, refl}
 use Rattle.std.specs.List.{AllByRecursion}
-use Rattle.pps_types.specs.Reading.{from_first, past, pushed}
+use Rattle.pps_types.specs.Rests.{from_first, past, pushed}
 use Rattle.pps_types.proofs.Lists.{all-push}
 
 module _ {X : Type 0} (P : X → Type 0) where
   pub all-append : (xs ys : List X) → AllByRecursion P xs → AllByRecursion P ys → AllByRecursion P (xs ++ ys)
   all-append [] ys a b = b
   all-append (x ∷ xs) ys a b = (a.0, all-append xs ys a.1 b)
-
-  pub all-filter : (test : X → Bool) (xs : List X) → AllByRecursion P xs → AllByRecursion P (filter test xs)
-  all-filter test [] all = all
-  all-filter test (x ∷ xs) all = elim (test x) as (λ b. AllByRecursion P (cond b (x ∷ filter test xs) (filter test xs))) [ true ↦ (all.0, all-filter test xs all.1) | false ↦ all-filter test xs all.1 ]
-
-  pub all-find : (test : X → Bool) (xs : List X) (x : X) → AllByRecursion P xs → find test xs ≡ Some x → P x
-  all-find test [] x all e = absurd (let h = e in cc)
-  all-find test (y ∷ ys) x all e = go (test y) e (all-find test ys x all.1)
-    where
-      go : (b : Bool) → cond b (Some y) (find test ys) ≡ Some x → (find test ys ≡ Some x → P x) → P x
-      go true e rest = let is : x ≡ y = cc in rw is all.0
-      go false e rest = rest e
 
   pub all-from_first : (test : X → Bool) (xs : List X) → AllByRecursion P xs → AllByRecursion P (from_first test xs)
   all-from_first test [] all = all
@@ -34,14 +22,6 @@ module _ {X : Type 0} (P : X → Type 0) where
   pub all-pushed : (test : X → Bool) (y : X) (xs : List X) → AllByRecursion P xs → P y → AllByRecursion P (pushed test y xs)
   all-pushed test y [] all p = elim (test y) as (λ b. AllByRecursion P (cond b (y ∷ []) [])) [ true ↦ (p, all) | false ↦ all ]
   all-pushed test y (x ∷ xs) all p = (all.0, all-push P xs y all.1 p)
-
-pub find-true : {X : Type 0} (test : X → Bool) (xs : List X) (x : X) → find test xs ≡ Some x → test x ≡ true
-find-true test [] x e = absurd (let h = e in cc)
-find-true test (y ∷ ys) x e = go (test y) refl e (find-true test ys x)
-  where
-    go : (b : Bool) → test y ≡ b → cond b (Some y) (find test ys) ≡ Some x → (find test ys ≡ Some x → test x ≡ true) → test x ≡ true
-    go true t found rest = let is : x ≡ y = cc in rw is t
-    go false t found rest = rest found
 
 pub filter-push : {X : Type 0} (test : X → Bool) (xs : List X) (y : X) → filter test (xs ++ y ∷ []) ≡ filter test xs ++ cond (test y) (y ∷ []) []
 filter-push test [] y = elim (test y) as (λ b. cond b (y ∷ []) [] ≡ cond b (y ∷ []) []) [ true ↦ refl | false ↦ refl ]

@@ -2,22 +2,23 @@
 use Rattle.std.proofs.Common.{arith, ap, sym}
 use Rattle.std.specs.Prelude.{◌≡◌, ◌≤◌, ◌<◌, ℕ, ◌+◌, List, [], ◌∷◌, ◌++◌, ◌==◌, Bool, true, false, not, ◌&&◌, cond, nat_lt, Option, Some, None, filter, map, length, refl}
 use Rattle.std.proofs.lemmas.Bool.{eqb-true}
-use Rattle.std.proofs.lemmas.List.{length-append, map-append}
+use Rattle.std.proofs.lemmas.List.{length-append}
 use Rattle.std.specs.List.{AllByRecursion, filter_map, cons_option}
 use Rattle.pps_types.specs.declared.record.Kind.{Kind}
 use Rattle.pps_types.specs.declared.record.Kind.TheVariants.{Created, Change, Truncated, Dropped, Deleted, Opened, Closed, FromClient, ToClient, ToAll}
 use Rattle.pps_types.specs.declared.outcome.Item.{Item}
 use Rattle.pps_types.specs.Names.{parent, last_name, same_path}
 use Rattle.pps_types.specs.History.{Entry, after_kind, text_length}
-use Rattle.pps_types.specs.Reading.{Open, Seen, News, Unread, Over, Owed, Style, Full, Delta, Queue, style, stand, seen_of, reseen, visible, keeps, pushed, past, from_first, over_limit}
+use Rattle.pps_types.specs.Reading.{Open, Style, Full, Delta, Queue, style, reseen, visible}
+use Rattle.pps_types.specs.Rests.{Seen, News, Unread, Over, Owed, stand, seen_of, keeps, pushed, past, from_first, over_limit}
 use Rattle.pps_types.specs.Outbox.{behind_first}
 use Rattle.pps_types.specs.Content.{Directory, Known, Connection, Content}
 use Rattle.pps_types.specs.Plan.{Move, Attaches, Leaves, Creates, Happens, Opens, Closes, CatchesUp, Passes, Parks, Arms, Queues, Takes, MakesDirectory, RemovesDirectory, without_first, on_numbered, requeued, creation, offered, offer, still_known, touched, caught_up, left, first_seen, apply_seen, apply_all_seen, with_connection}
 use Rattle.pps_types.proofs.Lists.{all-push, all-on_first, all-without_first}
-use Rattle.content_bounds.specs.Bounds.{IsShort, AreShort, IsBoundObject, IsBoundHandle, IsBoundItem, IsBoundConnection, crowd, HasRoot, IsBound}
+use Rattle.content_bounds.specs.Bounds.{IsShort, AreShort, IsBoundObject, IsBoundHandle, IsBoundItem, IsBoundConnection, crowd, IsBound}
 use Rattle.content_bounds.specs.Fit.{IsFit, AreFit}
 use Rattle.content_bounds.proofs.Lists.{all-from_first, all-past, all-pushed, filter-push}
-use Rattle.content_bounds.proofs.Rising.{rising-push, rising-without, rising-filter_map, same-on_first, same-map, OfSome}
+use Rattle.pps_types.proofs.Finds.{OfSome}
 
 -- ---- handles
 
@@ -57,21 +58,6 @@ bound-offers e short [] all = all
 bound-offers e short (h ∷ hs) all = (bound-reseen (λ h. offered h e h.seen) h (short-offered h e short h.seen all.0.owed) all.0, bound-offers e short hs all.1)
 
 -- ---- objects
-
-touched-number : (e : Entry) (o : Known) → OfSome (λ p. p.object.number ≡ o.object.number) (touched e o)
-touched-number e o = elim (e.record_of.object == o.object.number) as (λ b. OfSome (λ (p : Known). p.object.number ≡ o.object.number) (cond b (still_known o e.record_of.kind) (Some o))) [ true ↦ still e.record_of.kind | false ↦ refl ]
-  where
-    still : (k : Kind) → OfSome (λ (p : Known). p.object.number ≡ o.object.number) (still_known o k)
-    still Created = refl
-    still (Change lines) = refl
-    still Truncated = refl
-    still Dropped = refl
-    still Deleted = tt
-    still (Opened id) = refl
-    still (Closed id) = refl
-    still (FromClient id lines) = refl
-    still (ToClient id lines) = refl
-    still (ToAll lines) = refl
 
 -- its text stays within its bound
 abbrev StaysBound : Entry → Known → Type 0
@@ -146,18 +132,6 @@ bound-behind : (items : List Item) → AllByRecursion IsBoundItem items → AllB
 bound-behind [] all = all
 bound-behind (i ∷ is) all = all.1
 
-root-without : (number : ℕ) → 1 ≤ number → (ds : List Directory) → HasRoot ds → HasRoot (without_first (λ d. d.number == number) ds)
-root-without number le [] root = root
-root-without number le (d ∷ ds) root = go (d.number == number) refl
-  where
-    go : (b : Bool) → (d.number == number) ≡ b → HasRoot (cond b ds (d ∷ without_first (λ d. d.number == number) ds))
-    go true e = absurd (let is : d.number ≡ number = eqb-true d.number number e in omega (arith, root.0.0))
-    go false e = (root.0, all-without_first (λ (d : Directory). 1 ≤ d.number) (λ d. d.number == number) ds root.1)
-
-root-push : (d : Directory) → 1 ≤ d.number → (ds : List Directory) → HasRoot ds → HasRoot (ds ++ d ∷ [])
-root-push d le [] root = absurd root
-root-push d le (x ∷ xs) root = (root.0, all-push (λ (d : Directory). 1 ≤ d.number) xs d root.1 le)
-
 -- of a part there are no more
 fewer-without : {X : Type 0} (p test : X → Bool) (xs : List X) → length (filter p (without_first test xs)) ≤ length (filter p xs)
 fewer-without p test [] = omega arith
@@ -179,15 +153,11 @@ both-true true b e = e
 both-true false b e = cc
 
 -- the handle of that number changed
-with-handles : (c : Content) (number : ℕ) (change : Open Seen → Open Seen) → IsBound c → ((h : Open Seen) → (change h).number ≡ h.number) → ((h : Open Seen) → IsBoundHandle h → IsBoundHandle (change h)) → IsBound (record c { handles = on_numbered number change c.handles })
-with-handles c number change s same keeps = record {
-  handles_rise = rw (same-on_first (λ (h : Open Seen). h.number) (λ h. h.number == number) change same c.handles) s.handles_rise;
+with-handles : (c : Content) (number : ℕ) (change : Open Seen → Open Seen) → IsBound c → ((h : Open Seen) → IsBoundHandle h → IsBoundHandle (change h)) → IsBound (record c { handles = on_numbered number change c.handles })
+with-handles c number change s keeps = record {
   handles_end = s.handles_end;
-  objects_rise = s.objects_rise;
   objects = s.objects;
   crowds = s.crowds;
-  root = s.root;
-  directories_follow = s.directories_follow;
   directories = s.directories;
   branches = s.branches;
   handles = all-on_first IsBoundHandle (λ h. h.number == number) change keeps c.handles s.handles;
@@ -195,111 +165,79 @@ with-handles c number change s same keeps = record {
 }
 
 pub keeps-bound : (c : Content) (x : Move) → IsBound c → IsFit c x → IsBound (apply_seen x c)
-keeps-bound c (Attaches conn) s f = record { handles_rise = s.handles_rise; handles_end = s.handles_end; objects_rise = s.objects_rise; objects = s.objects; crowds = s.crowds; root = s.root; directories_follow = s.directories_follow; directories = s.directories; branches = s.branches; handles = s.handles; queues = bound-connection conn c.connections s.queues }
-keeps-bound c (Leaves conn) s f = record { handles_rise = s.handles_rise; handles_end = s.handles_end; objects_rise = s.objects_rise; objects = s.objects; crowds = s.crowds; root = s.root; directories_follow = s.directories_follow; directories = s.directories; branches = s.branches; handles = s.handles; queues = all-without_first IsBoundConnection (λ x. x.number == conn) c.connections s.queues }
+keeps-bound c (Attaches conn) s f = record { handles_end = s.handles_end; objects = s.objects; crowds = s.crowds; directories = s.directories; branches = s.branches; handles = s.handles; queues = bound-connection conn c.connections s.queues }
+keeps-bound c (Leaves conn) s f = record { handles_end = s.handles_end; objects = s.objects; crowds = s.crowds; directories = s.directories; branches = s.branches; handles = s.handles; queues = all-without_first IsBoundConnection (λ x. x.number == conn) c.connections s.queues }
 keeps-bound c (Creates o) s f = record {
-  handles_rise = rw (same-map (λ (h : Open Seen). h.number) (offer (creation o)) (λ h. refl) c.handles) s.handles_rise;
   handles_end = s.handles_end;
-  objects_rise = rw (map-append (λ (k : Known). k.object.number) c.objects (record { object = o; attributes = [] } ∷ []), f.0) (rising-push 0 c.next_object (map (λ k. k.object.number) c.objects) s.objects_rise);
-  objects = all-push IsBoundObject c.objects (record { object = o; attributes = [] }) s.objects (f.1, omega arith);
-  crowds = λ directory. at-most (λ (k : Known). k.object.directory == directory) (record { object = o; attributes = [] }) 256 c.objects (s.crowds directory) (λ own. rw (sym (eqb-true o.directory directory own)) f.2);
-  root = s.root;
-  directories_follow = s.directories_follow;
+  objects = all-push IsBoundObject c.objects (record { object = o; attributes = [] }) s.objects (f.0, omega arith);
+  crowds = λ directory. at-most (λ (k : Known). k.object.directory == directory) (record { object = o; attributes = [] }) 256 c.objects (s.crowds directory) (λ own. rw (sym (eqb-true o.directory directory own)) f.1);
   directories = s.directories;
   branches = s.branches;
-  handles = bound-offers (creation o) (f.1, omega arith, omega arith) c.handles s.handles;
+  handles = bound-offers (creation o) (f.0, omega arith, omega arith) c.handles s.handles;
   queues = s.queues;
 }
 keeps-bound c (Happens e) s f = record {
-  handles_rise = rw (same-map (λ (h : Open Seen). h.number) (offer e) (λ h. refl) c.handles) s.handles_rise;
   handles_end = s.handles_end;
-  objects_rise = rising-filter_map (λ (k : Known). k.object.number) (touched e) (touched-number e) 0 c.next_object c.objects s.objects_rise;
   objects = bound-objects e c.objects s.objects f.1;
   crowds = λ directory. (let le = crowd-touched e directory c.objects in omega (arith, s.crowds directory));
-  root = s.root;
-  directories_follow = s.directories_follow;
   directories = s.directories;
   branches = s.branches;
   handles = bound-offers e f.0 c.handles s.handles;
   queues = s.queues;
 }
 keeps-bound c (Opens h) s f = record {
-  handles_rise = rw (map-append (λ (h : Open Seen). h.number) c.handles (reseen (λ h. first_seen h (style h.kind)) h ∷ []), f.0) (rising-push 0 c.next_handle (map (λ h. h.number) c.handles) s.handles_rise);
-  handles_end = omega (arith, f.1);
-  objects_rise = s.objects_rise;
+  handles_end = omega (arith, f.0);
   objects = s.objects;
   crowds = s.crowds;
-  root = s.root;
-  directories_follow = s.directories_follow;
   directories = s.directories;
   branches = s.branches;
-  handles = all-push IsBoundHandle c.handles (reseen (λ h. first_seen h (style h.kind)) h) s.handles (record { name = f.2; parked = rw f.3 tt; owed = short-first h (style h.kind); listens = f.4 });
+  handles = all-push IsBoundHandle c.handles (reseen (λ h. first_seen h (style h.kind)) h) s.handles (record { name = f.1; parked = rw f.2 tt; owed = short-first h (style h.kind); listens = f.3 });
   queues = s.queues;
 }
 keeps-bound c (Closes number) s f = record {
-  handles_rise = rising-without (λ (h : Open Seen). h.number) (λ h. h.number == number) 0 c.next_handle c.handles s.handles_rise;
   handles_end = s.handles_end;
-  objects_rise = s.objects_rise;
   objects = s.objects;
   crowds = s.crowds;
-  root = s.root;
-  directories_follow = s.directories_follow;
   directories = s.directories;
   branches = s.branches;
   handles = all-without_first IsBoundHandle (λ h. h.number == number) c.handles s.handles;
   queues = s.queues;
 }
-keeps-bound c (CatchesUp number) s f = with-handles c number (reseen caught_up) s (λ h. refl) (λ h b. bound-reseen caught_up h (short-seen_of h [] tt) b)
-keeps-bound c (Passes number count) s f = with-handles c number (reseen (λ h. left h count h.seen)) s (λ h. refl) (λ h b. bound-reseen (λ h. left h count h.seen) h (short-left h count h.seen b.owed) b)
-keeps-bound c (Parks number size) s f = with-handles c number (λ h. record h { parked = size }) s (λ h. refl) (λ h b. record { name = b.name; parked = f; owed = b.owed; listens = b.listens })
-keeps-bound c (Arms number pulse) s f = with-handles c number (λ h. record h { armed = pulse }) s (λ h. refl) (λ h b. record { name = b.name; parked = b.parked; owed = b.owed; listens = b.listens })
+keeps-bound c (CatchesUp number) s f = with-handles c number (reseen caught_up) s (λ h b. bound-reseen caught_up h (short-seen_of h [] tt) b)
+keeps-bound c (Passes number count) s f = with-handles c number (reseen (λ h. left h count h.seen)) s (λ h b. bound-reseen (λ h. left h count h.seen) h (short-left h count h.seen b.owed) b)
+keeps-bound c (Parks number size) s f = with-handles c number (λ h. record h { parked = size }) s (λ h b. record { name = b.name; parked = f; owed = b.owed; listens = b.listens })
+keeps-bound c (Arms number pulse) s f = with-handles c number (λ h. record h { armed = pulse }) s (λ h b. record { name = b.name; parked = b.parked; owed = b.owed; listens = b.listens })
 keeps-bound c (Queues conn item) s f = record {
-  handles_rise = s.handles_rise;
   handles_end = s.handles_end;
-  objects_rise = s.objects_rise;
   objects = s.objects;
   crowds = s.crowds;
-  root = s.root;
-  directories_follow = s.directories_follow;
   directories = s.directories;
   branches = s.branches;
   handles = s.handles;
   queues = all-on_first IsBoundConnection (λ x. x.number == conn) (requeued (λ items. items ++ item ∷ [])) (λ x b. all-push IsBoundItem x.queue item b f) c.connections s.queues;
 }
 keeps-bound c (Takes conn) s f = record {
-  handles_rise = s.handles_rise;
   handles_end = s.handles_end;
-  objects_rise = s.objects_rise;
   objects = s.objects;
   crowds = s.crowds;
-  root = s.root;
-  directories_follow = s.directories_follow;
   directories = s.directories;
   branches = s.branches;
   handles = s.handles;
   queues = all-on_first IsBoundConnection (λ x. x.number == conn) (requeued behind_first) (λ x b. bound-behind x.queue b) c.connections s.queues;
 }
 keeps-bound c (MakesDirectory path) s f = record {
-  handles_rise = s.handles_rise;
   handles_end = s.handles_end;
-  objects_rise = s.objects_rise;
   objects = s.objects;
   crowds = s.crowds;
-  root = root-push (record { number = c.next_directory; path = path }) s.directories_follow c.directories s.root;
-  directories_follow = omega arith;
   directories = all-push (λ (d : Directory). length (last_name d.path) ≤ 255) c.directories (record { number = c.next_directory; path = path }) s.directories f.0;
   branches = λ p. at-most (λ (d : Directory). not (same_path d.path []) && same_path (parent d.path) p) (record { number = c.next_directory; path = path }) 256 c.directories (s.branches p) (λ own. f.1 p (both-true (not (same_path path [])) (same_path (parent path) p) own));
   handles = s.handles;
   queues = s.queues;
 }
 keeps-bound c (RemovesDirectory number) s f = record {
-  handles_rise = s.handles_rise;
   handles_end = s.handles_end;
-  objects_rise = s.objects_rise;
   objects = s.objects;
   crowds = s.crowds;
-  root = root-without number f c.directories s.root;
-  directories_follow = s.directories_follow;
   directories = all-without_first (λ (d : Directory). length (last_name d.path) ≤ 255) (λ d. d.number == number) c.directories s.directories;
   branches = λ p. (let le = fewer-without (λ (d : Directory). not (same_path d.path []) && same_path (parent d.path) p) (λ d. d.number == number) c.directories in omega (arith, s.branches p));
   handles = s.handles;

@@ -1,6 +1,6 @@
 -- What is opened, made and removed at a path is fit.
 use Rattle.std.proofs.Common.{arith, ap, sym, ◌∙◌}
-use Rattle.std.specs.Prelude.{◌≡◌, ◌≤◌, ◌<◌, ℕ, ◌+◌, List, [], ◌∷◌, ◌++◌, ◌==◌, ◌&&◌, ◌||◌, not, Bool, true, false, cond, nat_lt, nat_le, Option, Some, None, is_some, is_none, option_map, option_and_then, unwrap_or, ok_or, Result, Ok, Err, find, filter, length, refl}
+use Rattle.std.specs.Prelude.{◌≡◌, ◌≤◌, ◌<◌, ℕ, ◌+◌, List, [], ◌∷◌, ◌++◌, ◌==◌, ◌&&◌, ◌||◌, not, Bool, true, false, cond, nat_lt, nat_le, Option, Some, None, is_some, is_none, option_map, unwrap_or, ok_or, Result, Ok, Err, find, filter, length, refl}
 use Rattle.std.proofs.lemmas.Bool.{eqb-true, eq-eqb}
 use Rattle.std.proofs.lemmas.Bool.Decides.{nat_tests}
 use Rattle.std.specs.Option.{option_map_or, option_or}
@@ -14,56 +14,29 @@ use Rattle.pps_types.specs.declared.event.Mode.{Mode}
 use Rattle.pps_types.specs.declared.outcome.Outcome.{Outcome}
 use Rattle.pps_types.specs.declared.handle_kind.HandleKind.TheVariants.{Object as ObjectHandle, Directory as DirectoryHandle, Names as NamesHandle, Server as ServerHandle, Client as ClientHandle}
 use Rattle.pps_types.specs.declared.record.Kind.TheVariants.{Truncated, Deleted, Opened}
-use Rattle.pps_types.specs.Bytes.{same, is_empty}
-use Rattle.pps_types.specs.Names.{Name, Path, same_path, parent, last_name, beyond, place, is_directory, sorted_by, insert_by, name_cmp, new_refusal}
+use Rattle.pps_types.specs.Bytes.{same}
+use Rattle.pps_types.specs.Names.{Path, parent, last_name, place, is_directory, sorted_by, insert_by, name_cmp, new_refusal}
 use Rattle.pps_types.specs.OpenText.{path_text, OpenSpec, open_text}
 use Rattle.pps_types.specs.History.{Entry}
 use Rattle.pps_types.specs.Reading.{is_directory_kind}
 use Rattle.pps_types.specs.Content.{Directory, Known, Content, directory_at, parent_number, object_in, object_at, at, members, subdirectories}
-use Rattle.pps_types.specs.Checks.{Refuse, first_refusal, refused, parsed, mode_fits, handle_checks, found_as, all_checks, is_used, object_checks, name_checks, open_checks, on_path, unlink_checks, mkdir_checks}
+use Rattle.pps_types.specs.Checks.{Refuse, first_refusal, refused, parsed, mode_fits, handle_checks, found_as, all_checks, is_used, object_checks, name_checks, open_checks, on_path, mkdir_checks}
 use Rattle.pps_types.specs.Plan.{Move, Creates, Happens, Opens, MakesDirectory, apply_all_seen, entry_of, touched, new_object, preparing, kind_opened, new_handle, opening, found_object, unlinking, with_path, with_result}
-use Rattle.content_bounds.specs.Bounds.{HasRoot, crowd, IsBound}
+use Rattle.content_bounds.specs.Bounds.{crowd, IsBound}
+use Rattle.pps_types.specs.WellFormed.{AreTree}
+use Rattle.pps_types.proofs.Finds.{OfSome, and-both}
+use Rattle.pps_types.proofs.Trees.{same_path-is}
+use Rattle.pps_types.proofs.Passes.{AllPass, all-pass, none-fails, passes-both, or-false, IsDirectoryFound, place-parent, place-at, object-found}
 use Rattle.content_bounds.specs.Fit.{IsFit, AreFit}
-use Rattle.content_bounds.proofs.Lists.{all-find}
-use Rattle.content_bounds.proofs.Rising.{OfSome}
 use Rattle.content_bounds.proofs.Moves.{crowd-touched, touched-directory}
 use Rattle.content_bounds.proofs.Texts.{OfOk}
-use Rattle.content_bounds.proofs.Effects.{AllPass, all-pass, none-fails, passes-both, or-false, fit-append, shrink, found-fit}
-use Rattle.content_bounds.proofs.Paths.{and-true, HasShortEnd, short-path, short-open_text, same_path-is}
+use Rattle.content_bounds.proofs.Effects.{fit-append, shrink, found-fit}
+use Rattle.content_bounds.proofs.Paths.{HasShortEnd, short-path, short-open_text}
 
 eqb-refl : (n : ℕ) → (n == n) ≡ true
 eqb-refl n = eq-eqb n n refl
 
 -- ---- ways
-
-abbrev IsDirectoryFound : Option Found → Type 0
-IsDirectoryFound (Some (FoundDirectory number)) = Unit {0}
-IsDirectoryFound _ = ⊥
-
--- what has a place has a directory above it
-place-parent : (at : Path → Option Found) (n : Name) (ns : Path) (found : Option Found) → place at (n ∷ ns) ≡ Ok found → IsDirectoryFound (at (parent (n ∷ ns)))
-place-parent at n [] found e = go (at []) e
-  where
-    go : (o : Option Found) → beyond o (Ok (at (n ∷ []))) ≡ Ok found → IsDirectoryFound o
-    go None e = absurd (let h = e in cc)
-    go (Some (FoundObject number)) e = absurd (let h = e in cc)
-    go (Some (FoundDirectory number)) e = tt
-place-parent at n (m ∷ ms) found e = go (at []) e (place-parent (λ p. at (n ∷ p)) m ms found)
-  where
-    go : (o : Option Found) → beyond o (place (λ p. at (n ∷ p)) (m ∷ ms)) ≡ Ok found → (place (λ p. at (n ∷ p)) (m ∷ ms) ≡ Ok found → IsDirectoryFound (at (n ∷ parent (m ∷ ms)))) → IsDirectoryFound (at (n ∷ parent (m ∷ ms)))
-    go None e rest = absurd (let h = e in cc)
-    go (Some (FoundObject number)) e rest = absurd (let h = e in cc)
-    go (Some (FoundDirectory number)) e rest = rest e
-
--- what has a place stands there
-place-at : (at : Path → Option Found) (path : Path) (found : Option Found) → place at path ≡ Ok found → at path ≡ found
-place-at at [] found e = cc
-place-at at (n ∷ ns) found e = go (at []) e (place-at (λ p. at (n ∷ p)) ns found)
-  where
-    go : (o : Option Found) → beyond o (place (λ p. at (n ∷ p)) ns) ≡ Ok found → (place (λ p. at (n ∷ p)) ns ≡ Ok found → at (n ∷ ns) ≡ found) → at (n ∷ ns) ≡ found
-    go None e rest = absurd (let h = e in cc)
-    go (Some (FoundObject number)) e rest = absurd (let h = e in cc)
-    go (Some (FoundDirectory number)) e rest = rest e
 
 -- a directory that is found is one of the directories
 at-directory : (c : Content) (path : Path) → IsDirectoryFound (at c path) → (d : Directory) × (directory_at c path ≡ Some d)
@@ -73,10 +46,6 @@ at-directory c path is = go (directory_at c path) refl (object_at c path) is
     go None e None is = absurd is
     go None e (Some o) is = absurd is
     go (Some d) e o is = (d, e)
-
-root-found : (ds : List Directory) → HasRoot ds → (d : Directory) × (find (λ d. same_path d.path []) ds ≡ Some d)
-root-found [] root = absurd root
-root-found (d ∷ ds) root = (d, rw root.0.1 refl)
 
 -- ---- crowds
 
@@ -124,41 +93,23 @@ crowd-deleted o test directory lies (x ∷ xs) e = go (test x) refl e (crowd-del
 
 -- ---- Unlink and Mkdir
 
--- a directory that is found at a name is not the root
-not-root : (n : Name) (ns : Path) (ds : List Directory) → HasRoot ds → (d : Directory) → find (λ d. same_path d.path (n ∷ ns)) ds ≡ Some d → 1 ≤ d.number
-not-root n ns [] root d e = absurd root
-not-root n ns (r ∷ ds) root d e =
-    let rest : find (λ d. same_path d.path (n ∷ ns)) ds ≡ Some d = rw (ap (λ p. cond (same_path p (n ∷ ns)) (Some r) (find (λ d. same_path d.path (n ∷ ns)) ds)) root.0.1) at e in
-    all-find (λ (d : Directory). 1 ≤ d.number) (λ d. same_path d.path (n ∷ ns)) ds d root.1 rest
-
 deleted-fit : (c : Content) (o : Known) (test : Known → Bool) → IsBound c → find test c.objects ≡ Some o → IsFit c (Happens (entry_of o.object Deleted None))
 deleted-fit c o test b e = found-fit c o test Deleted None b e (omega arith) (omega arith) (shrink Deleted (λ attributes. omega arith) c b o.object.number)
 
--- where an object stands at a path, it lies in the directory above it
-object-found : (c : Content) (names : Path) (o : Known) → object_at c names ≡ Some o → (d : ℕ) × (parent_number c names ≡ Some d) × (object_in c (last_name names) d ≡ Some o)
-object-found c [] o e = absurd (let h = e in cc)
-object-found c (n ∷ ns) o e = go (parent_number c (n ∷ ns)) refl e
+unlinking-fit : (c : Content) (names : Path) → IsBound c → AreFit c (unlinking (object_at c names) (directory_at c names))
+unlinking-fit c names b = go (object_at c names) refl (directory_at c names)
   where
-    go : (p : Option ℕ) → parent_number c (n ∷ ns) ≡ p → option_and_then (object_in c (last_name (n ∷ ns))) p ≡ Some o → (d : ℕ) × (parent_number c (n ∷ ns) ≡ Some d) × (object_in c (last_name (n ∷ ns)) d ≡ Some o)
-    go None e f = absurd (let h = f in cc)
-    go (Some d) e f = (d, e, f)
+    go : (o : Option Known) → object_at c names ≡ o → (d : Option Directory) → AreFit c (unlinking o d)
+    go (Some o) e d = let found = object-found c names o e in (deleted-fit c o (λ o. (o.object.directory == found.0) && same o.object.name (last_name names)) b found.2, tt)
+    go None e (Some d) = (tt, tt)
+    go None e None = tt
 
-unlinking-fit : (c : Content) (names : Path) → IsBound c → is_empty names ≡ false → AreFit c (unlinking (object_at c names) (directory_at c names))
-unlinking-fit c [] b some = absurd (let h = some in cc)
-unlinking-fit c (n ∷ ns) b some = go (object_at c (n ∷ ns)) refl (directory_at c (n ∷ ns)) refl
+pub unlink-fit : (c : Content) (text : List ℕ) → IsBound c → AreFit c (with_path text (λ names. (Outcome.Done, unlinking (object_at c names) (directory_at c names)))).1
+unlink-fit c text b = go (path_text text)
   where
-    go : (o : Option Known) → object_at c (n ∷ ns) ≡ o → (d : Option Directory) → directory_at c (n ∷ ns) ≡ d → AreFit c (unlinking o d)
-    go (Some o) e d f = let found = object-found c (n ∷ ns) o e in (deleted-fit c o (λ o. (o.object.directory == found.0) && same o.object.name (last_name (n ∷ ns))) b found.2, tt)
-    go None e (Some d) f = (not-root n ns c.directories b.root d f, tt)
-    go None e None f = tt
-
-pub unlink-fit : (c : Content) (text : List ℕ) → IsBound c → first_refusal (on_path text (unlink_checks c)) ≡ None
-    → AreFit c (with_path text (λ names. (Outcome.Done, unlinking (object_at c names) (directory_at c names)))).1
-unlink-fit c text b p = go (path_text text) p
-  where
-    go : (o : Option Path) → first_refusal (parsed (ok_or o Refusal.BadPath) (unlink_checks c)) ≡ None → AreFit c (option_map_or {U = Outcome × List Move} (λ names. (Outcome.Done, unlinking (object_at c names) (directory_at c names))) o (Outcome.Done, [])).1
-    go None p = tt
-    go (Some names) p = unlinking-fit c names b (all-pass (unlink_checks c names) p).0
+    go : (o : Option Path) → AreFit c (option_map_or {U = Outcome × List Move} (λ names. (Outcome.Done, unlinking (object_at c names) (directory_at c names))) o (Outcome.Done, [])).1
+    go None = tt
+    go (Some names) = unlinking-fit c names b
 
 pub mkdir-fit : (c : Content) (text : List ℕ) → IsBound c → first_refusal (on_path text (mkdir_checks c)) ≡ None
     → AreFit c (with_path text (λ names. (Outcome.Done, MakesDirectory names ∷ []))).1
@@ -195,18 +146,18 @@ module _ (c : Content) (conn : ℕ) (mode : Mode) (spec : OpenSpec) (b : IsBound
       go false false w x t rw deltadir false f k = absurd (let h = k in cc)
 
   opens-fit : (found : Option Known) (d : Content) → d.next_handle ≡ c.next_handle → IsFit d (Opens (new_handle c conn mode spec found))
-  opens-fit found d same = (sym same, rw same handles-end, name-short, refl, listens found)
+  opens-fit found d same = (rw same handles-end, name-short, refl, listens found)
 
 abbrev OpenFits : Content → ℕ → Mode → OpenSpec → Type 0
 OpenFits c conn mode spec = AreFit c (opening c conn mode spec (found_object c spec))
 
 -- a new object's directory has room, where nothing stands at the path
-new-room : (c : Content) (spec : OpenSpec) → IsBound c → place (at c) spec.names ≡ Ok None → first_refusal (object_checks c spec.names) ≡ None → crowd c.objects (unwrap_or (parent_number c spec.names) 0) < 256
-new-room c spec b placed room = go spec.names placed room
+new-room : (c : Content) (spec : OpenSpec) → AreTree c → place (at c) spec.names ≡ Ok None → first_refusal (object_checks c spec.names) ≡ None → crowd c.objects (unwrap_or (parent_number c spec.names) 0) < 256
+new-room c spec tree placed room = go spec.names placed room
   where
     go : (names : Path) → place (at c) names ≡ Ok None → first_refusal (object_checks c names) ≡ None → crowd c.objects (unwrap_or (parent_number c names) 0) < 256
-    go [] placed room = absurd (let root = root-found c.directories b.root in let none : at c [] ≡ None = place-at (at c) [] None placed in
-        let some : at c [] ≡ Some (FoundDirectory root.0.number) = ap (λ d. option_or (option_map (λ (d : Directory). FoundDirectory d.number) d) None) root.1 in let no = sym none ∙ some in cc)
+    go [] placed room = absurd (let none : at c [] ≡ None = place-at (at c) [] None placed in
+        let some : at c [] ≡ Some (FoundDirectory 0) = ap (λ d. option_or (option_map (λ (d : Directory). FoundDirectory d.number) d) None) tree.root in let no = sym none ∙ some in cc)
     go (n ∷ ns) placed room =
         let above = at-directory c (parent (n ∷ ns)) (place-parent (at c) n ns None placed) in
         let number : parent_number c (n ∷ ns) ≡ Some above.0.number = ap (option_map (λ (d : Directory). d.number)) above.1 in
@@ -243,26 +194,26 @@ found-prepared c mode spec o b short ends e = go spec.server (is_some o.object.s
     test p = (p.object.directory == there.0) && same p.object.name (last_name spec.names)
 
     lies : (p : Known) → test p ≡ true → p.object.directory ≡ there.0
-    lies p t = eqb-true p.object.directory there.0 (and-true (p.object.directory == there.0) (same p.object.name (last_name spec.names)) t).0
+    lies p t = eqb-true p.object.directory there.0 (and-both (p.object.directory == there.0) (same p.object.name (last_name spec.names)) t).0
 
     fewer : crowd (filter_map (touched (entry_of o.object Deleted None)) c.objects) (unwrap_or (parent_number c spec.names) 0) < 256
     fewer = rw there.1 (let less = crowd-deleted o test there.0 lies c.objects there.2 in omega (arith, less, b.crowds there.0))
 
     go : (s k t : Bool) → AreFit c (cond s (Happens (entry_of o.object Deleted None) ∷ Creates (new_object c spec) ∷ []) (cond k (Happens (entry_of o.object (Opened c.next_handle) None) ∷ []) (cond t (Happens (entry_of o.object Truncated None) ∷ []) [])))
-    go true k t = (deleted-fit c o test b there.2, ((refl, short, fewer), tt))
+    go true k t = (deleted-fit c o test b there.2, ((short, fewer), tt))
     go false true t = (found-fit c o test (Opened c.next_handle) None b there.2 (omega arith) (omega (arith, ends)) (shrink (Opened c.next_handle) (λ attributes. omega arith) c b o.object.number), tt)
     go false false true = (found-fit c o test Truncated None b there.2 (omega arith) (omega arith) (shrink Truncated (λ attributes. omega arith) c b o.object.number), tt)
     go false false false = tt
 
 -- nothing at the path
-none-prepared : (c : Content) (mode : Mode) (spec : OpenSpec) (found : Option Found) → IsBound c → HasShortEnd spec.names → object_at c spec.names ≡ None → place (at c) spec.names ≡ Ok found → first_refusal (name_checks c mode spec found) ≡ None
+none-prepared : (c : Content) (mode : Mode) (spec : OpenSpec) (found : Option Found) → AreTree c → HasShortEnd spec.names → object_at c spec.names ≡ None → place (at c) spec.names ≡ Ok found → first_refusal (name_checks c mode spec found) ≡ None
     → AreFit c (preparing c mode spec None)
-none-prepared c mode spec found b short none placed p = elim spec.all as (λ a. AreFit c (cond a [] (Creates (new_object c spec) ∷ []))) [ true ↦ tt | false ↦ ((refl, short, room found placed p), tt) ]
+none-prepared c mode spec found tree short none placed p = elim spec.all as (λ a. AreFit c (cond a [] (Creates (new_object c spec) ∷ []))) [ true ↦ tt | false ↦ ((short, room found placed p), tt) ]
   where
     room : (found : Option Found) → place (at c) spec.names ≡ Ok found → first_refusal (name_checks c mode spec found) ≡ None → crowd c.objects (unwrap_or (parent_number c spec.names) 0) < 256
     room None placed p =
         let behind = passes-both (Refuse (true && not mode.c) Refusal.NotFound ∷ Refuse false Refusal.IsDirectory ∷ Refuse (spec.server && false) Refusal.Busy ∷ []) (handle_checks c ++ object_checks c spec.names) p in
-        new-room c spec b placed (passes-both (handle_checks c) (object_checks c spec.names) behind.1).1
+        new-room c spec tree placed (passes-both (handle_checks c) (object_checks c spec.names) behind.1).1
     room (Some (FoundDirectory number)) placed p = absurd (let h = (all-pass (name_checks c mode spec (Some (FoundDirectory number))) p).1.0 in cc)
     room (Some (FoundObject number)) placed p = absurd (is-none (directory_at c spec.names) (object_at c spec.names) none (place-at (at c) spec.names (Some (FoundObject number)) placed))
       where
@@ -271,8 +222,8 @@ none-prepared c mode spec found b short none placed p = elim spec.all as (λ a. 
         is-none None (Some o) e f = absurd (let h = e in cc)
         is-none (Some d) o e f = absurd (let h = f in cc)
 
-opening-fit : (c : Content) (conn : ℕ) (mode : Mode) (spec : OpenSpec) → IsBound c → HasShortEnd spec.names → first_refusal (open_checks c mode spec) ≡ None → AreFit c (opening c conn mode spec (found_object c spec))
-opening-fit c conn mode spec b short p = placed (place (at c) spec.names) refl tests.1
+opening-fit : (c : Content) (conn : ℕ) (mode : Mode) (spec : OpenSpec) → AreTree c → IsBound c → HasShortEnd spec.names → first_refusal (open_checks c mode spec) ≡ None → AreFit c (opening c conn mode spec (found_object c spec))
+opening-fit c conn mode spec tree b short p = placed (place (at c) spec.names) refl tests.1
   where
     tests : (not (mode_fits mode spec) ≡ false) × AllPass (parsed (place (at c) spec.names) (λ found. cond spec.all (all_checks c found) (name_checks c mode spec found)))
     tests = all-pass (open_checks c mode spec) p
@@ -291,17 +242,17 @@ opening-fit c conn mode spec b short p = placed (place (at c) spec.names) refl t
         prepared-fit c conn mode spec b short fits handles.0 (object_at c spec.names) (stands (object_at c spec.names) refl (handles-end c conn mode spec b short fits handles.0) none)
       where
         stands : (o : Option Known) → object_at c spec.names ≡ o → c.next_handle < 4294967296 → first_refusal (name_checks c mode spec found) ≡ None → AreFit c (preparing c mode spec o)
-        stands None f ends none = none-prepared c mode spec found b short f there none
+        stands None f ends none = none-prepared c mode spec found tree short f there none
         stands (Some o) f ends none = found-prepared c mode spec o b short ends f
 
     placed : (r : Result (Option Found) Refusal) → place (at c) spec.names ≡ r → AllPass (parsed r (λ found. cond spec.all (all_checks c found) (name_checks c mode spec found))) → AreFit c (opening c conn mode spec (found_object c spec))
     placed (Err r) e pass = absurd (let h = pass.0 in cc)
     placed (Ok found) e pass = by spec.all refl found e pass
 
-pub open-fit : (c : Content) (conn : ℕ) (mode : Mode) (text : List ℕ) → IsBound c → first_refusal (parsed (open_text text) (open_checks c mode)) ≡ None
+pub open-fit : (c : Content) (conn : ℕ) (mode : Mode) (text : List ℕ) → AreTree c → IsBound c → first_refusal (parsed (open_text text) (open_checks c mode)) ≡ None
     → AreFit c (with_result (open_text text) (λ spec. (Outcome.Opened c.next_handle, opening c conn mode spec (found_object c spec)))).1
-open-fit c conn mode text b p = go (open_text text) (short-open_text text) p
+open-fit c conn mode text tree b p = go (open_text text) (short-open_text text) p
   where
     go : (r : Result OpenSpec Refusal) → OfOk (λ (spec : OpenSpec). HasShortEnd spec.names) r → first_refusal (parsed r (open_checks c mode)) ≡ None → AreFit c (with_result r (λ spec. (Outcome.Opened c.next_handle, opening c conn mode spec (found_object c spec)))).1
     go (Err r) short p = tt
-    go (Ok spec) short p = opening-fit c conn mode spec b short p
+    go (Ok spec) short p = opening-fit c conn mode spec tree b short p

@@ -1,19 +1,14 @@
 -- Paths, and what is opened, made and removed at them.
-use Rattle.std.proofs.Common.{arith, sym}
+use Rattle.std.proofs.Common.{arith}
 use Rattle.std.specs.Prelude.{◌≡◌, ◌≤◌, ℕ, List, [], ◌∷◌, ◌==◌, ◌&&◌, not, Bool, true, false, cond, nat_le, Option, Some, None, option_and_then, ok_or, Ok, length, refl}
 use Rattle.std.proofs.lemmas.Bool.Decides.{nat_tests}
-use Rattle.std.specs.Cmp.Lexicographic.{same_text}
 use Rattle.std.specs.List.{list_all}
 use Rattle.pps_types.specs.declared.refusal.Refusal.{Refusal}
-use Rattle.pps_types.specs.Bytes.{same, is_empty, is_between, starts_with, ◌>>=◌}
-use Rattle.pps_types.specs.Names.{Name, Path, same_path, last_name}
+use Rattle.pps_types.specs.Bytes.{is_empty, is_between, starts_with, ◌>>=◌}
+use Rattle.pps_types.specs.Names.{Name, Path, last_name}
 use Rattle.pps_types.specs.OpenText.{is_path_name, elements_of, are_names, names_if, path_text, before_all, OpenPath, open_path_of, open_path, Options, options_text, OpenSpec, open_parts, open_spec, open_text}
-use Rattle.content_bounds.proofs.Rising.{OfSome}
+use Rattle.pps_types.proofs.Finds.{OfSome, and-both}
 use Rattle.content_bounds.proofs.Texts.{OfOk, some-then, some-map}
-
-pub and-true : (a b : Bool) → (a && b) ≡ true → (a ≡ true) × (b ≡ true)
-and-true true b e = (refl, e)
-and-true false b e = absurd (let h = e in cc)
 
 -- ---- names of paths
 
@@ -25,10 +20,10 @@ name-parts false b c d e = absurd (let h = e in cc)
 last-short : (names : Path) → list_all is_path_name names ≡ true → length (last_name names) ≤ 255
 last-short [] e = omega arith
 last-short (n ∷ []) e =
-    let first = and-true (is_path_name n) true e in
+    let first = and-both (is_path_name n) true e in
     let sized = name-parts (not (is_empty n)) (nat_le (length n) 255) (list_all (λ b. is_between 33 126 b && not (b == 47) && not (b == 63)) n) (not (starts_with 46 n)) first.0 in
     grind (arith, nat_tests, sized)
-last-short (n ∷ m ∷ ms) e = last-short (m ∷ ms) (and-true (is_path_name n) (list_all is_path_name (m ∷ ms)) e).1
+last-short (n ∷ m ∷ ms) e = last-short (m ∷ ms) (and-both (is_path_name n) (list_all is_path_name (m ∷ ms)) e).1
 
 abbrev pub HasShortEnd : Path → Type 0
 HasShortEnd names = length (last_name names) ≤ 255
@@ -37,7 +32,7 @@ short-names_if : (names : Path) → OfSome HasShortEnd (names_if names)
 short-names_if names = go (are_names names) refl
   where
     go : (b : Bool) → are_names names ≡ b → OfSome HasShortEnd (cond b (Some names) None)
-    go true e = last-short names (and-true (nat_le (length names) 32) (list_all is_path_name names) e).1
+    go true e = last-short names (and-both (nat_le (length names) 32) (list_all is_path_name names) e).1
     go false e = tt
 
 anything : (o : Option Path) → OfSome (λ (p : Path). Unit {0}) o
@@ -66,13 +61,3 @@ short-open_text text = go (open_path (open_parts text).0) (short-open_path (open
     go : (o : Option OpenPath) → OfSome (λ (p : OpenPath). HasShortEnd p.names) o → OfOk (λ (spec : OpenSpec). HasShortEnd spec.names) (do path ← ok_or o Refusal.BadPath; options ← ok_or (options_text path.all (open_parts text).1) Refusal.BadOption; Ok (open_spec path options))
     go None h = tt
     go (Some p) h = with p h (options_text p.all (open_parts text).1)
-
--- ---- equal paths
-
-pub same_path-is : (p q : Path) → same_path p q ≡ true → p ≡ q
-same_path-is [] [] e = refl
-same_path-is [] (n ∷ q) e = absurd (let h = e in cc)
-same_path-is (m ∷ p) [] e = absurd (let h = e in cc)
-same_path-is (m ∷ p) (n ∷ q) e =
-    let both = and-true (same m n) (same_path p q) e in
-    λ i. same_text m n (sym both.0) i ∷ same_path-is p q both.1 i

@@ -18,13 +18,15 @@ use Rattle.pps_types.specs.Filter.{Part, matches}
 use Rattle.pps_types.specs.Text.{print_header, print_lines}
 use Rattle.pps_types.specs.Names.{sorted_by, insert_by, name_cmp}
 use Rattle.pps_types.specs.History.{Entry, line_of, text_length}
-use Rattle.pps_types.specs.Reading.{Open, Seen, News, Unread, Over, Owed, is_directory_kind, Shown, with_lines, with_client, matching_lines, shown_to_object, shown_to_directory, shown_to_names, shown_to_server, shown_to_client, shown, print_shown, block, visible, Member, print_member, overflow_mark, overflow_line, everything_of, Answer, Everything, Blocks, Needs, TargetGone, Waits, Nothing, fitting, whole_answer, idle_answer, owed_answer, answer, is_over}
+use Rattle.pps_types.specs.Reading.{Open, is_directory_kind, Shown, with_lines, with_client, matching_lines, shown_to_object, shown_to_directory, shown_to_names, shown_to_server, shown_to_client, shown, print_shown, block, visible, Member, print_member, overflow_mark, overflow_line, everything_of, Answer, Everything, Blocks, Needs, TargetGone, Waits, Nothing, fitting, whole_answer, idle_answer, owed_answer}
+use Rattle.pps_types.specs.Rests.{Seen, News, Unread, Over, Owed, answer, is_over}
 use Rattle.pps_types.specs.Content.{Known, Content, object_numbered, attributes_of, members, member, target_members, target_is_dead, everything, read_answer, news}
 use Rattle.pps_types.specs.Plan.{Move, CatchesUp, Passes, Parks, Arms, Queues, fired, late_reply, late_replies, had_news, settling_handle, settling, apply_seen}
 use Rattle.pps_types.proofs.BasicLaws.{fitting-longest}
 use Rattle.content_bounds.specs.Bounds.{lines_of, client_of, IsShort, AreShort, IsBoundObject, IsReadSize, IsBoundHandle, IsBoundItem, IsBound}
 use Rattle.content_bounds.specs.Fit.{IsFit, AreFit}
-use Rattle.content_bounds.proofs.Lists.{all-find, all-filter, all-append}
+use Rattle.pps_types.proofs.Finds.{all-find, all-filter}
+use Rattle.content_bounds.proofs.Lists.{all-append}
 use Rattle.content_bounds.proofs.Texts.{kept-lines}
 use Rattle.content_bounds.proofs.Opens.{members-crowd}
 

@@ -13,7 +13,7 @@ use Rattle.pps_types.specs.declared.line.WriteLine.TheVariants.{Set as WriteSet,
 use Rattle.pps_types.specs.Bytes.{is_empty, after_prefix, split_at_first, onto_first, pieces, result_map}
 use Rattle.pps_types.specs.Text.{is_attribute_name, is_encoding, set_line, deletion_line, write_line, without_empty_end, lines_of, line_or, write_lines, WriteText, with_header, text_after, text_of_lines, write_text, print_line, print_lines}
 use Rattle.pps_types.specs.History.{Attribute, line_of, text_length, resolved, resolve, apply_line, message_line, marked_by, is_marked}
-use Rattle.content_bounds.proofs.Rising.{OfSome}
+use Rattle.pps_types.proofs.Finds.{OfSome}
 
 -- ---- what holds of a result
 

@@ -1,5 +1,5 @@
--- What stands within its bounds. The limits on names, texts and members are our own.
-use Rattle.std.specs.Prelude.{◌≡◌, ◌≤◌, ◌<◌, ℕ, ◌+◌, ◌^◌, List, [], ◌∷◌, false, true, ◌==◌, Option, Some, None, Ok, filter, map, length}
+-- How large what stands may be. The limits on names, texts and members are our own.
+use Rattle.std.specs.Prelude.{◌≡◌, ◌≤◌, ◌<◌, ℕ, ◌^◌, List, [], false, true, ◌==◌, Option, Some, None, Ok, filter, length}
 use Rattle.std.specs.List.{AllByRecursion}
 use Rattle.pps_types.specs.declared.line.Line.{Line}
 use Rattle.pps_types.specs.declared.outcome.Item.{Item}
@@ -9,15 +9,9 @@ use Rattle.pps_types.specs.declared.record.Kind.TheVariants.{Change, Opened, Clo
 use Rattle.pps_types.specs.Text.{print_lines}
 use Rattle.pps_types.specs.Names.{Path, last_name}
 use Rattle.pps_types.specs.History.{Entry, text_length}
-use Rattle.pps_types.specs.Reading.{Open, Seen, Owed, is_directory_kind}
-use Rattle.pps_types.specs.Content.{Directory, Known, Connection, Content, subdirectories}
-
--- ---- numbers that rise
-
--- from low on, each above the one before, all below high
-abbrev pub AreRising : ℕ → List ℕ → ℕ → Type 0
-AreRising low [] high = low ≤ high
-AreRising low (n ∷ ns) high = (low ≤ n) × AreRising (n + 1) ns high
+use Rattle.pps_types.specs.Reading.{Open, is_directory_kind}
+use Rattle.pps_types.specs.Rests.{Seen, Owed}
+use Rattle.pps_types.specs.Content.{Known, Connection, Content, subdirectories}
 
 -- ---- records
 
@@ -72,22 +66,11 @@ IsBoundConnection x = AllByRecursion IsBoundItem x.queue
 abbrev pub crowd : List Known → ℕ → ℕ
 crowd objects directory = length (filter (λ o. o.object.directory == directory) objects)
 
-abbrev pub IsRoot : Directory → Type 0
-IsRoot d = (d.number ≡ 0) × (d.path ≡ [])
-
-abbrev pub HasRoot : List Directory → Type 0
-HasRoot [] = ⊥
-HasRoot (d ∷ ds) = IsRoot d × AllByRecursion (λ d. 1 ≤ d.number) ds
-
--- at most 256 objects and 256 directories lie directly in a directory
+-- The sizes alone, of what stands well formed. At most 256 objects and 256 directories lie directly in a directory.
 pub record IsBound (c : Content) : Type 0 where
-  pub handles_rise : AreRising 0 (map (λ h. h.number) c.handles) c.next_handle
   pub handles_end : c.next_handle ≤ 4294967296
-  pub objects_rise : AreRising 0 (map (λ o. o.object.number) c.objects) c.next_object
   pub objects : AllByRecursion IsBoundObject c.objects
   pub crowds : (directory : ℕ) → crowd c.objects directory ≤ 256
-  pub root : HasRoot c.directories
-  pub directories_follow : 1 ≤ c.next_directory
   pub directories : AllByRecursion (λ d. length (last_name d.path) ≤ 255) c.directories
   pub branches : (path : Path) → length (subdirectories c path) ≤ 256
   pub handles : AllByRecursion IsBoundHandle c.handles

@@ -5,17 +5,16 @@ use Rattle.pps_types.specs.Names.{Path, parent, last_name, same_path}
 use Rattle.pps_types.specs.History.{after_kind, text_length}
 use Rattle.pps_types.specs.Reading.{is_directory_kind}
 use Rattle.pps_types.specs.Content.{Content, Known, subdirectories}
-use Rattle.pps_types.specs.Plan.{Move, Creates, Happens, Opens, Parks, Queues, MakesDirectory, RemovesDirectory, apply_seen}
+use Rattle.pps_types.specs.Plan.{Move, Creates, Happens, Opens, Parks, Queues, MakesDirectory, apply_seen}
 use Rattle.content_bounds.specs.Bounds.{IsShort, IsReadSize, IsBoundItem, crowd}
 
 abbrev pub IsFit : Content → Move → Type 0
-IsFit c (Creates o) = (o.number ≡ c.next_object) × (length o.name ≤ 255) × (crowd c.objects o.directory < 256)
+IsFit c (Creates o) = (length o.name ≤ 255) × (crowd c.objects o.directory < 256)
 IsFit c (Happens e) = IsShort e × AllByRecursion (λ (o : Known). o.object.number ≡ e.record_of.object → text_length (after_kind o.attributes e.record_of.kind) ≤ 65536) c.objects
-IsFit c (Opens h) = (h.number ≡ c.next_handle) × (c.next_handle < 4294967296) × (length h.name ≤ 255) × (h.parked ≡ None) × (is_directory_kind h.kind ≡ true → h.writes ≡ false)
+IsFit c (Opens h) = (c.next_handle < 4294967296) × (length h.name ≤ 255) × (h.parked ≡ None) × (is_directory_kind h.kind ≡ true → h.writes ≡ false)
 IsFit c (Parks number size) = IsReadSize size
 IsFit c (Queues conn item) = IsBoundItem item
 IsFit c (MakesDirectory path) = (length (last_name path) ≤ 255) × ((p : Path) → same_path (parent path) p ≡ true → length (subdirectories c p) < 256)
-IsFit c (RemovesDirectory number) = 1 ≤ number
 IsFit c _ = Unit {0}
 
 -- each in turn

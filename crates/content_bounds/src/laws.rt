@@ -1,5 +1,5 @@
 //! The laws, each the contract of a function that does nothing.
-ghost use Rattle.content_bounds.specs.Laws.{BoundsStay, ChecksWantNothing, SizesFit};
+ghost use Rattle.content_bounds.specs.Laws.{BoundsStay, SizesFit};
 
 /// What stands at the start is within its bounds, and what an event leaves is.
 pub fn bounds_stay()
@@ -9,9 +9,4 @@ pub fn bounds_stay()
 /// Within the bounds, what a read needs is below 2^32, and each answer fits a frame.
 pub fn sizes_fit()
     ensures { SizesFit }
-{}
-
-/// No check refuses for want of memory.
-pub fn checks_want_nothing()
-    ensures { ChecksWantNothing }
 {}

@@ -4,4 +4,4 @@
 
 mod laws;
 
-pub use laws::{bounds_stay, checks_want_nothing, sizes_fit};
+pub use laws::{bounds_stay, sizes_fit};

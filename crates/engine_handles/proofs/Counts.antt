@@ -3,7 +3,8 @@ use Rattle.std.proofs.Common.{arith, ap, sym}
 use Rattle.std.specs.Prelude.{◌≡◌, ℕ, ◌+◌, ◌-◌, ◌≤◌, ◌==◌, ◌&&◌, ◌||◌, List, [], ◌∷◌, Bool, true, false, cond, Option, Some, None, is_some, option_map, filter, length, min, nat_le, refl, suc}
 use Rattle.std.proofs.lemmas.Bool.Decides.{nat_tests}
 use Rattle.std.specs.List.{filter_map, list_any}
-use Rattle.pps_types.specs.Reading.{Open, Seen}
+use Rattle.pps_types.specs.Reading.{Open}
+use Rattle.pps_types.specs.Rests.{Seen}
 use Rattle.pps_types.specs.Content.{Content, outbox_of}
 use Rattle.pps_types.specs.Outbox.{is_armed, is_parked, is_full}
 

@@ -2,6 +2,7 @@
 ghost use Rattle.std.specs.Prelude.{◌≡◌, ◌&&◌, ◌==◌, ◌∷◌, ◌++◌, [], nat_le, true, find, filter, drop, IfOk, IfErr, OnErr, OnOk};
 ghost use Rattle.std.specs.Option.{option_copied};
 ghost use Rattle.pps_types.specs.Reading as reading;
+ghost use Rattle.pps_types.specs.Rests as rests;
 ghost use Rattle.pps_types.specs.Content as content;
 ghost use Rattle.pps_types.specs.Checks as checking;
 ghost use Rattle.pps_types.specs.Plan as planning;
@@ -23,7 +24,7 @@ fn is_connection_number(conn: Conn) -> bool
 
 /// The handle of that number, where it is the connection's.
 pub fn own_handle(state: &State, conn: Conn, number: Handle) -> Option<&Open>
-    ensures { option_copied result ≡ find (λ (h : reading.Open reading.Seen). (h.number == number) && (h.connection == conn)) state.now.handles }
+    ensures { option_copied result ≡ find (λ (h : reading.Open rests.Seen). (h.number == number) && (h.connection == conn)) state.now.handles }
 {
     state
         .handles()
@@ -70,8 +71,8 @@ fn is_of(h: &Open, conn: Conn) -> bool
 
 // All handles of a connection are closed, in rising number.
 fn close_all(alloc: Global, next: &mut State, handles: &[Open], conn: Conn) -> Result<(), Refusal>
-    ensures ok { OnOk result (next.new ≡ planning.apply_all_seen (planning.closings next.old (filter (λ (h : reading.Open reading.Seen). h.connection == conn) handles.now)) next.old) }
-    ensures err { IfErr result (λ r. CannotHappen (planning.apply_all_seen (planning.closings next.old (filter (λ (h : reading.Open reading.Seen). h.connection == conn) handles.now)) next.old) r) }
+    ensures ok { OnOk result (next.new ≡ planning.apply_all_seen (planning.closings next.old (filter (λ (h : reading.Open rests.Seen). h.connection == conn) handles.now)) next.old) }
+    ensures err { IfErr result (λ r. CannotHappen (planning.apply_all_seen (planning.closings next.old (filter (λ (h : reading.Open rests.Seen). h.connection == conn) handles.now)) next.old) r) }
 {
     'closings: for h in handles {
         if is_of(h, conn) {
@@ -92,8 +93,8 @@ fn close_and_leave(
     handles: &[Open],
     conn: Conn,
 ) -> Result<(), Refusal>
-    ensures ok { OnOk result (next.new ≡ planning.apply_all_seen (planning.closings next.old (filter (λ (h : reading.Open reading.Seen). h.connection == conn) handles.now) ++ planning.Leaves conn ∷ []) next.old) }
-    ensures err { IfErr result (λ r. CannotHappen (planning.apply_all_seen (planning.closings next.old (filter (λ (h : reading.Open reading.Seen). h.connection == conn) handles.now) ++ planning.Leaves conn ∷ []) next.old) r) }
+    ensures ok { OnOk result (next.new ≡ planning.apply_all_seen (planning.closings next.old (filter (λ (h : reading.Open rests.Seen). h.connection == conn) handles.now) ++ planning.Leaves conn ∷ []) next.old) }
+    ensures err { IfErr result (λ r. CannotHappen (planning.apply_all_seen (planning.closings next.old (filter (λ (h : reading.Open rests.Seen). h.connection == conn) handles.now) ++ planning.Leaves conn ∷ []) next.old) r) }
 {
     match close_all(alloc, next, handles, conn) {
         Err(refusal) => Err(refusal),

@@ -2,6 +2,7 @@
 ghost use Rattle.std.specs.Prelude.{◌≡◌, ◌&&◌, ◌==◌, ◌-◌, ◌≤◌, length, filter, is_some, min};
 ghost use Rattle.std.specs.List.{list_any};
 ghost use Rattle.pps_types.specs.Reading as reading;
+ghost use Rattle.pps_types.specs.Rests as rests;
 ghost use Rattle.pps_types.specs.Content as content;
 ghost use Rattle.pps_types.specs.Outbox as outboxes;
 
@@ -12,7 +13,7 @@ use pps_types::{Conn, Handle, Refusal};
 const OUTBOX_LIMIT: usize = 1_024;
 
 fn count_armed(handles: &[Open], conn: Conn) -> usize
-    ensures { result ≡ length (filter (λ (h : reading.Open reading.Seen). (h.connection == conn) && is_some h.armed) handles.now) }
+    ensures { result ≡ length (filter (λ (h : reading.Open rests.Seen). (h.connection == conn) && is_some h.armed) handles.now) }
 {
     handles
         .iter()
@@ -21,7 +22,7 @@ fn count_armed(handles: &[Open], conn: Conn) -> usize
 }
 
 fn count_parked(handles: &[Open], conn: Conn) -> usize
-    ensures { result ≡ length (filter (λ (h : reading.Open reading.Seen). (h.connection == conn) && is_some h.parked) handles.now) }
+    ensures { result ≡ length (filter (λ (h : reading.Open rests.Seen). (h.connection == conn) && is_some h.parked) handles.now) }
 {
     handles
         .iter()
@@ -30,13 +31,13 @@ fn count_parked(handles: &[Open], conn: Conn) -> usize
 }
 
 fn is_armed(handles: &[Open], conn: Conn, number: Handle) -> bool
-    ensures { result ≡ list_any (λ (h : reading.Open reading.Seen). (h.connection == conn) && (is_some h.armed && (h.number == number))) handles.now }
+    ensures { result ≡ list_any (λ (h : reading.Open rests.Seen). (h.connection == conn) && (is_some h.armed && (h.number == number))) handles.now }
 {
     handles.iter().any(|h| h.connection() == conn && (h.armed().is_some() && h.number() == number))
 }
 
 fn is_parked(handles: &[Open], conn: Conn, number: Handle) -> bool
-    ensures { result ≡ list_any (λ (h : reading.Open reading.Seen). (h.connection == conn) && (is_some h.parked && (h.number == number))) handles.now }
+    ensures { result ≡ list_any (λ (h : reading.Open rests.Seen). (h.connection == conn) && (is_some h.parked && (h.number == number))) handles.now }
 {
     handles.iter().any(|h| h.connection() == conn && (h.parked().is_some() && h.number() == number))
 }

@@ -4,6 +4,7 @@ ghost use Rattle.std.specs.List.{list_any};
 ghost use Rattle.std.specs.Option.{option_map_or};
 ghost use Rattle.pps_types.specs.Bytes.{is_empty};
 ghost use Rattle.pps_types.specs.Reading as reading;
+ghost use Rattle.pps_types.specs.Rests as rests;
 ghost use Rattle.pps_types.specs.Content as content;
 ghost use Rattle.pps_types.specs.Checks as checking;
 
@@ -21,7 +22,7 @@ fn count_in(objects: &[Known], directory: u64) -> usize
 }
 
 fn is_any_on_object(handles: &[Open], object: u64) -> bool
-    ensures { result ≡ list_any (λ (h : reading.Open reading.Seen). not (reading.is_directory_kind h.kind) && (h.target == object)) handles.now }
+    ensures { result ≡ list_any (λ (h : reading.Open rests.Seen). not (reading.is_directory_kind h.kind) && (h.target == object)) handles.now }
 {
     handles
         .iter()
@@ -29,7 +30,7 @@ fn is_any_on_object(handles: &[Open], object: u64) -> bool
 }
 
 fn is_any_on_directory(handles: &[Open], directory: u64) -> bool
-    ensures { result ≡ list_any (λ (h : reading.Open reading.Seen). reading.is_directory_kind h.kind && (h.target == directory)) handles.now }
+    ensures { result ≡ list_any (λ (h : reading.Open rests.Seen). reading.is_directory_kind h.kind && (h.target == directory)) handles.now }
 {
     handles
         .iter()

@@ -8,7 +8,8 @@ use Rattle.pps_types.specs.declared.handle_kind.HandleKind.{HandleKind}
 use Rattle.pps_types.specs.declared.handle_kind.HandleKind.TheVariants.{Object as ObjectHandle, Directory as DirectoryHandle, Names as NamesHandle, Server as ServerHandle, Client as ClientHandle}
 use Rattle.pps_types.specs.History.{line_of}
 use Rattle.pps_types.specs.Text.{print_header}
-use Rattle.pps_types.specs.Reading.{Open, Seen, Member, is_over, overflow_line, overflow_mark, is_directory_kind, everything_of, print_member}
+use Rattle.pps_types.specs.Reading.{Open, Member, overflow_line, overflow_mark, is_directory_kind, everything_of, print_member}
+use Rattle.pps_types.specs.Rests.{Seen, is_over}
 use Rattle.pps_types.specs.Content.{Known, Content, object_numbered, members, member, everything}
 use Rattle.engine_reads.specs.Printing.{print_set}
 use Rattle.engine_reads.specs.Everything.{print_own, print_everything}

@@ -2,7 +2,8 @@
 use Rattle.std.proofs.Common.{◌≡◌, ℕ, Bool, true, false, cond, List, [], ◌∷◌, take, map, refl, ap, ◌∙◌, leb}
 use Rattle.std.specs.Prelude.{filter, length}
 use Rattle.std.specs.List.{concat}
-use Rattle.pps_types.specs.Reading.{Open, Seen, News, Unread, Over, Owed, Everything, Needs, fitting, blocks_answer, owed_answer, idle_answer, whole_answer, answer, owed_in, block, visible}
+use Rattle.pps_types.specs.Reading.{Open, Everything, Needs, fitting, blocks_answer, owed_answer, idle_answer, whole_answer, block, visible}
+use Rattle.pps_types.specs.Rests.{Seen, News, Unread, Over, Owed, answer, owed_in}
 use Rattle.pps_types.proofs.BasicLaws.{fitting-longest}
 use Rattle.engine_reads.specs.declared.answer.Measure.TheVariants.{Everything as MeasuredEverything, Blocks as MeasuredBlocks}
 use Rattle.engine_reads.specs.Measure.{measure_of, text_in}

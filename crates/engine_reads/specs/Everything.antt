@@ -5,7 +5,8 @@ use Rattle.pps_types.specs.declared.handle_kind.HandleKind.{HandleKind}
 use Rattle.pps_types.specs.declared.handle_kind.HandleKind.TheVariants.{Object as ObjectHandle, Directory as DirectoryHandle, Names as NamesHandle}
 use Rattle.pps_types.specs.Filter.{Part}
 use Rattle.pps_types.specs.Text.{print_header}
-use Rattle.pps_types.specs.Reading.{Open, Seen, is_over, overflow_mark, overflow_line}
+use Rattle.pps_types.specs.Reading.{Open, overflow_mark, overflow_line}
+use Rattle.pps_types.specs.Rests.{Seen, is_over}
 use Rattle.pps_types.specs.Content.{Known, Content, object_numbered, members}
 use Rattle.engine_reads.specs.Printing.{print_set}
 use Rattle.engine_reads.specs.Listed.{Listed, listed_object}

@@ -4,6 +4,7 @@ ghost use Rattle.std.specs.List.{concat};
 ghost use Rattle.std.specs.Option.{option_copied, option_to_list, ForSome};
 ghost use Rattle.pps_types.specs.Content as content;
 ghost use Rattle.pps_types.specs.Reading as reading;
+ghost use Rattle.pps_types.specs.Rests as rests;
 ghost use Rattle.pps_types.specs.Text as text;
 ghost use Rattle.engine_state.specs.Handle.{seen_state};
 ghost use Rattle.engine_reads.specs.Everything.{print_known, print_all, print_listed, print_own, print_directory, print_everything};
@@ -19,7 +20,7 @@ use std::alloc::{AllocError, Global};
 
 // The mark of a header where the handle was owed more than its limit.
 fn overflow_mark(h: &Open) -> Option<u8>
-    ensures is { option_to_list result ≡ reading.overflow_mark (reading.is_over h.now.seen) }
+    ensures is { option_to_list result ≡ reading.overflow_mark (rests.is_over h.now.seen) }
     ensures marks { ForSome result (λ byte. text.is_header_mark byte ≡ true) }
 {
     match h.seen() {
@@ -59,7 +60,7 @@ fn all_len(names: bool, filter: Option<&Filter>, objects: &[Known], directory: u
 
 // The length of the line that tells of what the limit left out, where it is told.
 fn overflow_len(h: &Open) -> usize
-    ensures { result ≡ length (reading.overflow_line (reading.is_over h.now.seen)) }
+    ensures { result ≡ length (reading.overflow_line (rests.is_over h.now.seen)) }
 {
     match h.seen() {
         Seen::Over => b"!@.all\n".len(),
@@ -150,7 +151,7 @@ fn put_all(
 
 // Puts the line that tells of what the limit left out, where it is told.
 fn put_overflow(out: &mut Vec<u8>, h: &Open) -> Result<(), AllocError>
-    ensures { OnOk result (out.new.items ≡ out.old.items ++ reading.overflow_line (reading.is_over h.now.seen)) }
+    ensures { OnOk result (out.new.items ≡ out.old.items ++ reading.overflow_line (rests.is_over h.now.seen)) }
 {
     match h.seen() {
         Seen::Over => put_header(out, Some(b'!'), b".all"),

@@ -2,6 +2,7 @@
 ghost use Rattle.std.specs.Prelude.{◌≡◌, ◌++◌, map, take, IfOk, OnOk};
 ghost use Rattle.std.specs.List.{concat};
 ghost use Rattle.pps_types.specs.Reading as reading;
+ghost use Rattle.pps_types.specs.Rests as rests;
 ghost use Rattle.pps_types.specs.Content as content;
 ghost use Rattle.engine_state.specs.Handle.{seen_state};
 ghost use Rattle.engine_reads.specs.Owed.{owed_blocks};
@@ -33,7 +34,7 @@ fn put_blocks(out: &mut Vec<u8>, h: &Open, count: usize, rest: &[Entry]) -> Resu
 
 // So many of the blocks that the handle is owed, from the first on.
 fn blocks(alloc: Global, h: &Open, count: usize) -> Result<Vec<u8>, AllocError>
-    ensures { IfOk result (λ text. text.items ≡ concat (take count (map (reading.block h.now) (reading.owed_in h.now h.now.seen)))) }
+    ensures { IfOk result (λ text. text.items ≡ concat (take count (map (reading.block h.now) (rests.owed_in h.now h.now.seen)))) }
 {
     let mut out = Vec::new(alloc);
     if let Seen::Owed(rest) = h.seen() {

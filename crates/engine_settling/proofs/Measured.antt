@@ -1,7 +1,8 @@
 -- Answers, told by what they are without their texts.
 use Rattle.std.specs.Prelude.{◌≡◌, ℕ, [], ◌∷◌, true, refl}
 use Rattle.pps_types.specs.declared.outcome.Outcome.TheVariants.{Data}
-use Rattle.pps_types.specs.Reading.{Open, Seen, Answer, Everything, Blocks, Needs, TargetGone, Waits, Nothing}
+use Rattle.pps_types.specs.Reading.{Open, Answer, Everything, Blocks, Needs, TargetGone, Waits, Nothing}
+use Rattle.pps_types.specs.Rests.{Seen}
 use Rattle.pps_types.specs.Content.{Content}
 use Rattle.pps_types.specs.Checks.{Memory, answer_checks}
 use Rattle.pps_types.specs.Plan.{read_effect}

@@ -1,7 +1,6 @@
 //! What follows from what an event did: pulses and late replies.
 ghost use Rattle.std.specs.Prelude.{◌≡◌, ◌&&◌, ◌||◌, ◌++◌, drop, is_some, IfOk, OnOk};
 ghost use Rattle.std.specs.List.{flat_map};
-ghost use Rattle.pps_types.specs.Reading as reading;
 ghost use Rattle.pps_types.specs.Content as content;
 ghost use Rattle.pps_types.specs.Plan as planning;
 ghost use Rattle.engine_moves.specs.Moves.{moves};

@@ -2,7 +2,7 @@
 use Rattle.std.proofs.Common.{◌≡◌, ℕ, zero, suc, ◌+◌, ◌≤◌, ◌<◌, Bool, true, false, cond, List, [], ◌∷◌, length, drop, refl, sym, ap, ◌∙◌, arith, add-one}
 use Rattle.std.specs.Prelude.{slice_index_or}
 use Rattle.std.proofs.Math.Seq.{drop-cons}
-use Rattle.pps_types.specs.Reading.{from_first, past}
+use Rattle.pps_types.specs.Rests.{from_first, past}
 
 module _ {X : Type 0} (test : X → Bool) where
   past-none : (n : ℕ) → past test n [] ≡ []

@@ -2,6 +2,7 @@
 ghost use Rattle.std.specs.Prelude.{◌≡◌, ◌≤◌, ◌&&◌, length, drop, filter, if◌then◌else◌, IfOk, OnOk, Some, None, is_some};
 ghost use Rattle.std.specs.Option.{option_copied};
 ghost use Rattle.pps_types.specs.Reading as reading;
+ghost use Rattle.pps_types.specs.Rests as rests;
 ghost use Rattle.pps_types.specs.Content as content;
 ghost use Rattle.pps_types.specs.Plan as planning;
 
@@ -77,7 +78,8 @@ pub struct Open {
 }
 
 impl Model for Open {
-    ghost use Rattle.pps_types.specs.Reading.{Open as Held, Seen as HeldSeen};
+    ghost use Rattle.pps_types.specs.Reading.{Open as Held};
+    ghost use Rattle.pps_types.specs.Rests.{Seen as HeldSeen};
 
     ghost Value = { Held HeldSeen };
 
@@ -245,7 +247,7 @@ impl Open {
 
     /// Whether that record stands among those that it has still to be given.
     pub fn keeps(&self, entry: &Entry) -> bool
-        ensures { result ≡ reading.keeps self.now entry.now }
+        ensures { result ≡ rests.keeps self.now entry.now }
     {
         self.is_visible(entry)
             || (self.concerns(entry) && is_chained(self.kind, &entry.record().kind))
@@ -259,7 +261,7 @@ impl Open {
 
     // What it has seen, where it has these records still to be given.
     fn seen_of(&self, rest: Vec<Entry>) -> Seen
-        ensures { seen_state result ≡ reading.seen_of self.now rest.items }
+        ensures { seen_state result ≡ rests.seen_of self.now rest.items }
     {
         if is_full(self.kind) {
             return Seen::News(self.reads && !rest.is_empty());
@@ -272,7 +274,7 @@ impl Open {
 
     // What it has still to be given, after one more record.
     fn grown(&self, entry: Entry, mut rest: Vec<Entry>) -> Result<Vec<Entry>, AllocError>
-        ensures { IfOk result (λ grown. grown.items ≡ (if reading.keeps self.now entry then reading.pushed (reading.visible self.now) entry rest.items else rest.items)) }
+        ensures { IfOk result (λ grown. grown.items ≡ (if rests.keeps self.now entry then rests.pushed (reading.visible self.now) entry rest.items else rest.items)) }
     {
         if !self.keeps(&entry) {
             return Ok(rest);
@@ -287,7 +289,7 @@ impl Open {
     // How many of the records are to be dropped from the front, to be behind so many that it is given and at the next.
     fn place_behind(&self, count: usize, rest: &[Entry]) -> usize
         ensures within { result ≤ length rest.now }
-        ensures place { drop result rest.now ≡ reading.from_first (reading.visible self.now) (reading.past (reading.visible self.now) count rest.now) }
+        ensures place { drop result rest.now ≡ rests.from_first (reading.visible self.now) (rests.past (reading.visible self.now) count rest.now) }
     {
         let mut left = count;
         let mut place = 0;

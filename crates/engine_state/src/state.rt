@@ -6,6 +6,7 @@ ghost use Rattle.pps_types.specs.Outbox as outboxes;
 ghost use Rattle.pps_types.specs.Content as content;
 ghost use Rattle.pps_types.specs.Plan as planning;
 ghost use Rattle.pps_types.specs.Reading as reading;
+ghost use Rattle.pps_types.specs.Rests as rests;
 ghost use Rattle.pps_types.specs.Machine as machines;
 ghost use Rattle.engine_state.specs.Handle.{armed_pulse};
 ghost use Rattle.engine_state.specs.Objects.{changed_by, deletes};
@@ -106,7 +107,7 @@ fn take_from(connections: &mut [Connection], number: Conn) -> Option<Item>
 // ---- handles
 
 fn handle_numbered(handles: &[Open], number: Handle) -> Option<&Open>
-    ensures { option_copied result ≡ find (λ (h : reading.Open reading.Seen). h.number == number) handles.now }
+    ensures { option_copied result ≡ find (λ (h : reading.Open rests.Seen). h.number == number) handles.now }
 {
     handles.iter().find(|h| h.number() == number)
 }
@@ -166,7 +167,7 @@ fn remove_directory_of(directories: &mut Vec<Directory>, number: u64) -> Option<
 
 // The place of the handle of that number, or how many there are.
 fn place_of_handle(handles: &[Open], number: Handle) -> usize
-    ensures { result ≡ position_or_len (λ (h : reading.Open reading.Seen). h.number == number) handles.now }
+    ensures { result ≡ position_or_len (λ (h : reading.Open rests.Seen). h.number == number) handles.now }
 {
     let mut place = 0;
     'places: for h in handles {
@@ -209,7 +210,7 @@ fn park_one(handles: &mut [Open], number: Handle, size: u32, slot: Slot)
 }
 
 fn unpark_one(handles: &mut [Open], number: Handle) -> Option<Slot>
-    ensures slot { is_some result ≡ option_map_or (λ (h : reading.Open reading.Seen). is_some h.parked) (find (λ (h : reading.Open reading.Seen). h.number == number) handles.old) false }
+    ensures slot { is_some result ≡ option_map_or (λ (h : reading.Open rests.Seen). is_some h.parked) (find (λ (h : reading.Open rests.Seen). h.number == number) handles.old) false }
     ensures parked { handles.new ≡ planning.on_numbered number (λ h. record h { parked = None }) handles.old }
 {
     let place = place_of_handle(handles, number);

@@ -5,7 +5,8 @@ use Rattle.std.specs.List.{list_any}
 use Rattle.pps_types.specs.declared.refusal.Refusal.TheVariants.{Backlogged}
 use Rattle.pps_types.specs.Bytes.{is_empty}
 use Rattle.pps_types.specs.History.{Entry}
-use Rattle.pps_types.specs.Reading.{Open, Seen, visible}
+use Rattle.pps_types.specs.Reading.{Open, visible}
+use Rattle.pps_types.specs.Rests.{Seen}
 use Rattle.pps_types.specs.Checks.{first_refusal, client_backlog}
 use Rattle.engine_writes.specs.Written.{is_behind, is_owed}
 

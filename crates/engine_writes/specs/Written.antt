@@ -2,7 +2,8 @@
 use Rattle.std.specs.Prelude.{ℕ, List, ◌++◌, Bool, ◌&&◌, ◌==◌, nat_le}
 use Rattle.pps_types.specs.History.{Entry}
 use Rattle.pps_types.specs.Text.{WriteText}
-use Rattle.pps_types.specs.Reading.{Open, Seen, visible}
+use Rattle.pps_types.specs.Reading.{Open, visible}
+use Rattle.pps_types.specs.Rests.{Seen}
 use Rattle.pps_types.specs.Content.{Content}
 use Rattle.pps_types.specs.Checks.{Check, is_client, is_server_message, count_owed, addressee, client_checks, where_lines, client_backlog, meant, own_header, limit_checks, changed, server_backlog}
 

@@ -5,6 +5,7 @@ ghost use Rattle.std.specs.List.{list_any};
 ghost use Rattle.pps_types.specs.Bytes.{is_empty};
 ghost use Rattle.pps_types.specs.Content as content;
 ghost use Rattle.pps_types.specs.Reading as reading;
+ghost use Rattle.pps_types.specs.Rests as rests;
 ghost use Rattle.pps_types.specs.Checks as checking;
 ghost use Rattle.engine_writes.specs.Addressed.{addressee_of};
 ghost use Rattle.engine_writes.specs.Written.{is_client_of, is_behind, is_owed};
@@ -105,7 +106,7 @@ fn behind_of_all(handles: &[Open], object: u64) -> Option<&Open>
 
 // The client of that number, if it is one of that object and behind.
 fn behind_of_one(handles: &[Open], object: u64, id: Handle) -> Option<&Open>
-    ensures { option_copied result ≡ find is_behind (filter (λ (h : reading.Open reading.Seen). h.number == id) (filter (is_client_of object) handles.now)) }
+    ensures { option_copied result ≡ find is_behind (filter (λ (h : reading.Open rests.Seen). h.number == id) (filter (is_client_of object) handles.now)) }
 {
     handles
         .iter()
@@ -116,7 +117,7 @@ fn behind_of_one(handles: &[Open], object: u64, id: Handle) -> Option<&Open>
 
 // Whether the object has an open client of that number.
 fn has_client(handles: &[Open], object: u64, id: Handle) -> bool
-    ensures { result ≡ list_any (λ (h : reading.Open reading.Seen). h.number == id) (filter (is_client_of object) handles.now) }
+    ensures { result ≡ list_any (λ (h : reading.Open rests.Seen). h.number == id) (filter (is_client_of object) handles.now) }
 {
     handles
         .iter()

@@ -21,7 +21,7 @@ fn serve_stream<I: Read, O: Write>(
     requires input { device_failed input.old ≡ false }
     requires output { device_failed output.old ≡ false }
     ensures serves { ServesStream (I.remaining (device_inner input.old)) (I.remaining (device_inner input.new))
-        (O.contents (device_inner output.old)) (O.contents (device_inner output.new)) engine.old engine.new result }
+        (O.contents (device_inner output.old)) (O.contents (device_inner output.new)) engine.old.content engine.new.content result }
     ensures fault { DeviceFaults result (device_failed input.new) (device_failed output.new) (device_reads input.old)
         (device_reads input.new) (device_stalls output.old) (device_stalls output.new) }
 {

@@ -33,7 +33,7 @@ impl<W: Write> Session<W> {
     // Runs a line, without its line feed.
     fn run_line(&mut self, line: &[u8]) -> Result<(), Fault>
         ensures show { self.new.show ≡ self.old.show }
-        ensures runs { OnOk result (Runs self.old.show self.old.engine (W.contents self.old.output) (line.now ∷ []) self.new.engine (W.contents self.new.output)) }
+        ensures runs { OnOk result (Runs self.old.show self.old.engine.content (W.contents self.old.output) (line.now ∷ []) self.new.engine.content (W.contents self.new.output)) }
     {
         self.lines = self.lines.saturating_add(1);
         let text = match serve_line(self.alloc, &mut self.engine, self.show, line) {
@@ -51,7 +51,7 @@ impl<W: Write> Session<W> {
     fn run_lines<'t>(&mut self, text: &'t [u8]) -> Result<&'t [u8], Fault>
         ensures show { self.new.show ≡ self.old.show }
         ensures part { IfOk result (λ part. IsPart part.now) }
-        ensures runs { IfOk result (λ part. RunsWhole self.old.show self.old.engine (W.contents self.old.output) text.now part.now self.new.engine (W.contents self.new.output)) }
+        ensures runs { IfOk result (λ part. RunsWhole self.old.show self.old.engine.content (W.contents self.old.output) text.now part.now self.new.engine.content (W.contents self.new.output)) }
     {
         let mut rest = text;
         'lines: while let Some(end) = memchr(b'\n', rest) {
@@ -64,7 +64,7 @@ impl<W: Write> Session<W> {
     // Sends on what was answered.
     fn send(&mut self) -> Result<(), Fault>
         ensures show { self.new.show ≡ self.old.show }
-        ensures engine { self.new.engine ≡ self.old.engine }
+        ensures engine { self.new.engine.content ≡ self.old.engine.content }
         ensures output { Keeps (W.contents self.old.output) (W.contents self.new.output) }
     {
         match self.output.flush() {
@@ -88,7 +88,7 @@ impl<W: Write> Script<W> {
         requires { self.old.part.items ≡ [] }
         ensures show { self.new.session.show ≡ self.old.session.show }
         ensures part { OnOk result (IsPart self.new.part.items) }
-        ensures runs { OnOk result (RunsWhole self.old.session.show self.old.session.engine (W.contents self.old.session.output) piece.now self.new.part.items self.new.session.engine (W.contents self.new.session.output)) }
+        ensures runs { OnOk result (RunsWhole self.old.session.show self.old.session.engine.content (W.contents self.old.session.output) piece.now self.new.part.items self.new.session.engine.content (W.contents self.new.session.output)) }
     {
         let part = self.session.run_lines(piece)?;
         self.part.extend_from_slice(part)?;
@@ -100,7 +100,7 @@ impl<W: Write> Script<W> {
         requires { IsPart self.old.part.items }
         ensures show { self.new.session.show ≡ self.old.session.show }
         ensures part { OnOk result (IsPart self.new.part.items) }
-        ensures runs { OnOk result (RunsWhole self.old.session.show self.old.session.engine (W.contents self.old.session.output) (self.old.part.items ++ piece.now) self.new.part.items self.new.session.engine (W.contents self.new.session.output)) }
+        ensures runs { OnOk result (RunsWhole self.old.session.show self.old.session.engine.content (W.contents self.old.session.output) (self.old.part.items ++ piece.now) self.new.part.items self.new.session.engine.content (W.contents self.new.session.output)) }
     {
         if self.part.is_empty() {
             return self.begin(piece);
@@ -117,7 +117,7 @@ impl<W: Write> Script<W> {
 
     // Behind the last piece: what is left is a line, unless it is empty.
     fn finish(&mut self) -> Result<(), Fault>
-        ensures runs { OnOk result (Runs self.old.session.show self.old.session.engine (W.contents self.old.session.output) (without_empty_end (self.old.part.items ∷ [])) self.new.session.engine (W.contents self.new.session.output)) }
+        ensures runs { OnOk result (Runs self.old.session.show self.old.session.engine.content (W.contents self.old.session.output) (without_empty_end (self.old.part.items ∷ [])) self.new.session.engine.content (W.contents self.new.session.output)) }
     {
         if self.part.is_empty() {
             return Ok(());
@@ -134,7 +134,7 @@ fn run_pieces<I: Read, W: Write>(
 ) -> Result<(), Fault>
     requires room { 0 < length buffer.old }
     requires begins { script.old.part.items ≡ [] }
-    ensures runs { OnOk result (RunsInput script.old.session.show script.old.session.engine (W.contents script.old.session.output) (I.remaining input.old) (I.remaining input.new) script.new.session.engine (W.contents script.new.session.output)) }
+    ensures runs { OnOk result (RunsInput script.old.session.show script.old.session.engine.content (W.contents script.old.session.output) (I.remaining input.old) (I.remaining input.new) script.new.session.engine.content (W.contents script.new.session.output)) }
 {
     'pieces: for _ in 0..READS_MAX {
         script.session.send()?;
@@ -149,19 +149,15 @@ fn run_pieces<I: Read, W: Write>(
     Err(Fault::CannotReadInput)
 }
 
-/// Runs a script from the input on a new service, and writes its answers to the output. The first fault ends it; the
-/// answers before it are written.
-pub(crate) fn run_script<I: Read, O: Write>(
+// Runs a script from the input on a new service.
+fn run_on<I: Read, W: Write + Drop>(
     alloc: Global,
     options: RunOptions,
     input: &mut I,
-    output: &mut O,
+    output: W,
 ) -> Result<(), Fault> {
     let mut buffer = Vec::new(alloc);
     buffer.resize(PIECE, 0u8)?;
-    let Ok(output) = BufWriter::with_capacity(alloc, PIECE, output) else {
-        return Err(Fault::OutOfMemory);
-    };
     let mut script = Script {
         session: Session {
             alloc,
@@ -178,4 +174,18 @@ pub(crate) fn run_script<I: Read, O: Write>(
     }
     script.session.send()?;
     ended
+}
+
+/// Runs a script from the input on a new service, and writes its answers to the output. The first fault ends it; the
+/// answers before it are written.
+pub(crate) fn run_script<I: Read, O: Write>(
+    alloc: Global,
+    options: RunOptions,
+    input: &mut I,
+    output: &mut O,
+) -> Result<(), Fault> {
+    match BufWriter::with_capacity(alloc, PIECE, output) {
+        Err(_) => Err(Fault::OutOfMemory),
+        Ok(output) => run_on(alloc, options, input, output),
+    }
 }

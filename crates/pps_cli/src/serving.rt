@@ -66,8 +66,8 @@ pub(crate) fn serve_line(
     show: bool,
     line: &[u8],
 ) -> Result<Vec<u8>, LineFault>
-    ensures served { IfOk result (λ text. serving.Serves show engine.old (line_of line.now) text.items engine.new) }
-    ensures bad { IfErr result (λ fault. serving.IsBadFor engine.old (line_of line.now) engine.new fault) }
+    ensures served { IfOk result (λ text. serving.Serves show engine.old.content (line_of line.now) text.items engine.new.content) }
+    ensures bad { IfErr result (λ fault. serving.IsBadFor engine.old.content (line_of line.now) engine.new.content fault) }
 {
     match read_line(alloc, line)? {
         None => Err(LineFault::BadLine),

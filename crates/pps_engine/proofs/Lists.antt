@@ -7,7 +7,7 @@ use Rattle.pps_types.specs.declared.event.Event.{Event}
 use Rattle.pps_types.specs.Outcome.{Reply}
 use Rattle.pps_types.specs.Content.{Content}
 use Rattle.pps_types.specs.Stands.{StepsSeen, RunsSeen}
-use Rattle.pps_engine.specs.Runs.{answered}
+use Rattle.pps_types.specs.Runs.{answered}
 
 append-onto : {X : Type 0} (xs ys : List X) (x : X) → (xs ++ x ∷ []) ++ ys ≡ xs ++ x ∷ ys
 append-onto [] ys x = refl

@@ -1,5 +1,5 @@
 -- An answer with bytes may be wanted memory for.
-use Rattle.std.specs.Prelude.{◌≡◌, ℕ, List, [], ◌∷◌, ◌++◌, ◌==◌, ◌&&◌, not, Bool, true, false, cond, if◌then◌else◌, Option, Some, None, Result, Ok, Err, find, length, refl}
+use Rattle.std.specs.Prelude.{◌≡◌, ℕ, List, [], ◌∷◌, ◌++◌, not, true, false, cond, if◌then◌else◌, Option, Some, None, Result, Ok, Err, length, refl}
 use Rattle.std.specs.Option.{option_map_or}
 use Rattle.pps_types.specs.declared.refusal.Refusal.{Refusal}
 use Rattle.pps_types.specs.declared.event.Event.{Event}
@@ -9,14 +9,14 @@ use Rattle.pps_types.specs.declared.outcome.Outcome.{Outcome}
 use Rattle.pps_types.specs.declared.outcome.Item.{Item}
 use Rattle.pps_types.specs.Outcome.{has_bytes, item_has_bytes}
 use Rattle.pps_types.specs.Text.{WriteText, write_text}
-use Rattle.pps_types.specs.Reading.{Open, Seen, Answer, Everything, Blocks, Needs, TargetGone, Waits, Nothing}
+use Rattle.pps_types.specs.Reading.{Open, Answer, Everything, Blocks, Needs, TargetGone, Waits, Nothing}
+use Rattle.pps_types.specs.Rests.{Seen}
 use Rattle.pps_types.specs.Outbox.{arms, first_of, park_refusal}
-use Rattle.pps_types.specs.Content.{Content, is_attached, handle_numbered, queue_of, outbox_of, read_answer, news}
+use Rattle.pps_types.specs.Content.{Content, is_attached, own_handle, queue_of, outbox_of, read_answer, news}
 use Rattle.pps_types.specs.Checks.{Check, Refuse, Memory, first_refusal, reaches_memory, refused, on_handle, answer_checks, read_checks, checks}
 use Rattle.pps_types.specs.Plan.{Move, Arms, effect, writing, closing, received, with_result, apply_all_seen, passes_last_number, decided, all_checks_of, plan, step_seen, may_lack_memory}
-use Rattle.content_bounds.specs.Bounds.{IsBound}
-use Rattle.content_bounds.proofs.Effects.{passes-both, all-pass, none-fails}
-use Rattle.pps_engine.proofs.Taken.{own, own-checks}
+use Rattle.pps_types.proofs.Passes.{passes-both, all-pass, none-fails, behind}
+use Rattle.pps_engine.proofs.Taken.{own-checks}
 
 -- the mark is among the checks
 abbrev HasMark : List Check → Type 0
@@ -43,25 +43,21 @@ answer-mark c h size Waits p = mark-behind (park_refusal (outbox_of c h.connecti
 answer-mark c h size (Needs need) p = absurd (let e = p in cc)
 answer-mark c h size TargetGone p = absurd (let e = p in cc)
 
-behind : (fails : Bool) (r : Refusal) (cs : List Check) → first_refusal (Refuse fails r ∷ cs) ≡ None → first_refusal cs ≡ None
-behind true r cs p = absurd (let h = p in cc)
-behind false r cs p = p
-
-bytes-mark : (c : Content) (conn : ℕ) (request : Request) → IsBound c → first_refusal (checks c conn request) ≡ None → has_bytes (effect c conn request).0 ≡ true → HasMark (checks c conn request)
+bytes-mark : (c : Content) (conn : ℕ) (request : Request) → first_refusal (checks c conn request) ≡ None → has_bytes (effect c conn request).0 ≡ true → HasMark (checks c conn request)
 unfolding checks effect
-bytes-mark c conn Attach b p e = absurd (let h = e in cc)
-bytes-mark c conn Detach b p e = tt
-bytes-mark c conn (OpenRequest mode text) b p e = tt
-bytes-mark c conn (Read handle size) b p e = on (find (λ h. (h.number == handle) && (h.connection == conn)) c.handles) refl
+bytes-mark c conn Attach p e = absurd (let h = e in cc)
+bytes-mark c conn Detach p e = tt
+bytes-mark c conn (OpenRequest mode text) p e = tt
+bytes-mark c conn (Read handle size) p e = on (own_handle c conn handle) refl
   where
     q : first_refusal (on_handle c conn handle (read_checks c size)) ≡ None
-    q = behind (not (is_attached c conn)) Refusal.NotAttached (on_handle c conn handle (read_checks c size)) p
+    q = (behind (not (is_attached c conn)) Refusal.NotAttached (on_handle c conn handle (read_checks c size)) p).1
 
-    on : (o : Option (Open Seen)) → own c conn handle ≡ o → HasMark (on_handle c conn handle (read_checks c size))
+    on : (o : Option (Open Seen)) → own_handle c conn handle ≡ o → HasMark (on_handle c conn handle (read_checks c size))
     on None f = absurd (let h = rw f at q in cc)
     on (Some h) f = rw (own-checks c conn handle h (read_checks c size) f) (answer-mark c h size (read_answer c h size)
         (none-fails (answer_checks c h (read_answer c h size)) (all-pass (read_checks c size h) (rw (own-checks c conn handle h (read_checks c size) f) at q)).1.1.1))
-bytes-mark c conn (Write handle bytes) b p e = absurd (on (handle_numbered c handle) e)
+bytes-mark c conn (Write handle bytes) p e = absurd (on (own_handle c conn handle) e)
   where
     go : (h : Open Seen) (r : Result WriteText Refusal) → has_bytes (with_result r (λ text. (Outcome.Wrote (length bytes), writing c h text))).0 ≡ true → ⊥
     go h (Ok text) e = let f = e in cc
@@ -70,28 +66,28 @@ bytes-mark c conn (Write handle bytes) b p e = absurd (on (handle_numbered c han
     on : (o : Option (Open Seen)) → has_bytes (option_map_or {U = Outcome × List Move} (λ h. with_result (write_text bytes) (λ text. (Outcome.Wrote (length bytes), writing c h text))) o (Outcome.Done, [])).0 ≡ true → ⊥
     on None e = let f = e in cc
     on (Some h) e = go h (write_text bytes) e
-bytes-mark c conn (Close handle) b p e = absurd (go (handle_numbered c handle) e)
+bytes-mark c conn (Close handle) p e = absurd (go (own_handle c conn handle) e)
   where
     go : (o : Option (Open Seen)) → has_bytes (option_map_or {U = Outcome × List Move} (λ h. (Outcome.Done, closing c h)) o (Outcome.Done, [])).0 ≡ true → ⊥
     go None e = let f = e in cc
     go (Some h) e = let f = e in cc
-bytes-mark c conn (Unlink path) b p e = tt
-bytes-mark c conn (Mkdir path) b p e = tt
-bytes-mark c conn (ListRequest path) b p e = tt
-bytes-mark c conn (Notify handle action code value) b p e = absurd (go (handle_numbered c handle) e)
+bytes-mark c conn (Unlink path) p e = tt
+bytes-mark c conn (Mkdir path) p e = tt
+bytes-mark c conn (ListRequest path) p e = tt
+bytes-mark c conn (Notify handle action code value) p e = absurd (go (own_handle c conn handle) e)
   where
     go : (o : Option (Open Seen)) → has_bytes (option_map_or {U = Outcome × List Move} (λ h. (Outcome.Input (news h), Arms h.number (if arms action (news h) then Some (code, value) else None) ∷ [])) o (Outcome.Done, [])).0 ≡ true → ⊥
     go None e = let f = e in cc
     go (Some h) e = let f = e in cc
-bytes-mark c conn Receive b p e = go (first_of (queue_of c conn)) e
+bytes-mark c conn Receive p e = go (first_of (queue_of c conn)) e
   where
     go : (o : Option Item) → has_bytes (received conn o).0 ≡ true → HasMark (cond (option_map_or item_has_bytes o false) (Memory ∷ []) [])
     go None e = absurd (let f = e in cc)
     go (Some item) e = rw e tt
 
-pub bytes-may-lack : (c : Content) (e : Event) (reply : Outcome) → IsBound c → (step_seen c e).0 ≡ Ok reply → has_bytes reply ≡ true → may_lack_memory c e ≡ true
+pub bytes-may-lack : (c : Content) (e : Event) (reply : Outcome) → (step_seen c e).0 ≡ Ok reply → has_bytes reply ≡ true → may_lack_memory c e ≡ true
 unfolding plan step_seen
-bytes-may-lack c e reply b is bytes = go (first_refusal (all_checks_of c e)) refl is
+bytes-may-lack c e reply is bytes = go (first_refusal (all_checks_of c e)) refl is
   where
     done : Outcome × List Move
     done = effect c e.conn e.request
@@ -101,4 +97,4 @@ bytes-may-lack c e reply b is bytes = go (first_refusal (all_checks_of c e)) ref
     go None p is =
         let passes = (passes-both (checks c e.conn e.request) (Refuse (passes_last_number (apply_all_seen done.1 c)) Refusal.TableFull ∷ []) p).0 in
         let same : done.0 ≡ reply = cc in
-        mark-reached (checks c e.conn e.request) (bytes-mark c e.conn e.request b passes (rw same bytes)) passes
+        mark-reached (checks c e.conn e.request) (bytes-mark c e.conn e.request passes (rw same bytes)) passes

@@ -1,6 +1,6 @@
 -- From checks, an answer and moves to the step of an event.
-use Rattle.std.proofs.Common.{inl, inr, ap, sym, ◌∙◌, arith, subst}
-use Rattle.std.specs.Prelude.{◌≡◌, ◌<◌, ◌+◌, ℕ, List, [], ◌∷◌, ◌++◌, ◌==◌, if◌then◌else◌, Bool, true, false, not, ◌&&◌, cond, Option, Some, None, is_some, ◌⊎◌, Ok, Err, find, map, refl}
+use Rattle.std.proofs.Common.{inl, inr, ap, sym, ◌∙◌, subst}
+use Rattle.std.specs.Prelude.{◌≡◌, ℕ, List, [], ◌∷◌, ◌++◌, ◌==◌, if◌then◌else◌, Bool, true, false, not, ◌&&◌, cond, Option, Some, None, is_some, ◌⊎◌, Ok, Err, refl}
 use Rattle.std.specs.List.{AllByRecursion, flat_map}
 use Rattle.std.specs.Option.{option_map_or}
 use Rattle.pps_types.specs.declared.refusal.Refusal.{Refusal}
@@ -8,8 +8,9 @@ use Rattle.pps_types.specs.declared.refusal.Refusal.TheVariants.{OutOfMemory, Ta
 use Rattle.pps_types.specs.declared.event.Event.{Event}
 use Rattle.pps_types.specs.declared.outcome.Outcome.{Outcome}
 use Rattle.pps_types.specs.Outcome.{is_marked, item_has_bytes, IsSendable}
-use Rattle.pps_types.specs.Reading.{Open, Seen, is_directory_kind}
-use Rattle.pps_types.specs.Content.{Content, Known, object_numbered, target_is_dead, is_attached, handle_numbered, handles_of, queue_of, news}
+use Rattle.pps_types.specs.Reading.{Open, is_directory_kind}
+use Rattle.pps_types.specs.Rests.{Seen}
+use Rattle.pps_types.specs.Content.{Content, Known, object_numbered, target_is_dead, is_attached, own_handle, handle_numbered, handles_of, queue_of, news}
 use Rattle.pps_types.specs.Checks.{Check, Refuse, Memory, first_refusal, reaches_memory, notify_checks, close_checks, drops, checks}
 use Rattle.pps_types.specs.declared.event.Action.{Action}
 use Rattle.pps_types.specs.declared.event.Request.TheVariants.{Notify, Receive, Close, Detach}
@@ -18,23 +19,24 @@ use Rattle.pps_types.specs.declared.outcome.Item.TheVariants.{ReadDone}
 use Rattle.pps_types.specs.declared.record.Kind.TheVariants.{Dropped}
 use Rattle.pps_types.specs.declared.handle_kind.HandleKind.{HandleKind}
 use Rattle.pps_types.specs.declared.handle_kind.HandleKind.TheVariants.{Object as ObjectHandle, Directory as DirectoryHandle, Names as NamesHandle, Server as ServerHandle, Client as ClientHandle}
-use Rattle.pps_engine.specs.Planned.{ending, after_step, has_parked}
+use Rattle.pps_engine.specs.Planned.{ending, after_step, has_parked, IsSound}
 use Rattle.pps_engine.specs.Carried.{Carries}
-use Rattle.pps_engine.specs.declared.in_place.Plan.{Plan}
+use Rattle.pps_engine.specs.declared.in_place.Prepared.{Prepared}
 use Rattle.pps_types.specs.Outbox.{arms, first_of}
-use Rattle.pps_engine.proofs.Taken.{own, own-numbered, own-checks, own-effect, attached-passes, attached-wants}
+use Rattle.pps_engine.proofs.Taken.{own-checks, own-effect, attached-passes, attached-wants}
 use Rattle.pps_types.specs.Plan.{without_number, on_numbered, Parks, received, closing, closings, Leaves, parting, on_target, Move, Arms, Closes, Queues, effect, apply_seen, apply_all_seen, settling, settling_handle, had_news, passes_last_number, plan, all_checks_of, step_seen}
 use Rattle.pps_types.specs.Stands.{StepsSeen}
 use Rattle.pps_types.proofs.Lists.{append-nil, all-on_first, all-without_first}
 use Rattle.engine_moves.specs.Moves.{CannotHappen}
 use Rattle.engine_moves.specs.Takes.{Fails}
 use Rattle.engine_handles.proofs.Closings.{applied_append}
-use Rattle.std.proofs.lemmas.Bool.{eq-eqb, ne_eqb, eqb-true}
-use Rattle.content_bounds.proofs.Lists.{find-true}
+use Rattle.pps_types.specs.WellFormed.{IsContent}
+use Rattle.pps_types.proofs.Finds.{all-find}
+use Rattle.pps_types.proofs.Rising.{found-each}
+use Rattle.pps_types.proofs.WellSteps.{step-content}
 use Rattle.content_bounds.proofs.Events.{step-keeps, step-sends}
-use Rattle.content_bounds.proofs.Paths.{and-true}
-use Rattle.content_bounds.specs.Bounds.{AreRising, IsBound}
-use Rattle.content_bounds.proofs.Refusals.{checks-want-nothing}
+use Rattle.content_bounds.specs.Bounds.{IsBound}
+use Rattle.pps_types.proofs.Refusals.{checks-want-nothing}
 
 -- ---- lists of checks
 
@@ -83,7 +85,7 @@ pub table-full : (c : Content) (e : Event) (reply : Outcome) (xs : List Move) �
     → passes_last_number (apply_all_seen xs c) ≡ true → StepsSeen c e (Err TableFull) c
 table-full c e reply xs passes does numbers = refused-with c e TableFull (behind-none (checks c e.conn e.request) _ passes ∙ rw (does, numbers) refl) refl
 
-pub carried : (c : Content) (e : Event) (reply : Outcome) (xs : List Move) (p : Plan) → first_refusal (checks c e.conn e.request) ≡ None → effect c e.conn e.request ≡ (reply, xs) → Carries c reply xs p → StepsSeen c e (Ok p.reply) (after_step c p.step)
+pub carried : (c : Content) (e : Event) (reply : Outcome) (xs : List Move) (p : Prepared) → first_refusal (checks c e.conn e.request) ≡ None → effect c e.conn e.request ≡ (reply, xs) → Carries c reply xs p → StepsSeen c e (Ok p.reply) (after_step c p.step)
 carried c e reply xs p passes does k = rw k.reply_is (planned c e reply xs (after_step c p.step) passes does k.numbers k.settled)
 
 pub cannot : (c : Content) (e : Event) (reply : Outcome) (xs : List Move) (r : Refusal) → first_refusal (checks c e.conn e.request) ≡ None → reaches_memory (checks c e.conn e.request) ≡ true → effect c e.conn e.request ≡ (reply, xs)
@@ -110,53 +112,41 @@ pub settles-still : (c d : Content) → AllByRecursion (λ h. had_news c h ≡ n
 unfolding settling
 settles-still c d all = still c d d.handles all
 
-found-each : (low high : ℕ) (hs : List (Open Seen)) → AreRising low (map (λ h. h.number) hs) high → AllByRecursion (λ h. find (λ g. g.number == h.number) hs ≡ Some h) hs
-found-each low high [] r = tt
-found-each low high (x ∷ xs) r = (ap (λ b. cond b (Some x) (find (λ g. g.number == x.number) xs)) (eq-eqb x.number x.number refl), later xs (above (x.number + 1) xs (omega arith) r.1) (found-each (x.number + 1) high xs r.1))
-  where
-    above : (low : ℕ) (zs : List (Open Seen)) → x.number < low → AreRising low (map (λ h. h.number) zs) high → AllByRecursion (λ z. x.number < z.number) zs
-    above low [] lt r = tt
-    above low (z ∷ zs) lt r = (omega (arith, lt, r.0), above (z.number + 1) zs (omega (arith, lt, r.0)) r.1)
-
-    later : (zs : List (Open Seen)) → AllByRecursion (λ z. x.number < z.number) zs → AllByRecursion (λ h. find (λ g. g.number == h.number) xs ≡ Some h) zs → AllByRecursion (λ h. find (λ g. g.number == h.number) (x ∷ xs) ≡ Some h) zs
-    later [] up found = tt
-    later (z ∷ zs) up found = (ap (λ b. cond b (Some x) (find (λ g. g.number == z.number) xs)) (ne_eqb x.number z.number (λ same. omega (arith, same, up.0))) ∙ found.0, later zs up.1 found.1)
-
 -- everyone's news are what they were
-pub as-before : (c : Content) → IsBound c → AllByRecursion (λ h. had_news c h ≡ news h) c.handles
-as-before c b = same-news c c.handles (found-each 0 c.next_handle c.handles b.handles_rise)
+pub as-before : (c : Content) → IsContent c → AllByRecursion (λ h. had_news c h ≡ news h) c.handles
+as-before c w = same-news c c.handles (found-each (λ (h : Open Seen). h.number) 0 c.next_handle c.handles w.order.handles_rise)
 
 pub still-planned : (c : Content) (e : Event) (reply : Outcome) (xs : List Move) → first_refusal (checks c e.conn e.request) ≡ None → effect c e.conn e.request ≡ (reply, xs)
     → passes_last_number (apply_all_seen xs c) ≡ false → AllByRecursion (λ h. had_news c h ≡ news h) (apply_all_seen xs c).handles → StepsSeen c e (Ok reply) (apply_all_seen xs c)
 still-planned c e reply xs passes does numbers all =
     planned c e reply xs (apply_all_seen xs c) passes does numbers (sym (ap (λ moves. apply_all_seen moves (apply_all_seen xs c)) (settles-still c (apply_all_seen xs c) all)))
 
-pub settles_unchanged : (c : Content) → IsBound c → settling c c ≡ []
-settles_unchanged c b = settles-still c c (as-before c b)
+pub settles_unchanged : (c : Content) → IsContent c → settling c c ≡ []
+settles_unchanged c w = settles-still c c (as-before c w)
 
 -- ---- Notify
 
-pub notified : (c : Content) (conn handle : ℕ) (action : Action) (code value : ℕ) (h : Open Seen) (told : Bool) (pulse : Option (ℕ × ℕ)) → IsBound c → is_attached c conn ≡ true → own c conn handle ≡ Some h
+pub notified : (c : Content) (conn handle : ℕ) (action : Action) (code value : ℕ) (h : Open Seen) (told : Bool) (pulse : Option (ℕ × ℕ)) → IsContent c → is_attached c conn ≡ true → own_handle c conn handle ≡ Some h
     → passes_last_number c ≡ false → first_refusal (notify_checks c action code h) ≡ None → told ≡ news h → pulse ≡ (if arms action (news h) then Some (code, value) else None)
     → StepsSeen c (record { conn = conn; request = Notify handle action code value }) (Ok (Outcome.Input told)) (apply_seen (Arms h.number pulse) c)
 unfolding effect
-notified c conn handle action code value h told pulse b there own numbers passes news_is pulse_is =
+notified c conn handle action code value h told pulse w there own numbers passes news_is pulse_is =
     still-planned c (record { conn = conn; request = Notify handle action code value }) (Outcome.Input told) (Arms h.number pulse ∷ [])
     (attached-passes c conn (Notify handle action code value) refl there (rw (own-checks c conn handle h (notify_checks c action code) own) passes))
-    (own-effect c handle h (λ h. (Outcome.Input (news h), Arms h.number (if arms action (news h) then Some (code, value) else None) ∷ [])) (own-numbered c conn handle h b own)
+    (own-effect c conn handle h (λ h. (Outcome.Input (news h), Arms h.number (if arms action (news h) then Some (code, value) else None) ∷ [])) own
     ∙ (λ i. (Outcome.Input (sym news_is i), Arms h.number (sym pulse_is i) ∷ [])))
     numbers
-    (all-on_first (λ (h : Open Seen). had_news c h ≡ news h) (λ h. h.number == number) (λ h. record h { armed = pulse }) (λ h same. same) c.handles (as-before c b))
+    (all-on_first (λ (h : Open Seen). had_news c h ≡ news h) (λ h. h.number == number) (λ h. record h { armed = pulse }) (λ h same. same) c.handles (as-before c w))
   where
     number : ℕ
     number = h.number
 
 -- ---- Receive
 
-pub receives : (c : Content) (conn : ℕ) → IsBound c → is_attached c conn ≡ true → passes_last_number c ≡ false → (o : Option Item) → first_of (queue_of c conn) ≡ o
+pub receives : (c : Content) (conn : ℕ) → IsContent c → is_attached c conn ≡ true → passes_last_number c ≡ false → (o : Option Item) → first_of (queue_of c conn) ≡ o
     → StepsSeen c (record { conn = conn; request = Receive }) (Ok (received conn o).0) (apply_all_seen (received conn o).1 c)
 unfolding effect
-receives c conn b there numbers o is =
+receives c conn w there numbers o is =
     still-planned c (record { conn = conn; request = Receive }) (received conn o).0 (received conn o).1
     (attached-passes c conn Receive refl there (none (option_map_or item_has_bytes (first_of (queue_of c conn)) false)))
     (ap (received conn) is) (by o) (handles o)
@@ -170,8 +160,8 @@ receives c conn b there numbers o is =
     by (Some item) = numbers
 
     handles : (o : Option Item) → AllByRecursion (λ h. had_news c h ≡ news h) (apply_all_seen (received conn o).1 c).handles
-    handles None = as-before c b
-    handles (Some item) = as-before c b
+    handles None = as-before c w
+    handles (Some item) = as-before c w
 
 -- ---- Close of a handle that tells nobody else
 
@@ -204,14 +194,14 @@ plain-parting c h ClientHandle e none = absurd (let h = rw e at none in cc)
 plain-parting c h (DirectoryHandle delta) e none = refl
 plain-parting c h NamesHandle e none = refl
 
-pub ends : (c : Content) (conn handle : ℕ) (h : Open Seen) → IsBound c → is_attached c conn ≡ true → own c conn handle ≡ Some h → passes_last_number c ≡ false
+pub ends : (c : Content) (conn handle : ℕ) (h : Open Seen) → IsContent c → is_attached c conn ≡ true → own_handle c conn handle ≡ Some h → passes_last_number c ≡ false
     → first_refusal (close_checks c h) ≡ None → reaches_memory (close_checks c h) ≡ false
     → StepsSeen c (record { conn = conn; request = Close handle }) (Ok Outcome.Done) (apply_all_seen (ending h.number h.connection (is_some h.parked)) c)
 unfolding effect
-ends c conn handle h b there own numbers passes none =
+ends c conn handle h w there own numbers passes none =
     still-planned c (record { conn = conn; request = Close handle }) Outcome.Done (ending h.number h.connection (is_some h.parked))
     (attached-passes c conn (Close handle) refl there (rw (own-checks c conn handle h (close_checks c) own) passes))
-    (own-effect c handle h (λ h. (Outcome.Done, closing c h)) (own-numbered c conn handle h b own) ∙ (λ i. (Outcome.Done, Closes h.number ∷ plain i)))
+    (own-effect c conn handle h (λ h. (Outcome.Done, closing c h)) own ∙ (λ i. (Outcome.Done, Closes h.number ∷ plain i)))
     (by (is_some h.parked)) (handles (is_some h.parked))
   where
     plain : (if is_some h.parked then Queues h.connection (ReadDone h.number (Err BadHandle)) ∷ [] else []) ++ parting c h h.kind ≡ (if is_some h.parked then Queues h.connection (ReadDone h.number (Err BadHandle)) ∷ [] else [])
@@ -222,29 +212,29 @@ ends c conn handle h b there own numbers passes none =
     by false = numbers
 
     handles : (k : Bool) → AllByRecursion (λ h. had_news c h ≡ news h) (apply_all_seen (ending h.number h.connection k) c).handles
-    handles true = all-without_first (λ (h : Open Seen). had_news c h ≡ news h) (λ g. g.number == h.number) c.handles (as-before c b)
-    handles false = all-without_first (λ (h : Open Seen). had_news c h ≡ news h) (λ g. g.number == h.number) c.handles (as-before c b)
+    handles true = all-without_first (λ (h : Open Seen). had_news c h ≡ news h) (λ g. g.number == h.number) c.handles (as-before c w)
+    handles false = all-without_first (λ (h : Open Seen). had_news c h ≡ news h) (λ g. g.number == h.number) c.handles (as-before c w)
 
 -- ---- Close of a handle that tells others, and Detach
 
-pub closes : (c : Content) (conn handle : ℕ) (h : Open Seen) (p : Plan) → IsBound c → is_attached c conn ≡ true → own c conn handle ≡ Some h → first_refusal (close_checks c h) ≡ None
+pub closes : (c : Content) (conn handle : ℕ) (h : Open Seen) (p : Prepared) → is_attached c conn ≡ true → own_handle c conn handle ≡ Some h → first_refusal (close_checks c h) ≡ None
     → Carries c Outcome.Done (closing c h) p → StepsSeen c (record { conn = conn; request = Close handle }) (Ok p.reply) (after_step c p.step)
 unfolding effect
-closes c conn handle h p b there own passes k =
+closes c conn handle h p there own passes k =
     carried c (record { conn = conn; request = Close handle }) Outcome.Done (closing c h) p
     (attached-passes c conn (Close handle) refl there (rw (own-checks c conn handle h (close_checks c) own) passes))
-    (own-effect c handle h (λ h. (Outcome.Done, closing c h)) (own-numbered c conn handle h b own)) k
+    (own-effect c conn handle h (λ h. (Outcome.Done, closing c h)) own) k
 
-pub cannot-close : (c : Content) (conn handle : ℕ) (h : Open Seen) (r : Refusal) → IsBound c → is_attached c conn ≡ true → own c conn handle ≡ Some h → first_refusal (close_checks c h) ≡ None → reaches_memory (close_checks c h) ≡ true
+pub cannot-close : (c : Content) (conn handle : ℕ) (h : Open Seen) (r : Refusal) → is_attached c conn ≡ true → own_handle c conn handle ≡ Some h → first_refusal (close_checks c h) ≡ None → reaches_memory (close_checks c h) ≡ true
     → CannotHappen (apply_all_seen (closing c h) c) r → StepsSeen c (record { conn = conn; request = Close handle }) (Err r) c
 unfolding effect
-cannot-close c conn handle h r b there own passes wants k =
+cannot-close c conn handle h r there own passes wants k =
     cannot c (record { conn = conn; request = Close handle }) Outcome.Done (closing c h) r
     (attached-passes c conn (Close handle) refl there (rw (own-checks c conn handle h (close_checks c) own) passes))
     (attached-wants c conn (Close handle) refl there (rw (own-checks c conn handle h (close_checks c) own) wants))
-    (own-effect c handle h (λ h. (Outcome.Done, closing c h)) (own-numbered c conn handle h b own)) k
+    (own-effect c conn handle h (λ h. (Outcome.Done, closing c h)) own) k
 
-pub detaches : (c : Content) (conn : ℕ) (p : Plan) → is_attached c conn ≡ true → Carries c Outcome.Done (closings c (handles_of c conn) ++ Leaves conn ∷ []) p → StepsSeen c (record { conn = conn; request = Detach }) (Ok p.reply) (after_step c p.step)
+pub detaches : (c : Content) (conn : ℕ) (p : Prepared) → is_attached c conn ≡ true → Carries c Outcome.Done (closings c (handles_of c conn) ++ Leaves conn ∷ []) p → StepsSeen c (record { conn = conn; request = Detach }) (Ok p.reply) (after_step c p.step)
 unfolding effect
 detaches c conn p there k = carried c (record { conn = conn; request = Detach }) Outcome.Done (closings c (handles_of c conn) ++ Leaves conn ∷ []) p (attached-passes c conn Detach refl there refl) refl k
 
@@ -269,11 +259,10 @@ closes_unparked c number = ap (λ hs. record c { handles = hs }) (without-change
 
 -- ---- the handle that a close found
 
-pub parked-known : (c : Content) (conn handle : ℕ) (h : Open Seen) → IsBound c → own c conn handle ≡ Some h → has_parked c h.number ≡ is_some h.parked
-parked-known c conn handle h b e =
-    let found = find-true (λ (h : Open Seen). (h.number == handle) && (h.connection == conn)) c.handles h e in
-    let is : h.number ≡ handle = eqb-true h.number handle (and-true (h.number == handle) (h.connection == conn) found).0 in
-    ap (λ n. has_parked c n) is ∙ ap (λ found. option_map_or (λ (h : Open Seen). is_some h.parked) found false) (own-numbered c conn handle h b e)
+pub parked-known : (c : Content) (conn handle : ℕ) (h : Open Seen) → IsContent c → own_handle c conn handle ≡ Some h → has_parked c h.number ≡ is_some h.parked
+parked-known c conn handle h w e =
+    let found : handle_numbered c h.number ≡ Some h = all-find (λ (h : Open Seen). handle_numbered c h.number ≡ Some h) (λ h. (h.number == handle) && (h.connection == conn)) c.handles h (found-each (λ (h : Open Seen). h.number) 0 c.next_handle c.handles w.order.handles_rise) e in
+    ap (λ found. option_map_or (λ (h : Open Seen). is_some h.parked) found false) found
 
 -- ---- what a plan promises
 
@@ -283,8 +272,8 @@ planned-reply c d e reply s = sym (ap (λ p. p.0) s.taken)
 pub planned-state : (c d : Content) (e : Event) (reply : Outcome) → StepsSeen c e (Ok reply) d → (step_seen c e).1 ≡ d
 planned-state c d e reply s = sym (ap (λ p. p.1) s.taken)
 
-pub planned-bound : (c d : Content) (e : Event) (reply : Outcome) → IsBound c → StepsSeen c e (Ok reply) d → IsBound d
-planned-bound c d e reply b s = rw (sym (planned-state c d e reply s)) (step-keeps c b e)
+pub planned-sound : (c d : Content) (e : Event) (reply : Outcome) → IsSound c → StepsSeen c e (Ok reply) d → IsSound d
+planned-sound c d e reply sound s = rw (sym (planned-state c d e reply s)) (record { formed = step-content c e sound.formed; bound = step-keeps c sound.formed sound.bound e })
 
 pub planned-sends : (c d : Content) (e : Event) (reply : Outcome) → IsBound c → StepsSeen c e (Ok reply) d → IsSendable (Ok reply)
 planned-sends c d e reply b s = rw (planned-reply c d e reply s) at (step-sends c b e)

@@ -1,19 +1,19 @@
 -- Requests that are refused or taken.
 use Rattle.std.proofs.Common.{inl, inr, arith}
-use Rattle.std.specs.Prelude.{◌≡◌, ℕ, List, ◌∷◌, ◌==◌, ◌&&◌, not, true, false, Option, Some, None, Result, Ok, Err, IfOk, IfErr, find, refl}
+use Rattle.std.specs.Prelude.{◌≡◌, ℕ, List, ◌∷◌, ◌==◌, ◌&&◌, not, true, false, Some, None, Result, Ok, Err, IfOk, IfErr, refl}
 use Rattle.pps_types.specs.declared.refusal.Refusal.{Refusal}
 use Rattle.pps_types.specs.declared.refusal.Refusal.TheVariants.{NotAttached, BadHandle}
 use Rattle.pps_types.specs.declared.event.Request.{Request}
 use Rattle.pps_types.specs.declared.event.Request.TheVariants.{Attach, Detach, Open as OpenRequest, Read, Write, Close, Unlink, Mkdir, List as ListRequest, Notify, Receive}
 use Rattle.pps_types.specs.declared.outcome.Outcome.{Outcome}
-use Rattle.pps_types.specs.Reading.{Open, Seen, Answer, Everything, Blocks, Needs, TargetGone, Waits, Nothing}
-use Rattle.pps_types.specs.Content.{Content, is_attached, handle_numbered, read_answer}
+use Rattle.pps_types.specs.Reading.{Open, Answer, Everything, Blocks, Needs, TargetGone, Waits, Nothing}
+use Rattle.pps_types.specs.Rests.{Seen}
+use Rattle.pps_types.specs.Content.{Content, is_attached, own_handle, read_answer}
 use Rattle.pps_types.specs.Checks.{Check, Refuse, Memory, first_refusal, reaches_memory, on_handle, request_checks, checks}
 use Rattle.pps_types.specs.Plan.{Move, with_handle}
 use Rattle.engine_moves.specs.declared.change.Done.{Done}
 use Rattle.engine_moves.specs.Takes.{Takes, TakesLate, Fails, FailsLate}
 use Rattle.content_bounds.specs.Bounds.{IsBound}
-use Rattle.content_bounds.proofs.Owners.{found-by-number}
 use Rattle.content_bounds.proofs.Effects.{bound-handle}
 use Rattle.content_bounds.proofs.Replies.{IsSmallNeed, small-read}
 use Rattle.engine_reads.specs.Measure.{is_too_long}
@@ -93,32 +93,26 @@ late-fails cs r (inr h) = inr (h, refl)
 
 -- ---- a handle
 
-abbrev pub own : Content → ℕ → ℕ → Option (Open Seen)
-own c conn handle = find (λ h. (h.number == handle) && (h.connection == conn)) c.handles
-
-pub own-numbered : (c : Content) (conn handle : ℕ) (h : Open Seen) → IsBound c → own c conn handle ≡ Some h → handle_numbered c handle ≡ Some h
-own-numbered c conn handle h b e = found-by-number (λ (h : Open Seen). h.number) (λ h. h.connection == conn) handle 0 c.next_handle c.handles b.handles_rise h e
-
-pub own-checks : (c : Content) (conn handle : ℕ) (h : Open Seen) (k : Open Seen → List Check) → own c conn handle ≡ Some h → on_handle c conn handle k ≡ k h
+pub own-checks : (c : Content) (conn handle : ℕ) (h : Open Seen) (k : Open Seen → List Check) → own_handle c conn handle ≡ Some h → on_handle c conn handle k ≡ k h
 own-checks c conn handle h k e = rw e refl
 
-pub own-effect : (c : Content) (handle : ℕ) (h : Open Seen) (k : Open Seen → Outcome × List Move) → handle_numbered c handle ≡ Some h → with_handle c handle k ≡ k h
-own-effect c handle h k e = rw e refl
+pub own-effect : (c : Content) (conn handle : ℕ) (h : Open Seen) (k : Open Seen → Outcome × List Move) → own_handle c conn handle ≡ Some h → with_handle c conn handle k ≡ k h
+own-effect c conn handle h k e = rw e refl
 
-pub own-takes : (c : Content) (conn handle : ℕ) (h : Open Seen) (k : Open Seen → List Check) (f : Open Seen → Outcome × List Move) (d : Done) → IsBound c → own c conn handle ≡ Some h → Takes (k h) (f h) d → Takes (on_handle c conn handle k) (with_handle c handle f) d
-own-takes c conn handle h k f d b e t = rw (own-checks c conn handle h k e, own-effect c handle h f (own-numbered c conn handle h b e)) t
+pub own-takes : (c : Content) (conn handle : ℕ) (h : Open Seen) (k : Open Seen → List Check) (f : Open Seen → Outcome × List Move) (d : Done) → own_handle c conn handle ≡ Some h → Takes (k h) (f h) d → Takes (on_handle c conn handle k) (with_handle c conn handle f) d
+own-takes c conn handle h k f d e t = rw (own-checks c conn handle h k e, own-effect c conn handle h f e) t
 
-pub own-fails : (c : Content) (conn handle : ℕ) (h : Open Seen) (k : Open Seen → List Check) (r : Refusal) → own c conn handle ≡ Some h → Fails (k h) r → Fails (on_handle c conn handle k) r
+pub own-fails : (c : Content) (conn handle : ℕ) (h : Open Seen) (k : Open Seen → List Check) (r : Refusal) → own_handle c conn handle ≡ Some h → Fails (k h) r → Fails (on_handle c conn handle k) r
 own-fails c conn handle h k r e f = rw (own-checks c conn handle h k e) f
 
-pub none-refuses : (c : Content) (conn handle : ℕ) (k : Open Seen → List Check) → own c conn handle ≡ None → first_refusal (on_handle c conn handle k) ≡ Some BadHandle
+pub none-refuses : (c : Content) (conn handle : ℕ) (k : Open Seen → List Check) → own_handle c conn handle ≡ None → first_refusal (on_handle c conn handle k) ≡ Some BadHandle
 none-refuses c conn handle k e = rw e refl
 
 -- ---- a read
 
 -- what it needs is a number of 32 bits
-pub short-read : (c : Content) (h : Open Seen) (number max : ℕ) → IsBound c → handle_numbered c number ≡ Some h → is_too_long (read_answer c h max) ≡ false
-short-read c h number max b e = go (read_answer c h max) (small-read c h max b (bound-handle c h number b e))
+pub short-read : (c : Content) (conn handle : ℕ) (h : Open Seen) (max : ℕ) → IsBound c → own_handle c conn handle ≡ Some h → is_too_long (read_answer c h max) ≡ false
+short-read c conn handle h max b e = go (read_answer c h max) (small-read c h max b (bound-handle c h (λ h. (h.number == handle) && (h.connection == conn)) b e))
   where
     go : (a : Answer) → IsSmallNeed a → is_too_long a ≡ false
     go (Needs need) small = grind (arith, nat_tests, small)

@@ -6,7 +6,7 @@ use Rattle.pps_types.specs.declared.outcome.Outcome.{Outcome}
 use Rattle.pps_types.specs.Content.{Content}
 use Rattle.pps_types.specs.Plan.{Move, apply_all_seen, settling, passes_last_number}
 use Rattle.pps_engine.specs.Planned.{after_step, IsStepReady}
-use Rattle.pps_engine.specs.declared.in_place.Plan.{Plan}
+use Rattle.pps_engine.specs.declared.in_place.Prepared.{Prepared}
 
 -- the others are planned by themselves
 abbrev pub is_taken : Request → Bool
@@ -17,7 +17,7 @@ is_taken Receive = false
 is_taken _ = true
 
 -- the moves, and what follows from them
-pub record Carries (c : Content) (reply : Outcome) (moves : List Move) (plan : Plan) : Type 0 where
+pub record Carries (c : Content) (reply : Outcome) (moves : List Move) (plan : Prepared) : Type 0 where
   pub numbers : passes_last_number (apply_all_seen moves c) ≡ false
   pub reply_is : plan.reply ≡ reply
   pub ready : IsStepReady c plan.step

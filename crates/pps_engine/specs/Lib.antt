@@ -1,3 +1,4 @@
+pub mod Serving
 pub mod Planned
 pub mod Carried
-pub mod Runs
+pub mod Private

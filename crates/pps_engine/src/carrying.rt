@@ -4,11 +4,11 @@ ghost use Rattle.pps_types.specs.declared.event.Request.TheVariants.{Close, Deta
 ghost use Rattle.pps_types.specs.Content as content;
 ghost use Rattle.pps_types.specs.Plan as planning;
 ghost use Rattle.engine_moves.specs.Moves.{moves, CannotHappen};
-ghost use Rattle.content_bounds.specs.Bounds.{IsBound};
+ghost use Rattle.pps_types.specs.WellFormed.{IsContent};
 ghost use Rattle.pps_engine.specs.Carried.{Carries, is_taken};
-ghost use Rattle.pps_engine.specs.Planned.{Plans, Refuses, after_step, IsStepReady};
+ghost use Rattle.pps_engine.specs.Planned.{Plans, Refuses, after_step, IsStepReady, IsSound};
 
-use crate::in_place::{Plan, Step, plan_notify, plan_receive};
+use crate::in_place::{Prepared, Step, plan_notify, plan_receive};
 use crate::taking::take;
 use engine_handles::{close, detach, does_close_take_memory, own_handle};
 use engine_moves::{Change, Done, apply_all};
@@ -34,7 +34,7 @@ pub(crate) fn settled(
     before: &State,
     reply: Outcome,
     mut next: State,
-) -> Result<Plan, AllocError>
+) -> Result<Prepared, AllocError>
     ensures numbers { planning.passes_last_number next ≡ false }
     ensures reply { IfOk result (λ p. p.reply ≡ reply) }
     ensures ready { IfOk result (λ p. IsStepReady before.now p.step) }
@@ -42,7 +42,7 @@ pub(crate) fn settled(
 {
     next.has_numbers();
     settle_all(alloc, before, &mut next)?;
-    Ok(Plan {
+    Ok(Prepared {
         reply,
         step: Step::Next(next),
     })
@@ -65,12 +65,12 @@ fn changed(alloc: Global, before: &State, changes: Vec<Change>) -> Result<State,
 
 // An answer that changes nothing: nothing follows from it.
 #[tactic(auto, using(crate::proofs::Steps::settles_unchanged))]
-fn unchanged(before: &State, reply: Outcome) -> Plan
-    requires { IsBound before.now }
+fn unchanged(before: &State, reply: Outcome) -> Prepared
+    requires { IsContent before.now }
     ensures { Carries before.now reply [] result }
 {
     before.has_numbers();
-    Plan {
+    Prepared {
         reply,
         step: Step::Keep,
     }
@@ -82,8 +82,8 @@ pub(crate) fn carry_out(
     before: &State,
     reply: Outcome,
     changes: Vec<Change>,
-) -> Result<Plan, Refusal>
-    requires { IsBound before.now }
+) -> Result<Prepared, Refusal>
+    requires { IsContent before.now }
     ensures ok { IfOk result (λ p. Carries before.now reply (moves changes.items) p) }
     ensures err { IfErr result (λ r. CannotHappen (planning.apply_all_seen (moves changes.items) before.now) r) }
 {
@@ -100,8 +100,8 @@ pub(crate) fn carry_out(
     }
 }
 
-fn close_on_copy(alloc: Global, before: &State, h: &Open) -> Result<Plan, Refusal>
-    requires { IsBound before.now }
+fn close_on_copy(alloc: Global, before: &State, h: &Open) -> Result<Prepared, Refusal>
+    requires { IsContent before.now }
     ensures ok { IfOk result (λ p. Carries before.now Outcome.Done (planning.closing before.now h.now) p) }
     ensures err { IfErr result (λ r. CannotHappen (planning.apply_all_seen (planning.closing before.now h.now) before.now) r) }
 {
@@ -117,8 +117,8 @@ pub(crate) fn plan_close(
     state: &State,
     conn: Conn,
     handle: Handle,
-) -> Result<Plan, Refusal>
-    requires { IsBound state.now }
+) -> Result<Prepared, Refusal>
+    requires { IsContent state.now }
     ensures ok { IfOk result (λ p. Plans state.now (record { conn = conn; request = Close handle }) p) }
     ensures ready { IfOk result (λ p. IsStepReady state.now p.step) }
     ensures err { IfErr result (λ r. Refuses state.now (record { conn = conn; request = Close handle }) r) }
@@ -133,13 +133,13 @@ pub(crate) fn plan_close(
     if does_close_take_memory(state, h) {
         return close_on_copy(alloc, state, h);
     }
-    Ok(Plan {
+    Ok(Prepared {
         reply: Outcome::Done,
         step: Step::End(h.number(), h.connection(), h.parked().is_some()),
     })
 }
 
-fn detach_on_copy(alloc: Global, before: &State, conn: Conn) -> Result<Plan, Refusal>
+fn detach_on_copy(alloc: Global, before: &State, conn: Conn) -> Result<Prepared, Refusal>
     ensures ok { IfOk result (λ p. Carries before.now Outcome.Done (planning.closings before.now (content.handles_of before.now conn) ++ planning.Leaves conn ∷ []) p) }
     ensures err { IfErr result (λ r. CannotHappen (planning.apply_all_seen (planning.closings before.now (content.handles_of before.now conn) ++ planning.Leaves conn ∷ []) before.now) r) }
 {
@@ -154,7 +154,7 @@ fn detach_on_copy(alloc: Global, before: &State, conn: Conn) -> Result<Plan, Ref
 }
 
 /// A Detach.
-pub(crate) fn plan_detach(alloc: Global, state: &State, conn: Conn) -> Result<Plan, Refusal>
+pub(crate) fn plan_detach(alloc: Global, state: &State, conn: Conn) -> Result<Prepared, Refusal>
     ensures ok { IfOk result (λ p. Plans state.now (record { conn = conn; request = Detach }) p) }
     ensures ready { IfOk result (λ p. IsStepReady state.now p.step) }
     ensures err { IfErr result (λ r. Refuses state.now (record { conn = conn; request = Detach }) r) }
@@ -171,8 +171,8 @@ pub(crate) fn plan_taken(
     state: &State,
     conn: Conn,
     request: &Request,
-) -> Result<Plan, Refusal>
-    requires bound { IsBound state.now }
+) -> Result<Prepared, Refusal>
+    requires sound { IsSound state.now }
     requires taken { is_taken request.now ≡ true }
     ensures ok { IfOk result (λ p. Plans state.now (record { conn = conn; request = request.now }) p) }
     ensures ready { IfOk result (λ p. IsStepReady state.now p.step) }
@@ -187,8 +187,8 @@ pub(crate) fn plan_taken(
 }
 
 /// What an event will answer and do, or why it is refused.
-pub(crate) fn plan_event(alloc: Global, state: &State, event: &Event) -> Result<Plan, Refusal>
-    requires { IsBound state.now }
+pub(crate) fn plan_event(alloc: Global, state: &State, event: &Event) -> Result<Prepared, Refusal>
+    requires { IsSound state.now }
     ensures ok { IfOk result (λ p. Plans state.now event.now p) }
     ensures ready { IfOk result (λ p. IsStepReady state.now p.step) }
     ensures err { IfErr result (λ r. Refuses state.now event.now r) }

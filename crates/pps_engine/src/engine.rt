@@ -1,15 +1,15 @@
 //! The engine: what stands, kept within its bounds.
-ghost use Rattle.std.specs.Prelude.{◌≡◌, ◌≤◌, ◌↔◌, true, Ok, Err, IfOk, IfErr, IsTrue, OnErr, length, vec_len, vec_capacity, drop};
+ghost use Rattle.std.specs.Prelude.{◌≡◌, ◌≤◌, ◌↔◌, true, Ok, Err, Some, None, IfOk, IfErr, IsTrue, IsSome, OnErr, All, length, vec_len, vec_capacity, drop};
 ghost use Rattle.pps_types.specs.Outcome.{has_bytes, IsSendable};
 ghost use Rattle.pps_types.specs.Machine.{start};
 ghost use Rattle.pps_types.specs.Owed.{kept_seen, owed_by_seen};
 ghost use Rattle.pps_types.specs.Plan.{may_lack_memory};
 ghost use Rattle.pps_types.specs.Stands.{Stands, Steps, StepsSeen, Runs, RunsSeen};
-ghost use Rattle.pps_engine.specs.Planned.{Plans, Refuses, IsReady, after_step};
-ghost use Rattle.pps_engine.specs.Runs.{answered};
+ghost use Rattle.pps_engine.specs.Serving.{Prepares, IsExact};
+ghost use Rattle.pps_types.specs.Runs.{answered};
 
 use crate::carrying::plan_event;
-use crate::in_place::{Plan, take_step};
+use crate::in_place::{Step, take_step};
 use engine_questions::{kept, owed, same};
 use engine_state::{Copied, State};
 use open_options::Path;
@@ -20,42 +20,64 @@ use std::marker::Model;
 /// The limit of handles that name none, where the engine is made with no other.
 const DEFAULT_LIMIT: u32 = 256;
 
+/// What an event will answer. What it will change is held by the engine that has planned it.
+#[derive(Drop)]
+pub struct Plan {
+    reply: Outcome,
+}
+
+impl Plan {
+    /// What the event will answer.
+    pub fn reply(&self) -> &Outcome
+        ensures { result.now ≡ self.now.reply }
+    {
+        &self.reply
+    }
+}
+
 /// The service. It stands for the machine that keeps every accepted change for good.
 #[derive(Drop)]
 pub struct Engine {
     alloc: Global,
     state: State,
+    /// What the latest plan will change, where it is ready.
+    pending: Option<Step>,
 }
 
 impl Model for Engine {
-    ghost use Rattle.pps_types.specs.Content.{Content};
-    ghost use Rattle.content_bounds.specs.Bounds.{IsBound};
+    ghost use Rattle.std.specs.Prelude.{option_map};
+    ghost use Rattle.pps_engine.specs.Serving.{Serving};
+    ghost use Rattle.pps_engine.specs.Planned.{after_step, chains_of, IsSound, IsPending};
 
-    ghost Value = { Content };
+    ghost Value = { Serving };
 
-    ghost view = { λ a. a.state };
+    ghost view = { λ a. record { content = a.state; next = option_map (after_step a.state) a.pending; chains = chains_of a.state.handles } };
 
-    ghost invariant = { λ a. IsBound a.state };
+    ghost invariant = { λ a. IsSound a.state × IsPending a.state a.pending };
 }
 
 impl Engine {
     fn starting(alloc: Global, first_handle: u32, default_limit: u32) -> Result<Engine, AllocError>
-        ensures { IfOk result (λ engine. Stands engine (start first_handle default_limit)) }
+        ensures { IfOk result (λ engine. Stands engine.content (start first_handle default_limit)) }
     {
         let state = State::new(alloc, first_handle, default_limit)?;
-        Ok(Engine { alloc, state })
+        Ok(Engine {
+            alloc,
+            state,
+            pending: None,
+        })
     }
 
     /// A service with nothing but the root, whose first handle will be 1, with the default limit 256.
     pub fn new(alloc: Global) -> Result<Engine, AllocError>
-        ensures { IfOk result (λ engine. Stands engine (start 1 256)) }
+        ensures { IfOk result (λ engine. Stands engine.content (start 1 256)) }
     {
         Engine::starting(alloc, 1, DEFAULT_LIMIT)
     }
 
     /// The same, whose first handle will be `next`.
     pub fn new_at(alloc: Global, next: Handle) -> Result<Engine, AllocError>
-        ensures { IfOk result (λ engine. Stands engine (start next 256)) }
+        ensures { IfOk result (λ engine. Stands engine.content (start next 256)) }
     {
         Engine::starting(alloc, next.number(), DEFAULT_LIMIT)
     }
@@ -64,47 +86,67 @@ impl Engine {
     pub fn with_limit(alloc: Global, default_limit: u32) -> Result<Engine, AllocError>
         requires at_least { 1 ≤ default_limit }
         requires at_most { default_limit ≤ 65535 }
-        ensures { IfOk result (λ engine. Stands engine (start 1 default_limit)) }
+        ensures { IfOk result (λ engine. Stands engine.content (start 1 default_limit)) }
     {
         Engine::starting(alloc, 1, default_limit)
     }
 
     /// The limit of handles that name none.
     pub fn limit(&self) -> u32
-        ensures { result ≡ self.now.default_limit }
+        ensures { result ≡ self.now.content.default_limit }
     {
         self.state.default_limit()
     }
 
-    /// What an event will answer and do, or why it is refused. It takes all the memory that the event wants, and changes nothing.
+    /// What an event will answer, or why it is refused. It takes all the memory that the event wants, and changes nothing
+    /// of what stands. A plan before it is no longer ready.
     pub fn plan(&mut self, event: &Event) -> Result<Plan, Refusal>
-        ensures kept { self.new ≡ self.old }
-        ensures plans { IfOk result (λ plan. Plans self.old event.now plan) }
-        ensures ready { IfOk result (λ plan. IsReady self.old plan) }
-        ensures refuses { IfErr result (λ r. Refuses self.old event.now r) }
-        ensures marks { IfOk result (λ plan. has_bytes plan.reply ≡ true → may_lack_memory self.old event.now ≡ true) }
+        ensures kept { self.new.content ≡ self.old.content }
+        ensures plans { IfOk result (λ plan. Prepares self.old.content event.now plan.reply self.new.next) }
+        ensures refuses { IfErr result (λ r. StepsSeen self.old.content event.now (Err r) self.old.content) }
+        ensures ends { OnErr result (self.new.next ≡ None) }
+        ensures marks { IfOk result (λ plan. has_bytes plan.reply ≡ true → may_lack_memory self.old.content event.now ≡ true) }
         ensures sends { IfOk result (λ plan. IsSendable (Ok plan.reply)) }
+        ensures cut { IsExact self.new }
     {
-        plan_event(self.alloc, &self.state, event)
+        match plan_event(self.alloc, &self.state, event) {
+            Err(refusal) => {
+                self.pending = None;
+                Err(refusal)
+            }
+            Ok(prepared) => {
+                self.pending = Some(prepared.step);
+                Ok(Plan {
+                    reply: prepared.reply,
+                })
+            }
+        }
     }
 
-    /// Carries a plan out, and gives its answer. It takes no memory.
+    /// Carries the latest plan out, and gives its answer. It takes no memory.
     pub fn commit(&mut self, plan: Plan) -> Outcome
-        requires { IsReady self.old plan }
+        requires { IsSome self.old.next }
         ensures reply { result ≡ plan.reply }
-        ensures state { self.new ≡ after_step self.old plan.step }
+        ensures content { self.old.next ≡ Some self.new.content }
+        ensures ready { self.new.next ≡ None }
+        ensures cut { IsExact self.new }
     {
-        let Plan { reply, step } = plan;
-        take_step(&mut self.state, step);
-        reply
+        match self.pending.take() {
+            None => unreachable!(),
+            Some(step) => take_step(&mut self.state, step),
+        }
+        plan.reply
     }
 
-    /// One event: its answer is the machine's, or OutOfMemory where it may be. After a refusal all is as it was.
+    /// One event: its answer is the machine's, or OutOfMemory where it may be. After a refusal all is as it was. A plan
+    /// before it is no longer ready.
     pub fn step(&mut self, event: &Event) -> Result<Outcome, Refusal>
-        ensures steps { Steps self.old event.now result self.new }
-        ensures seen { StepsSeen self.old event.now result self.new }
-        ensures kept { OnErr result (self.new ≡ self.old) }
+        ensures steps { Steps self.old.content event.now result self.new.content }
+        ensures seen { StepsSeen self.old.content event.now result self.new.content }
+        ensures kept { OnErr result (self.new.content ≡ self.old.content) }
+        ensures ready { self.new.next ≡ None }
         ensures sends { IsSendable result }
+        ensures cut { IsExact self.new }
     {
         match self.plan(event) {
             Err(refusal) => Err(refusal),
@@ -115,11 +157,13 @@ impl Engine {
     /// The events in their order, and an answer for each; an event's own OutOfMemory is its answer. It is OutOfMemory
     /// itself, and takes no event, only where the list of answers can't be reserved.
     pub fn run_list(&mut self, events: &[Event]) -> Result<Vec<Result<Outcome, Refusal>>, Refusal>
-        ensures runs { IfOk result (λ replies. Runs self.old (answered events.now replies.items) self.new) }
-        ensures seen { IfOk result (λ replies. RunsSeen self.old (answered events.now replies.items) self.new) }
+        ensures runs { IfOk result (λ replies. Runs self.old.content (answered events.now replies.items) self.new.content) }
+        ensures seen { IfOk result (λ replies. RunsSeen self.old.content (answered events.now replies.items) self.new.content) }
         ensures count { IfOk result (λ replies. length replies.items ≡ length events.now) }
+        ensures sends { IfOk result (λ replies. All IsSendable replies.items) }
         ensures wants { IfErr result (λ r. r ≡ Refusal.OutOfMemory) }
-        ensures kept { OnErr result (self.new ≡ self.old) }
+        ensures kept { OnErr result (self.new.content ≡ self.old.content) }
+        ensures cut { IsExact self.new }
     {
         let mut replies = match Vec::with_capacity(self.alloc, events.len()) {
             Err(_) => return Err(Refusal::OutOfMemory),
@@ -134,33 +178,43 @@ impl Engine {
 
     /// How many records are kept of what a path names, if anything is there. It takes no memory.
     pub fn kept(&self, path: &Path) -> Option<usize>
-        ensures { result ≡ kept_seen self.now path.now }
+        ensures { result ≡ kept_seen self.now.content path.now }
     {
         kept(&self.state, path.names())
     }
 
     /// How many records a handle is owed: none of no such handle, in full mode, before its first read and past its limit.
     pub fn owed(&self, handle: Handle) -> Option<usize>
-        ensures { result ≡ owed_by_seen self.now handle }
+        ensures { result ≡ owed_by_seen self.now.content handle }
     {
         owed(&self.state, handle)
     }
 
+    /// Does nothing. Its contract is the law that an engine holds just the records that have to be kept, whether it was
+    /// just made, copied or stepped.
+    pub fn holds_what_is_owed(&self)
+        ensures { IsExact self.now }
+    {
+        let _ = &self.state;
+    }
+
     /// Whether both stand for the same. It takes no memory.
     pub fn same(&self, other: &Engine) -> bool
-        ensures { IsTrue result ↔ (self.now ≡ other.now) }
+        ensures { IsTrue result ↔ (self.now.content ≡ other.now.content) }
     {
         same(&self.state, &other.state)
     }
 
-    /// One more engine that stands for the same.
+    /// One more engine that stands for the same. No plan of it is ready.
     pub fn copy(&self) -> Result<Engine, AllocError>
-        ensures { IfOk result (λ engine. engine ≡ self.now) }
+        ensures content { IfOk result (λ engine. engine.content ≡ self.now.content) }
+        ensures ready { IfOk result (λ engine. engine.next ≡ None) }
     {
         let state = self.state.copied(self.alloc)?;
         Ok(Engine {
             alloc: self.alloc,
             state,
+            pending: None,
         })
     }
 }

@@ -1,7 +1,7 @@
-//! Plans, and those of events that change what stands in place and take no memory for it.
+//! What is prepared of an event, and the events that change what stands in place and take no memory for it.
 ghost use Rattle.std.specs.Prelude.{◌≡◌, IfOk, IfErr, Option, Some, None, is_some};
 ghost use Rattle.pps_types.specs.declared.event.Request.TheVariants.{Notify, Receive};
-ghost use Rattle.content_bounds.specs.Bounds.{IsBound};
+ghost use Rattle.pps_types.specs.WellFormed.{IsContent};
 ghost use Rattle.pps_types.specs.declared.outcome.Item.{Item as ItemTold};
 ghost use Rattle.pps_types.specs.Content.{Content};
 ghost use Rattle.pps_types.specs.Plan as planning;
@@ -13,7 +13,7 @@ use pps_types::{Action, Conn, Handle, Item, Outcome, Refusal};
 
 /// How an event changes what stands.
 #[derive(Drop)]
-pub enum Step {
+pub(crate) enum Step {
     Keep,
     /// All of it is replaced.
     Next(State),
@@ -27,18 +27,9 @@ pub enum Step {
 
 /// What an event will answer, and how it will change what stands.
 #[derive(Drop)]
-pub struct Plan {
+pub(crate) struct Prepared {
     pub(crate) reply: Outcome,
     pub(crate) step: Step,
-}
-
-impl Plan {
-    /// What the event will answer.
-    pub fn reply(&self) -> &Outcome
-        ensures { result.now ≡ self.now.reply }
-    {
-        &self.reply
-    }
 }
 
 /// A Notify. It takes no memory.
@@ -48,8 +39,8 @@ pub(crate) fn plan_notify(
     handle: Handle,
     action: Action,
     pulse: Pulse,
-) -> Result<Plan, Refusal>
-    requires { IsBound state.now }
+) -> Result<Prepared, Refusal>
+    requires { IsContent state.now }
     ensures ok { IfOk result (λ p. Plans state.now (record { conn = conn; request = Notify handle action pulse.code pulse.value }) p) }
     ensures ready { IfOk result (λ p. IsStepReady state.now p.step) }
     ensures err { IfErr result (λ r. Refuses state.now (record { conn = conn; request = Notify handle action pulse.code pulse.value }) r) }
@@ -63,7 +54,7 @@ pub(crate) fn plan_notify(
     state.has_numbers();
     match notify(state, h, action, pulse) {
         Err(refusal) => Err(refusal),
-        Ok(notified) => Ok(Plan {
+        Ok(notified) => Ok(Prepared {
             reply: Outcome::Input(notified.news),
             step: Step::Arm(h.number(), notified.pulse),
         }),
@@ -71,7 +62,7 @@ pub(crate) fn plan_notify(
 }
 
 // What is received is taken from the queue, if anything is.
-fn received(conn: Conn, reply: Outcome) -> Plan
+fn received(conn: Conn, reply: Outcome) -> Prepared
     ensures reply { result.reply ≡ reply }
     ensures ready { (c : Content) → IsStepReady c result.step }
     ensures step { (o : Option ItemTold) → reply ≡ (planning.received conn o).0 → (c : Content) → after_step c result.step ≡ planning.apply_all_seen (planning.received conn o).1 c }
@@ -80,12 +71,12 @@ fn received(conn: Conn, reply: Outcome) -> Plan
         Outcome::Item(_) => Step::Take(conn),
         _ => Step::Keep,
     };
-    Plan { reply, step }
+    Prepared { reply, step }
 }
 
 /// A Receive. Of an item without bytes it takes no memory.
-pub(crate) fn plan_receive(state: &State, conn: Conn) -> Result<Plan, Refusal>
-    requires { IsBound state.now }
+pub(crate) fn plan_receive(state: &State, conn: Conn) -> Result<Prepared, Refusal>
+    requires { IsContent state.now }
     ensures ok { IfOk result (λ p. Plans state.now (record { conn = conn; request = Receive }) p) }
     ensures ready { IfOk result (λ p. IsStepReady state.now p.step) }
     ensures err { IfErr result (λ r. Refuses state.now (record { conn = conn; request = Receive }) r) }

@@ -5,7 +5,8 @@
 mod carrying;
 mod engine;
 mod in_place;
+mod private;
 mod taking;
 
-pub use engine::Engine;
-pub use in_place::Plan;
+pub use engine::{Engine, Plan};
+pub use private::{BothAnswers, run_both};

@@ -21,6 +21,7 @@ use Rattle.pps_frame.specs.declared.ends.Ended.TheVariants.{Clean, Truncated, Ma
 use Rattle.pps_frame.specs.declared.ends.RunError.{RunError}
 use Rattle.pps_frame.specs.Served.{answers_of, closing, IsTail, MayEnd, Serves, AnswersAll, Stops, Ran}
 use Rattle.pps_frame.specs.Sent.{SendsPart, Sends, ServesOr, ServesAll, ServesPart, ServesPiece, StopsInPiece, Goes}
+use Rattle.pps_types.proofs.RunJoins.{runs-append}
 
 -- a write that took some bytes did not stall
 pub no_stall : (n count : ℕ) (more : Bool) → (count ≡ 0 → ⊥) → (if eqb count 0 && more then counted_once_more n else n) ≡ n
@@ -28,11 +29,6 @@ no_stall n count more some = elim (eqb_tells count 0) [
   | inl zero ↦ absurd (some zero.1)
   | inr other ↦ ap (λ (b : Bool). if b && more then counted_once_more n else n) other.0
 ]
-
--- one run behind another
-pub runs-append : (old middle new : Content) (first second : List Answered) → RunsSeen old first middle → RunsSeen middle second new → RunsSeen old (first ++ second) new
-runs-append old middle new [] second a b = subst (λ (c : Content). RunsSeen c second new) a b
-runs-append old middle new (x ∷ first) second a b = (a.0, a.1, runs-append a.0 middle new first second a.2 b)
 
 pub events-append : (first second : List Answered) → events_of (first ++ second) ≡ events_of first ++ events_of second
 events-append first second = map-append (λ x. x.event) first second

@@ -27,7 +27,7 @@ fn serve<W: Write>(
     event: &Event,
 ) -> Result<(), RunError>
     requires { device_failed writer.old ≡ false }
-    ensures served { ServesOr (W.contents (device_inner writer.old)) (W.contents (device_inner writer.new)) engine.old engine.new (event.now ∷ []) result }
+    ensures served { ServesOr (W.contents (device_inner writer.old)) (W.contents (device_inner writer.new)) engine.old.content engine.new.content (event.now ∷ []) result }
     ensures fault { WriteFaultIs result (device_failed writer.new) (device_stalls writer.old) (device_stalls writer.new) }
 {
     let answer = engine.step(event);
@@ -45,7 +45,7 @@ fn serve_all<W: Write>(
     events: &[Event],
 ) -> Result<(), RunError>
     requires { device_failed writer.old ≡ false }
-    ensures served { ServesOr (W.contents (device_inner writer.old)) (W.contents (device_inner writer.new)) engine.old engine.new events.now result }
+    ensures served { ServesOr (W.contents (device_inner writer.old)) (W.contents (device_inner writer.new)) engine.old.content engine.new.content events.now result }
     ensures fault { WriteFaultIs result (device_failed writer.new) (device_stalls writer.old) (device_stalls writer.new) }
 {
     'events: for event in events {
@@ -64,7 +64,7 @@ fn serve_piece<W: Write>(
 ) -> Result<bool, RunError>
     requires writer { device_failed writer.old ≡ false }
     requires decoder { decoder.old.failed ≡ false }
-    ensures served { ServesPieceOr (W.contents (device_inner writer.old)) (W.contents (device_inner writer.new)) engine.old engine.new (decoder.old.rest ++ piece.now) decoder.new result }
+    ensures served { ServesPieceOr (W.contents (device_inner writer.old)) (W.contents (device_inner writer.new)) engine.old.content engine.new.content (decoder.old.rest ++ piece.now) decoder.new result }
     ensures fault { WriteFaultIs result (device_failed writer.new) (device_stalls writer.old) (device_stalls writer.new) }
 {
     match decoder.feed(alloc, piece) {
@@ -91,7 +91,7 @@ pub fn run<R: Read, W: Write>(
     requires reader { device_failed reader.old ≡ false }
     requires writer { device_failed writer.old ≡ false }
     ensures ran { Ran (R.remaining (device_inner reader.old)) (R.remaining (device_inner reader.new))
-        (W.contents (device_inner writer.old)) (W.contents (device_inner writer.new)) engine.old engine.new result }
+        (W.contents (device_inner writer.old)) (W.contents (device_inner writer.new)) engine.old.content engine.new.content result }
     ensures fault { FaultsAre result (device_failed reader.new) (device_failed writer.new) (device_reads reader.old)
         (device_reads reader.new) (device_stalls writer.old) (device_stalls writer.new) }
 {

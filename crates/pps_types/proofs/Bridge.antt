@@ -5,7 +5,8 @@ use Rattle.std.proofs.lemmas.Bool.Decides.{nat_tests}
 use Rattle.std.specs.Prelude.{nat_lt}
 use Rattle.pps_types.specs.Bytes.{is_empty}
 use Rattle.pps_types.specs.History.{Entry}
-use Rattle.pps_types.specs.Reading.{is_full_style, is_delta_style, news_in, Over, Owed, Open, Seen, News, Style, Full, Delta, Queue, style, stand, unread, visible, keeps, from_first, seen_with, rest_of, answer, whole_answer, owed_answer, block}
+use Rattle.pps_types.specs.Reading.{is_full_style, is_delta_style, Open, Style, Full, Delta, Queue, style, visible, whole_answer, owed_answer, block}
+use Rattle.pps_types.specs.Rests.{news_in, Over, Owed, Seen, News, stand, unread, keeps, from_first, seen_with, rest_of, answer}
 use Rattle.pps_types.specs.Owed.{has_news, answer_with}
 use Rattle.pps_types.proofs.Lists.{filter-from_first}
 use Rattle.pps_types.proofs.Offers.{visible-keeps, visible-reads}

@@ -1,17 +1,43 @@
 -- Forgetting the history goes before or after a move, with one result.
-use Rattle.std.proofs.Common.{◌≡◌, ℕ, ◌+◌, ◌≤◌, ◌<◌, Bool, true, false, cond, not, eqb, List, [], ◌∷◌, ◌++◌, length, length-append, map, drop, length-drop, Option, Some, None, refl, sym, ap, subst, ◌∙◌, arith}
+use Rattle.std.proofs.Common.{◌≡◌, ℕ, ◌+◌, ◌≤◌, ◌<◌, Bool, true, false, cond, eqb, eqb-true, eq-eqb, List, [], ◌∷◌, ◌++◌, length, length-append, map, drop, length-drop, Option, Some, None, refl, sym, ap, subst, ◌∙◌, arith}
 use Rattle.std.specs.List.{AllByRecursion}
 use Rattle.std.proofs.lemmas.List.{map-append}
 use Rattle.pps_types.specs.declared.event.Event.{Event}
-use Rattle.pps_types.specs.History.{Entry}
-use Rattle.pps_types.specs.Reading.{Open, Seen, News, Unread, Over, Owed, Style, Full, Delta, Queue, style, reseen, visible, seen_with}
+use Rattle.pps_types.specs.History.{Entry, state, is_alive}
+use Rattle.pps_types.specs.Reading.{Open, Style, Full, Delta, Queue, style, reseen, visible}
+use Rattle.pps_types.specs.Rests.{Seen, News, Unread, Over, Owed, seen_with}
 use Rattle.pps_types.specs.Plan.{Move, Attaches, Leaves, Creates, Happens, Opens, Closes, CatchesUp, Passes, Parks, Arms, Queues, Takes, MakesDirectory, RemovesDirectory, on_numbered, without_number, creation, offer, left, caught_up, apply_seen, apply_all_seen, plan, step_seen}
-use Rattle.pps_types.specs.Runs.{after, after_seen}
-use Rattle.pps_types.specs.Machine.{start, Machine, IsMachine, IsWithin, IsLawful, AreLawful, next_after, shown, shown_handle, apply, apply_all, passed, passed_with, first_cursor, step}
+use Rattle.pps_types.specs.Runs.{Answered, after, after_seen, after_answered, end_of}
+use Rattle.pps_types.specs.Machine.{start, Machine, IsMachine, IsMade, IsAlive, AreAlive, IsRecorded, AreCounted, is_for, server_made, known, IsWithin, marked_step, IsLawful, AreLawful, next_after, shown, shown_handle, apply, apply_all, passed, passed_with, first_cursor, step}
 use Rattle.pps_types.proofs.Lists.{all-push, all-weaken, all-on_first, all-without_first, map-on_first, map-without_first, behind-le}
 use Rattle.pps_types.proofs.Offers.{shown_handle-push, shown_handle-caught_up, shown_handle-passed, shown_handle-first}
 use Rattle.pps_types.proofs.Objects.{objects-push, objects-made}
+use Rattle.std.specs.Prelude.{find, option_map}
+use Rattle.std.specs.List.{filter_map, cons_option}
+use Rattle.pps_types.specs.declared.handle_kind.HandleKind.{HandleKind}
+use Rattle.pps_types.specs.declared.handle_kind.HandleKind.TheVariants.{Object as ObjectHandle, Directory as DirectoryHandle, Names as NamesHandle, Server as ServerHandle, Client as ClientHandle}
+use Rattle.pps_types.specs.WellFormed.{AreRising, IsContent, server_of}
+use Rattle.pps_types.specs.Content.{Object, Known, Content, object_numbered}
+use Rattle.pps_types.specs.Outcome.{Reply, is_marked}
 use Rattle.pps_types.proofs.Lawful.{plan-lawful}
+use Rattle.pps_types.proofs.WellSteps.{basis-in, step-content}
+use Rattle.pps_types.proofs.Alive.{plan-alive}
+use Rattle.pps_types.proofs.Finds.{OfSome, all-find, all-none, find-push, find-last, find-true}
+use Rattle.pps_types.proofs.Rising.{found-each, none-numbered}
+
+abbrev IsFor : Machine → Open (Option ℕ) → Type 0
+IsFor m h = is_for h.kind (server_made m h.target) ≡ true
+
+counted-below : (n : ℕ) (os : List Object) → AreCounted n os → AllByRecursion (λ o. o.number < n + length os) os
+counted-below n [] all = tt
+counted-below n (o ∷ os) all = (let is = all.0 in omega arith, all-weaken {P = λ x. x.number < n + 1 + length os} {Q = λ x. x.number < n + length (o ∷ os)} (λ x lt. omega arith) os (counted-below (n + 1) os all.1))
+
+counted-push : (n : ℕ) (os : List Object) (o : Object) → AreCounted n os → o.number ≡ n + length os → AreCounted n (os ++ o ∷ [])
+counted-push n [] o all is = (omega arith, tt)
+counted-push n (x ∷ os) o all is = (all.0, counted-push (n + 1) os o all.1 (omega arith))
+
+pub numbered : (m : Machine) → IsMade m → AllByRecursion (λ o. o.number < length m.objects) m.objects
+numbered m made = all-weaken {P = λ x. x.number < 0 + length m.objects} {Q = λ x. x.number < length m.objects} (λ x lt. omega arith) m.objects (counted-below 0 m.objects made.counted)
 
 -- ---- handles
 
@@ -30,12 +56,12 @@ length-push xs x = omega (arith, length-append xs (x ∷ []))
 
 -- ---- one move
 
-apply-shown : (x : Move) (m : Machine) → IsMachine m → IsLawful (length m.objects) x → shown (apply x m) ≡ apply_seen x (shown m)
+apply-shown : (x : Move) (m : Machine) → IsMade m → IsLawful (length m.objects) x → shown (apply x m) ≡ apply_seen x (shown m)
 apply-shown (Attaches conn) m made lawful = refl
 apply-shown (Leaves conn) m made lawful = refl
 apply-shown (Creates o) m made lawful = λ i. record (shown m) {
   records = length-push m.history (creation o) i;
-  objects = objects-made m.history o m.objects (all-weaken {P = λ x. x.number < length m.objects} {Q = λ x. x.number < o.number} (λ x lt. omega arith) m.objects made.numbered) i;
+  objects = objects-made m.history o m.objects (all-weaken {P = λ x. x.number < length m.objects} {Q = λ x. x.number < o.number} (λ x lt. omega arith) m.objects (numbered m made)) i;
   next_object = length-push m.objects o i;
   handles = handles-push m.history (creation o) m.handles made.within i;
 }
@@ -81,24 +107,93 @@ first-within Full end = tt
 first-within Delta end = tt
 first-within Queue end = omega arith
 
-apply-made : (x : Move) (m : Machine) → IsMachine m → IsLawful (length m.objects) x → IsMachine (apply x m)
-apply-made (Attaches conn) m made lawful = record { numbered = made.numbered; within = made.within }
-apply-made (Leaves conn) m made lawful = record { numbered = made.numbered; within = made.within }
-apply-made (Creates o) m made lawful = record {
-  numbered = all-push (λ x. x.number < length (m.objects ++ o ∷ [])) m.objects o (all-weaken {P = λ x. x.number < length m.objects} {Q = λ x. x.number < length (m.objects ++ o ∷ [])} (λ x lt. omega (arith, length-push m.objects o)) m.objects made.numbered) (omega (arith, length-push m.objects o));
+-- an object that was made stays what it is
+for-more : (k : HandleKind) (a b : Option (Option ℕ)) → ((s : Option ℕ) → a ≡ Some s → b ≡ Some s) → is_for k a ≡ true → is_for k b ≡ true
+for-more ServerHandle None b f p = absurd (let h = p in cc)
+for-more ServerHandle (Some s) b f p = ap (is_for ServerHandle) (f s refl) ∙ p
+for-more ClientHandle None b f p = absurd (let h = p in cc)
+for-more ClientHandle (Some s) b f p = ap (is_for ClientHandle) (f s refl) ∙ p
+for-more (ObjectHandle d) None b f p = absurd (let h = p in cc)
+for-more (ObjectHandle d) (Some s) b f p = ap (is_for (ObjectHandle d)) (f s refl) ∙ p
+for-more (DirectoryHandle d) a b f p = refl
+for-more NamesHandle a b f p = refl
+
+made-for : (m : Machine) (o : Object) (k : HandleKind) (t : ℕ) → is_for k (server_made m t) ≡ true → is_for k (server_made (apply (Creates o) m) t) ≡ true
+made-for m o k t p = for-more k (server_made m t) (server_made (apply (Creates o) m) t) (λ s e. go s (find (λ (x : Object). eqb x.number t) m.objects) refl e) p
+  where
+    go : (s : Option ℕ) (f : Option Object) → find (λ (x : Object). eqb x.number t) m.objects ≡ f → option_map (λ (x : Object). x.server) f ≡ Some s → server_made (apply (Creates o) m) t ≡ Some s
+    go s None f e = absurd (let h = e in cc)
+    go s (Some x) f e = ap (option_map (λ (x : Object). x.server)) (find-push (λ (x : Object). eqb x.number t) m.objects o x f) ∙ e
+
+-- an object that is alive was made
+counted-each : (n : ℕ) (os : List Object) → AreCounted n os → AreRising n (map (λ (o : Object). o.number) os) (n + length os)
+counted-each n [] all = omega arith
+counted-each n (o ∷ os) all = (
+  let is = all.0 in omega arith,
+  let same : n + 1 + length os ≡ n + length (o ∷ os) = omega arith in let own : o.number + 1 ≡ n + 1 = (let is = all.0 in omega arith) in
+      subst (λ low. AreRising low (map (λ (o : Object). o.number) os) (n + length (o ∷ os))) (sym own) (subst (λ high. AreRising (n + 1) (map (λ (o : Object). o.number) os) high) same (counted-each (n + 1) os all.1)),
+)
+
+known-object : (H : List Entry) (o : Object) → OfSome (λ (k : Known). k.object ≡ o) (known H o)
+known-object H o = elim (is_alive o.number H) as (λ b. OfSome (λ (k : Known). k.object ≡ o) (cond b (Some (record { object = o; attributes = state o.number H })) None)) [ true ↦ refl | false ↦ tt ]
+
+all-known : (H : List Entry) (P : Object → Type 0) (os : List Object) → AllByRecursion P os → AllByRecursion (λ (k : Known). P k.object) (filter_map (known H) os)
+all-known H P [] all = tt
+all-known H P (o ∷ os) all = go (known H o) (known-object H o) (all-known H P os all.1)
+  where
+    go : (k : Option Known) → OfSome (λ (k : Known). k.object ≡ o) k → AllByRecursion (λ (k : Known). P k.object) (filter_map (known H) os) → AllByRecursion (λ (k : Known). P k.object) (cons_option k (filter_map (known H) os))
+    go None is rest = rest
+    go (Some k) is rest = (subst P (sym is) all.0, rest)
+
+alive-object : (m : Machine) → IsMade m → (t : ℕ) (k : Known) → object_numbered (shown m) t ≡ Some k → find (λ (x : Object). eqb x.number t) m.objects ≡ Some k.object
+alive-object m made t k f =
+    let own : k.object.number ≡ t = eqb-true k.object.number t (find-true (λ (k : Known). eqb k.object.number t) (shown m).objects k f) in
+    let found : find (λ (x : Object). eqb x.number k.object.number) m.objects ≡ Some k.object = all-find (λ (k : Known). find (λ (x : Object). eqb x.number k.object.number) m.objects ≡ Some k.object) (λ k. eqb k.object.number t) (shown m).objects k
+    (all-known m.history (λ (o : Object). find (λ (x : Object). eqb x.number o.number) m.objects ≡ Some o) m.objects (found-each (λ (o : Object). o.number) 0 (0 + length m.objects) m.objects (counted-each 0 m.objects made.counted))) f in
+    ap (λ n. find (λ (x : Object). eqb x.number n) m.objects) (sym own) ∙ found
+
+alive-made : (m : Machine) → IsMade m → (t : ℕ) (s : Option ℕ) → server_of (shown m) t ≡ Some s → server_made m t ≡ Some s
+alive-made m made t s e = go (object_numbered (shown m) t) refl e
+  where
+    go : (k : Option Known) → object_numbered (shown m) t ≡ k → option_map (λ (k : Known). k.object.server) k ≡ Some s → server_made m t ≡ Some s
+    go None f e = absurd (let h = e in cc)
+    go (Some k) f e = ap (option_map (λ (x : Object). x.server)) (alive-object m made t k f) ∙ e
+
+-- the object that was made last is found by its number
+last-made : (m : Machine) → IsMade m → (o : Object) → o.number ≡ length m.objects → find (λ (x : Object). eqb x.number o.number) (m.objects ++ o ∷ []) ≡ Some o
+last-made m made o is =
+    find-last (λ (x : Object). eqb x.number o.number) m.objects o (all-none (λ (x : Object). eqb x.number o.number) m.objects (subst (λ n. AllByRecursion (λ (x : Object). eqb x.number n ≡ false) m.objects) (sym is) (none-numbered (λ (x : Object). x.number) (length m.objects) m.objects (numbered m made))))
+    ∙ ap (λ b. cond b (Some o) None) (eq-eqb o.number o.number refl)
+
+-- and none that is alive has the next number
+pub none-next : (m : Machine) → IsMade m → object_numbered (shown m) (length m.objects) ≡ None
+none-next m made = all-none (λ (k : Known). eqb k.object.number (length m.objects)) (shown m).objects (all-known m.history (λ (o : Object). eqb o.number (length m.objects) ≡ false) m.objects (none-numbered (λ (x : Object). x.number) (length m.objects) m.objects (numbered m made)))
+
+opened-for : (m : Machine) → IsMade m → (k : HandleKind) (t : ℕ) → is_for k (server_of (shown m) t) ≡ true → is_for k (server_made m t) ≡ true
+opened-for m made k t p = for-more k (server_of (shown m) t) (server_made m t) (alive-made m made t) p
+
+apply-made : (x : Move) (m : Machine) → IsMade m → IsLawful (length m.objects) x → IsAlive (shown m) x → IsMade (apply x m)
+apply-made (Attaches conn) m made lawful alive = record { counted = made.counted; recorded = made.recorded; within = made.within; targets = made.targets }
+apply-made (Leaves conn) m made lawful alive = record { counted = made.counted; recorded = made.recorded; within = made.within; targets = made.targets }
+apply-made (Creates o) m made lawful alive = record {
+  counted = counted-push 0 m.objects o made.counted (omega (arith, lawful));
+  recorded = all-push (IsRecorded (m.objects ++ o ∷ [])) m.history (creation o)
+      (all-weaken {P = IsRecorded m.objects} {Q = IsRecorded (m.objects ++ o ∷ [])} (λ e r. record { object = r.object; made = find-push (λ (x : Object). eqb x.number e.record_of.object) m.objects o r.object r.made; in_directory = r.in_directory; under_name = r.under_name }) m.history made.recorded)
+      (record { object = o; made = last-made m made o lawful; in_directory = refl; under_name = refl });
   within = all-within (length m.history) (length (m.history ++ creation o ∷ [])) (omega (arith, length-push m.history (creation o))) m.handles made.within;
+  targets = all-weaken {P = IsFor m} {Q = IsFor (apply (Creates o) m)} (λ h p. made-for m o h.kind h.target p) m.handles made.targets;
 }
-apply-made (Happens e) m made lawful = record { numbered = made.numbered; within = all-within (length m.history) (length (m.history ++ e ∷ [])) (omega (arith, length-push m.history e)) m.handles made.within }
-apply-made (Opens h) m made lawful = record { numbered = made.numbered; within = all-push (λ h. IsWithin (length m.history) h.seen) m.handles (reseen (λ h. first_cursor (style h.kind) (length m.history)) h) made.within (first-within (style h.kind) (length m.history)) }
-apply-made (Closes number) m made lawful = record { numbered = made.numbered; within = all-without_first (λ h. IsWithin (length m.history) h.seen) (λ h. eqb h.number number) m.handles made.within }
-apply-made (CatchesUp number) m made lawful = record { numbered = made.numbered; within = all-numbered number (length m.history) (reseen (λ h. Some (length m.history))) (λ h w. omega arith) m.handles made.within }
-apply-made (Passes number count) m made lawful = record { numbered = made.numbered; within = all-numbered number (length m.history) (reseen (λ h. passed h m.history count h.seen)) (λ h w. passed-within h m.history count (seen_with h m.history h.seen) h.seen w) m.handles made.within }
-apply-made (Parks number size) m made lawful = record { numbered = made.numbered; within = all-numbered number (length m.history) (λ h. record h { parked = size }) (λ h w. w) m.handles made.within }
-apply-made (Arms number pulse) m made lawful = record { numbered = made.numbered; within = all-numbered number (length m.history) (λ h. record h { armed = pulse }) (λ h w. w) m.handles made.within }
-apply-made (Queues conn item) m made lawful = record { numbered = made.numbered; within = made.within }
-apply-made (Takes conn) m made lawful = record { numbered = made.numbered; within = made.within }
-apply-made (MakesDirectory path) m made lawful = record { numbered = made.numbered; within = made.within }
-apply-made (RemovesDirectory number) m made lawful = record { numbered = made.numbered; within = made.within }
+apply-made (Happens e) m made lawful alive = record { counted = made.counted; recorded = all-push (IsRecorded m.objects) m.history e made.recorded (record { object = alive.object.object; made = alive-object m made e.record_of.object alive.object alive.found; in_directory = alive.in_directory; under_name = alive.under_name }); within = all-within (length m.history) (length (m.history ++ e ∷ [])) (omega (arith, length-push m.history e)) m.handles made.within; targets = made.targets }
+apply-made (Opens h) m made lawful alive = record { counted = made.counted; recorded = made.recorded; within = all-push (λ h. IsWithin (length m.history) h.seen) m.handles (reseen (λ h. first_cursor (style h.kind) (length m.history)) h) made.within (first-within (style h.kind) (length m.history)); targets = all-push (IsFor m) m.handles (reseen (λ h. first_cursor (style h.kind) (length m.history)) h) made.targets (opened-for m made h.kind h.target alive) }
+apply-made (Closes number) m made lawful alive = record { counted = made.counted; recorded = made.recorded; within = all-without_first (λ h. IsWithin (length m.history) h.seen) (λ h. eqb h.number number) m.handles made.within; targets = all-without_first (IsFor m) (λ h. eqb h.number number) m.handles made.targets }
+apply-made (CatchesUp number) m made lawful alive = record { counted = made.counted; recorded = made.recorded; within = all-numbered number (length m.history) (reseen (λ h. Some (length m.history))) (λ h w. omega arith) m.handles made.within; targets = all-on_first (IsFor m) (λ h. eqb h.number number) (reseen (λ h. Some (length m.history))) (λ h p. p) m.handles made.targets }
+apply-made (Passes number count) m made lawful alive = record { counted = made.counted; recorded = made.recorded; within = all-numbered number (length m.history) (reseen (λ h. passed h m.history count h.seen)) (λ h w. passed-within h m.history count (seen_with h m.history h.seen) h.seen w) m.handles made.within; targets = all-on_first (IsFor m) (λ h. eqb h.number number) (reseen (λ h. passed h m.history count h.seen)) (λ h p. p) m.handles made.targets }
+apply-made (Parks number size) m made lawful alive = record { counted = made.counted; recorded = made.recorded; within = all-numbered number (length m.history) (λ h. record h { parked = size }) (λ h w. w) m.handles made.within; targets = all-on_first (IsFor m) (λ h. eqb h.number number) (λ h. record h { parked = size }) (λ h p. p) m.handles made.targets }
+apply-made (Arms number pulse) m made lawful alive = record { counted = made.counted; recorded = made.recorded; within = all-numbered number (length m.history) (λ h. record h { armed = pulse }) (λ h w. w) m.handles made.within; targets = all-on_first (IsFor m) (λ h. eqb h.number number) (λ h. record h { armed = pulse }) (λ h p. p) m.handles made.targets }
+apply-made (Queues conn item) m made lawful alive = record { counted = made.counted; recorded = made.recorded; within = made.within; targets = made.targets }
+apply-made (Takes conn) m made lawful alive = record { counted = made.counted; recorded = made.recorded; within = made.within; targets = made.targets }
+apply-made (MakesDirectory path) m made lawful alive = record { counted = made.counted; recorded = made.recorded; within = made.within; targets = made.targets }
+apply-made (RemovesDirectory number) m made lawful alive = record { counted = made.counted; recorded = made.recorded; within = made.within; targets = made.targets }
 
 apply-next : (x : Move) (m : Machine) → length (apply x m).objects ≡ next_after (length m.objects) x
 apply-next (Creates o) m = length-push m.objects o
@@ -118,25 +213,58 @@ apply-next (RemovesDirectory number) m = refl
 
 -- ---- the law
 
-pub apply_all-shown : (xs : List Move) (m : Machine) → IsMachine m → AreLawful (length m.objects) xs → (shown (apply_all xs m) ≡ apply_all_seen xs (shown m)) × IsMachine (apply_all xs m)
-apply_all-shown [] m made lawful = (refl, made)
-apply_all-shown (x ∷ xs) m made lawful =
-    let rest = apply_all-shown xs (apply x m) (apply-made x m made lawful.0) (subst (λ n. AreLawful n xs) (sym (apply-next x m)) lawful.1) in
-    (rest.0 ∙ ap (apply_all_seen xs) (apply-shown x m made lawful.0), rest.1)
+pub apply_all-shown : (xs : List Move) (m : Machine) → IsMade m → AreLawful (length m.objects) xs → AreAlive (shown m) xs → (shown (apply_all xs m) ≡ apply_all_seen xs (shown m)) × IsMade (apply_all xs m)
+apply_all-shown [] m made lawful alive = (refl, made)
+apply_all-shown (x ∷ xs) m made lawful alive =
+    let first = apply-shown x m made lawful.0 in
+    let rest = apply_all-shown xs (apply x m) (apply-made x m made lawful.0 alive.0) (subst (λ n. AreLawful n xs) (sym (apply-next x m)) lawful.1) (subst (λ c. AreAlive c xs) (sym first) alive.1) in
+    (rest.0 ∙ ap (apply_all_seen xs) first, rest.1)
+
+pub made-of : (m : Machine) → IsMachine m → IsMade m
+made-of m made = record { counted = made.counted; recorded = made.recorded; within = made.within; targets = made.targets }
+
+pub machine-of : (m : Machine) → IsMade m → IsContent (shown m) → IsMachine m
+machine-of m made standing = record { counted = made.counted; recorded = made.recorded; within = made.within; targets = made.targets; standing = standing }
 
 -- the law: what stands after a step is the step of what stood, and the replies are equal
 pub step-shown : (m : Machine) → IsMachine m → (e : Event) → ((step m e).0, shown (step m e).1) ≡ step_seen (shown m) e
 unfolding step step_seen
-step-shown m made e = ap (λ c. ((plan (shown m) e).0, c)) (apply_all-shown (plan (shown m) e).1 m made (plan-lawful (shown m) e)).0
+step-shown m made e = ap (λ c. ((plan (shown m) e).0, c)) (apply_all-shown (plan (shown m) e).1 m (made-of m made) (plan-lawful (shown m) e) (plan-alive (shown m) e (basis-in (shown m) made.standing))).0
 
 pub step-made : (m : Machine) → IsMachine m → (e : Event) → IsMachine (step m e).1
 unfolding step
-step-made m made e = (apply_all-shown (plan (shown m) e).1 m made (plan-lawful (shown m) e)).1
+step-made m made e = machine-of (step m e).1 (apply_all-shown (plan (shown m) e).1 m (made-of m made) (plan-lawful (shown m) e) (plan-alive (shown m) e (basis-in (shown m) made.standing))).1
+    (subst IsContent (sym (ap (λ (s : Reply × Content). s.1) (step-shown m made e))) (step-content (shown m) e made.standing))
+
+pub marked-made : (m : Machine) → IsMachine m → (e : Event) (mark : Bool) → IsMachine (marked_step m e mark).1
+marked-made m made e true = made
+marked-made m made e false = step-made m made e
+
+pub end-made : (answered : List Answered) (m : Machine) → IsMachine m → IsMachine (end_of m answered)
+end-made [] m made = made
+end-made (x ∷ xs) m made = end-made xs (after_answered m x) (marked-made m made x.event (is_marked x.reply))
+
+pub start-of : (first limit : ℕ) → IsMade (start first limit)
+start-of first limit = record { counted = tt; recorded = tt; within = tt; targets = tt }
+
+pub start-content : (first limit : ℕ) → IsContent (shown (start first limit))
+start-content first limit = record {
+  order = record { handles_rise = omega arith; objects_rise = omega arith; directories_rise = (omega arith, omega arith); connections_rise = omega arith };
+  tree = record { root = refl; parents = (refl, tt); paths = (refl, tt); free = (refl, tt); names = tt; places = tt };
+  held = record { owners = tt; targets = tt };
+  served = record { servers = tt; users = tt };
+  told = record { fitting = tt; whole = tt; first = tt };
+  parked = record { idle = tt };
+}
 
 pub start-made : (first limit : ℕ) → IsMachine (start first limit)
-start-made first limit = record { numbered = tt; within = tt }
+start-made first limit = machine-of (start first limit) (start-of first limit) (start-content first limit)
 
 -- a run
 pub after-shown : (es : List Event) (m : Machine) → IsMachine m → shown (after m es) ≡ after_seen (shown m) es
 after-shown [] m made = refl
 after-shown (e ∷ es) m made = after-shown es (step m e).1 (step-made m made e) ∙ ap (λ s. after_seen s.1 es) (step-shown m made e)
+
+pub after-content : (es : List Event) (c : Content) → IsContent c → IsContent (after_seen c es)
+after-content [] c well = well
+after-content (e ∷ es) c well = after-content es (step_seen c e).1 (step-content c e well)

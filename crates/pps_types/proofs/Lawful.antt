@@ -19,9 +19,10 @@ use Rattle.pps_types.specs.Bytes.{is_empty}
 use Rattle.pps_types.specs.Checks.{Addressee, Everyone, OneClient, Nobody, addressee, first_refusal}
 use Rattle.pps_types.specs.declared.handle_kind.HandleKind.{HandleKind}
 use Rattle.pps_types.specs.declared.handle_kind.HandleKind.TheVariants.{Object as ObjectHandle, Directory as DirectoryHandle, Names as NamesHandle, Server as ServerHandle, Client as ClientHandle}
-use Rattle.pps_types.specs.Reading.{Open, Seen, Answer, Everything, Blocks, Needs, TargetGone, Waits, Nothing}
+use Rattle.pps_types.specs.Reading.{Open, Answer, Everything, Blocks, Needs, TargetGone, Waits, Nothing}
+use Rattle.pps_types.specs.Rests.{Seen}
 use Rattle.pps_types.specs.Outbox.{first_of}
-use Rattle.pps_types.specs.Content.{Content, Known, Directory, object_numbered, object_at, directory_at, handle_numbered, handles_of, queue_of, news, read_answer}
+use Rattle.pps_types.specs.Content.{Content, Known, Directory, object_numbered, object_at, directory_at, handles_of, queue_of, news, read_answer, own_handle}
 use Rattle.pps_types.specs.Plan.{Move, Creates, Happens, apply_all_seen, entry_of, effect, plan, decided, all_checks_of, settling, settling_handle, fired, late_replies, late_reply, opening, preparing, new_object, writing, written_kind, sent, on_target, closing, closings, parting, unlinking, received, read_effect, with_result, had_news, found_object}
 use Rattle.pps_types.specs.Machine.{IsLawful, AreLawful, next_after, is_creation}
 
@@ -154,13 +155,13 @@ unfolding effect
 effect-lawful c conn Attach = (tt, tt)
 effect-lawful c conn Detach = plain-lawful _ c.next_object (plain-append (closings c (handles_of c conn)) _ (closings-plain c (handles_of c conn)) ((λ n. tt), tt))
 effect-lawful c conn (OpenRequest mode text) = lawful-result c.next_object _ (λ spec. opening-lawful c conn mode spec (found_object c spec)) (open_text text)
-effect-lawful c conn (Read handle size) = plain-lawful _ c.next_object (plain-outcome _ (λ h. read_effect-plain h size (read_answer c h size)) (handle_numbered c handle))
-effect-lawful c conn (Write handle bytes) = plain-lawful _ c.next_object (plain-outcome _ (λ h. plain-result _ (λ text. writing-plain c h text) (write_text bytes)) (handle_numbered c handle))
-effect-lawful c conn (Close handle) = plain-lawful _ c.next_object (plain-outcome _ (λ h. closing-plain c h) (handle_numbered c handle))
+effect-lawful c conn (Read handle size) = plain-lawful _ c.next_object (plain-outcome _ (λ h. read_effect-plain h size (read_answer c h size)) (own_handle c conn handle))
+effect-lawful c conn (Write handle bytes) = plain-lawful _ c.next_object (plain-outcome _ (λ h. plain-result _ (λ text. writing-plain c h text) (write_text bytes)) (own_handle c conn handle))
+effect-lawful c conn (Close handle) = plain-lawful _ c.next_object (plain-outcome _ (λ h. closing-plain c h) (own_handle c conn handle))
 effect-lawful c conn (Unlink path) = plain-lawful _ c.next_object (plain-outcome _ (λ names. unlinking-plain (object_at c names) (directory_at c names)) (path_text path))
 effect-lawful c conn (Mkdir path) = plain-lawful _ c.next_object (plain-outcome _ (λ names. ((λ n. tt), tt)) (path_text path))
 effect-lawful c conn (ListRequest path) = plain-lawful _ c.next_object (plain-outcome _ (λ names. tt) (path_text path))
-effect-lawful c conn (Notify handle action code value) = plain-lawful _ c.next_object (plain-outcome _ (λ h. ((λ n. tt), tt)) (handle_numbered c handle))
+effect-lawful c conn (Notify handle action code value) = plain-lawful _ c.next_object (plain-outcome _ (λ h. ((λ n. tt), tt)) (own_handle c conn handle))
 effect-lawful c conn Receive = plain-lawful _ c.next_object (received-plain conn (first_of (queue_of c conn)))
 
 pub plan-lawful : (c : Content) (e : Event) → AreLawful c.next_object (plan c e).1

@@ -6,7 +6,8 @@ use Rattle.std.proofs.lemmas.List.{drop-append-le, drop-drop}
 use Rattle.std.proofs.lemmas.List.Elements.{filter-append}
 use Rattle.pps_types.specs.Bytes.{is_empty}
 use Rattle.pps_types.specs.History.{Entry}
-use Rattle.pps_types.specs.Reading.{Open, Seen, News, Unread, Over, Owed, Style, Full, Delta, Queue, style, stand, unread, reseen, visible, keeps, concerns, is_chained, is_writer, is_object_kind, shown, from_first, pushed, past, behind, seen_of, seen_with, over_limit, rest_of}
+use Rattle.pps_types.specs.Reading.{Open, Style, Full, Delta, Queue, style, reseen, visible, concerns, is_chained, is_writer, is_object_kind, shown}
+use Rattle.pps_types.specs.Rests.{Seen, News, Unread, Over, Owed, stand, unread, keeps, from_first, pushed, past, behind, seen_of, seen_with, over_limit, rest_of}
 use Rattle.pps_types.specs.Plan.{offered, offer, left, caught_up, first_seen}
 use Rattle.pps_types.specs.Machine.{IsWithin, shown_handle, passed, passed_with, first_cursor}
 use Rattle.pps_types.proofs.Lists.{append-nil, from_first-push, past-from_first, filter-behind}

@@ -8,7 +8,8 @@ use Rattle.pps_types.specs.declared.found.Found.{Found}
 use Rattle.pps_types.specs.declared.found.Found.TheVariants.{Object as FoundObject, Directory as FoundDirectory}
 use Rattle.pps_types.specs.Names.{Path, name_cmp, sorted_by}
 use Rattle.pps_types.specs.History.{Entry, Attribute, line_of, state, is_alive}
-use Rattle.pps_types.specs.Reading.{Open, Seen, Style, Full, Delta, Queue, style, is_full_style, is_delta_style, is_directory_kind, stand, unread, visible, seen_with, rest_of, is_over, owed_in, everything_of, answer}
+use Rattle.pps_types.specs.Reading.{Open, Style, Full, Delta, Queue, style, is_full_style, is_delta_style, is_directory_kind, visible, everything_of}
+use Rattle.pps_types.specs.Rests.{Seen, stand, unread, seen_with, rest_of, is_over, owed_in, answer}
 use Rattle.pps_types.specs.Content.{Object, Known, at, object_numbered, members, member, target_members, everything, read_answer}
 use Rattle.pps_types.specs.Machine.{Machine, known, shown, shown_handle}
 use Rattle.pps_types.specs.Owed.{owed, is_past_limit, answer_of, alive_object, alive_members, members_of_target, is_dead, owed_by, owed_by_seen, owed_in_seen, kept, kept_of, kept_at, kept_seen, longest}
@@ -127,7 +128,7 @@ answer-shown m h max reads =
 
 -- ---- how much a handle is owed
 
-find-shown : (H : List Entry) (n : ℕ) (hs : List (Open (Option ℕ))) → find (λ (h : Open Seen). eqb h.number n) (map (shown_handle H) hs) ≡ option_map (shown_handle H) (find (λ h. eqb h.number n) hs)
+pub find-shown : (H : List Entry) (n : ℕ) (hs : List (Open (Option ℕ))) → find (λ (h : Open Seen). eqb h.number n) (map (shown_handle H) hs) ≡ option_map (shown_handle H) (find (λ h. eqb h.number n) hs)
 find-shown H n [] = refl
 find-shown H n (h ∷ hs) = by (eqb h.number n) (find-shown H n hs)
   where

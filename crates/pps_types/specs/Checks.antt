@@ -1,6 +1,6 @@
 -- The checks that an event meets, in their order, and from which place on want of memory may be the answer.
 -- QNX C library, on the errors of `open`, `read`, `write`, `unlink` and `ionotify`; their order and most limits are our own.
-use Rattle.std.specs.Prelude.{ℕ, List, [], ◌∷◌, ◌++◌, Bool, true, false, not, ◌&&◌, ◌||◌, ◌==◌, nat_le, nat_lt, if◌then◌else◌, Option, Some, None, is_none, is_some, option_and_then, ok_or, Result, Ok, Err, filter, find, map, length, fold, codes}
+use Rattle.std.specs.Prelude.{ℕ, List, [], ◌∷◌, ◌++◌, Bool, true, false, not, ◌&&◌, ◌||◌, ◌==◌, nat_le, nat_lt, if◌then◌else◌, Option, Some, None, is_none, is_some, option_and_then, ok_or, Result, Ok, Err, filter, map, length, fold, codes}
 use Rattle.std.specs.Option.{option_map_or}
 use Rattle.pps_types.specs.declared.found.Found.{Found}
 use Rattle.pps_types.specs.declared.found.Found.TheVariants.{Object as FoundObject, Directory as FoundDirectory}
@@ -21,9 +21,10 @@ use Rattle.pps_types.specs.OpenText.{OpenSpec, open_text, path_text}
 use Rattle.pps_types.specs.History.{Attribute, apply_line, resolve, text_length, Entry}
 use Rattle.pps_types.specs.declared.handle_kind.HandleKind.{HandleKind}
 use Rattle.pps_types.specs.declared.handle_kind.HandleKind.TheVariants.{Object as ObjectHandle, Server as ServerHandle, Client as ClientHandle}
-use Rattle.pps_types.specs.Reading.{Seen, owed_in, Open, Answer, Needs, TargetGone, Waits}
+use Rattle.pps_types.specs.Reading.{Open, Answer, Needs, TargetGone, Waits}
+use Rattle.pps_types.specs.Rests.{Seen, owed_in}
 use Rattle.pps_types.specs.Outbox.{arm_refusal, park_refusal, arms, first_of}
-use Rattle.pps_types.specs.Content.{Content, object_numbered, attributes_of, at, parent_number, members, subdirectories, handle_numbered, news, has_object_handle, has_directory_handle, target_is_dead, read_answer, is_attached, queue_of, outbox_of}
+use Rattle.pps_types.specs.Content.{Content, object_numbered, attributes_of, at, parent_number, members, subdirectories, handle_numbered, own_handle, news, has_object_handle, has_directory_handle, target_is_dead, read_answer, is_attached, queue_of, outbox_of}
 
 -- A refusal where the test holds; or the mark from which on memory may be wanting.
 pub data Check : Type 0 where
@@ -98,11 +99,7 @@ open_checks c mode spec =
 
 -- checks on a handle of this connection
 abbrev pub on_handle : Content → ℕ → ℕ → (Open Seen → List Check) → List Check
-on_handle c conn number checks = known (find (λ h. (h.number == number) && (h.connection == conn)) c.handles) checks
-  where
-    known : Option (Open Seen) → (Open Seen → List Check) → List Check
-    known None checks = Refuse true BadHandle ∷ []
-    known (Some h) checks = checks h
+on_handle c conn number checks = option_map_or checks (own_handle c conn number) (Refuse true BadHandle ∷ [])
 
 abbrev pub answer_checks : Content → Open Seen → Answer → List Check
 answer_checks c h (Needs need) = Refuse true (TooSmall need) ∷ []

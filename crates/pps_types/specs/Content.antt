@@ -9,7 +9,8 @@ use Rattle.pps_types.specs.declared.outcome.Item.{Item}
 use Rattle.pps_types.specs.Bytes.{same}
 use Rattle.pps_types.specs.Names.{Name, Path, same_path, parent, last_name, name_cmp, sorted_by}
 use Rattle.pps_types.specs.History.{Attribute, line_of}
-use Rattle.pps_types.specs.Reading.{Open, Seen, is_directory_kind, Member, Answer, news_in, is_over, everything_of, answer}
+use Rattle.pps_types.specs.Reading.{Open, is_directory_kind, Member, Answer, everything_of}
+use Rattle.pps_types.specs.Rests.{Seen, news_in, is_over, answer}
 use Rattle.pps_types.specs.Outbox.{Outbox}
 
 -- What is fixed when an object is created. server: the handle that owns it, where it is a server object.
@@ -83,6 +84,10 @@ subdirectories c path = filter (λ d. not (same_path d.path []) && same_path (pa
 
 abbrev pub handle_numbered : Content → ℕ → Option (Open Seen)
 handle_numbered c number = find (λ h. h.number == number) c.handles
+
+-- the handle of that number, where it is the connection's own
+abbrev pub own_handle : Content → ℕ → ℕ → Option (Open Seen)
+own_handle c conn number = find (λ h. (h.number == number) && (h.connection == conn)) c.handles
 
 abbrev pub news : Open Seen → Bool
 news h = news_in h.reads h.seen

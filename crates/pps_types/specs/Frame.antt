@@ -1,4 +1,6 @@
 -- The frames of requests and of answers: how each is spelled, how bytes are read back, and how a stream of frames ends. Own.
+-- To be believed is how requests and answers are spelled and what a stream is. How a body and a stream are read back follows from it: that
+-- reading is the inverse of spelling, and the only one there is, is proved (FrameLaws).
 use Rattle.std.specs.Prelude.{◌≡◌, ◌≢◌, ◌⊎◌, ℕ, zero, suc, ◌+◌, ◌/◌, ◌%◌, ◌^◌, ◌<◌, ◌≤◌, ◌==◌, nat_lt, Bool, true, false, ◌||◌}
 use Rattle.std.specs.Prelude.{if◌then◌else◌}
 use Rattle.std.specs.Prelude.{List, [], ◌∷◌, ◌++◌, length, take, drop, slice_index, All, Option, Some, None, Result, Ok, Err}

@@ -1,27 +1,40 @@
 -- The laws of the service, each the contract of a function that does nothing.
-use Rattle.std.specs.Prelude.{◌≡◌, ◌≤◌, ◌<◌, ℕ, ◌+◌, List, [], ◌∷◌, ◌++◌, true, false, if◌then◌else◌, Option, Some, None, Ok, Err, length, take}
+use Rattle.std.specs.Prelude.{◌≡◌, ◌≤◌, ◌<◌, ℕ, ◌+◌, List, [], ◌∷◌, ◌++◌, Bool, true, false, if◌then◌else◌, Option, Some, None, Ok, Err, length, take}
 use Rattle.std.specs.List.{concat}
 use Rattle.pps_types.specs.declared.event.Event.{Event}
 use Rattle.pps_types.specs.declared.refusal.Refusal.{Refusal}
 use Rattle.pps_types.specs.Outcome.{Reply}
 use Rattle.pps_types.specs.Names.{Path}
 use Rattle.pps_types.specs.History.{Entry}
-use Rattle.pps_types.specs.Reading.{Open, visible, style, is_full_style, seen_with, news_in, is_over, owed_in, fitting}
-use Rattle.pps_types.specs.Content.{Content, read_answer}
+use Rattle.pps_types.specs.Reading.{Open, visible, style, is_full_style, fitting}
+use Rattle.pps_types.specs.Rests.{seen_with, news_in, is_over, owed_in}
+use Rattle.pps_types.specs.Content.{Content, queue_of, handles_of, read_answer}
 use Rattle.pps_types.specs.Checks.{first_refusal}
 use Rattle.pps_types.specs.Plan.{all_checks_of, effect, settling, apply_all_seen, step_seen}
-use Rattle.pps_types.specs.Machine.{Machine, IsMachine, start, shown, shown_handle, step, apply_all}
-use Rattle.pps_types.specs.Runs.{Answered, after, after_seen}
+use Rattle.pps_types.specs.WellFormed.{IsContent}
+use Rattle.pps_types.specs.Machine.{Machine, IsMachine, start, shown, shown_handle, step, marked_step, apply_all}
+use Rattle.pps_types.specs.Runs.{Answered, IsRun, after, after_seen, end_of, replies_to, queued_in}
+use Rattle.pps_types.specs.Privacy.{Agree}
 use Rattle.pps_types.specs.Stands.{StepsSeen, Steps, RunsSeen, Runs}
-use Rattle.pps_types.specs.Image.{Image, started, started_seen}
+use Rattle.pps_types.specs.Image.{Image, IsImage, read_image, started, started_seen}
 use Rattle.pps_types.specs.Owed.{owed, is_past_limit, has_news, answer_of, owed_by, owed_by_seen, kept, kept_seen}
 
 -- ---- the machine and what stands of it
 
--- the start is well formed, and each event keeps a machine well formed
+-- the start is well formed, and each event keeps a machine well formed, marked or not
 pub record MachinesStay : Type 0 where
   pub begins : (first_handle default_limit : ℕ) → IsMachine (start first_handle default_limit)
   pub stays : (m : Machine) → IsMachine m → (e : Event) → IsMachine (step m e).1
+  pub marked : (m : Machine) → IsMachine m → (e : Event) (mark : Bool) → IsMachine (marked_step m e mark).1
+  pub ends : (m : Machine) → IsMachine m → (answered : List Answered) → IsMachine (end_of m answered)
+
+-- what stands is well formed, and each step of it keeps that, so that a service that keeps only what stands has it too
+pub record ContentsStay : Type 0 where
+  pub stands : (m : Machine) → IsMachine m → IsContent (shown m)
+  pub begins : (first_handle default_limit : ℕ) → IsContent (shown (start first_handle default_limit))
+  pub images : (i : Image) → IsImage i → IsContent (started_seen i)
+  pub stays : (c : Content) → IsContent c → (e : Event) → IsContent (step_seen c e).1
+  pub ends : (c : Content) → IsContent c → (es : List Event) → IsContent (after_seen c es)
 
 -- what stands after an event is the step of what stood before, and the replies are equal; so for each list of events
 pub record StepsAreShown : Type 0 where
@@ -33,9 +46,11 @@ pub record StepsStand : Type 0 where
   pub event : (old : Content) (e : Event) (reply : Reply) (new : Content) → StepsSeen old e reply new → Steps old e reply new
   pub events : (old : Content) (answered : List Answered) (new : Content) → RunsSeen old answered new → Runs old answered new
 
--- what an image starts is a well formed machine, and what stands of it is what the image's entries restore one after the other
+-- what an image starts is a well formed machine, and what stands of it is what the image's entries restore one after the other;
+-- in what is read as an image each entry may follow those before it
 pub record ImagesStart : Type 0 where
-  pub made : (i : Image) → IsMachine (started i)
+  pub made : (i : Image) → IsImage i → IsMachine (started i)
+  pub read : (bytes : List ℕ) (i : Image) → read_image bytes ≡ Ok i → IsImage i
   pub stands : (i : Image) → shown (started i) ≡ started_seen i
 
 -- ---- the plain words
@@ -84,3 +99,18 @@ pub record IsLongestRun (room : ℕ) (blocks : List (List ℕ)) (given : ℕ × 
 
 abbrev pub BlocksFit : Type 0
 BlocksFit = (room : ℕ) (blocks : List (List ℕ)) → IsLongestRun room blocks (fitting room blocks)
+
+-- ---- private traffic
+
+-- In two runs from one machine a connection is given the same replies and is queued the same items, in order,
+-- and at the end the same items stand in its queue, and its handles stand alike.
+pub record MeetsAlike (conn : ℕ) (m : Machine) (first second : List Answered) : Type 0 where
+  pub replies : replies_to conn first ≡ replies_to conn second
+  pub items : queued_in conn m first ≡ queued_in conn m second
+  pub queue : queue_of (shown (end_of m first)) conn ≡ queue_of (shown (end_of m second)) conn
+  pub handles : handles_of (shown (end_of m first)) conn ≡ handles_of (shown (end_of m second)) conn
+
+-- runs that agree for a connection, it can't tell apart
+abbrev pub PrivateTraffic : Type 0
+PrivateTraffic = (conn : ℕ) (m : Machine) → IsMachine m → (first second : List Answered) → IsRun m first → IsRun m second
+    → Agree conn m first second → MeetsAlike conn m first second

@@ -9,10 +9,13 @@ pub mod Names
 pub mod OpenText
 pub mod History
 pub mod Reading
+pub mod Rests
 pub mod Outbox
 pub mod Content
 pub mod Checks
+pub mod WellFormed
 pub mod Plan
+pub mod PlanLaws
 pub mod Machine
 pub mod Runs
 pub mod Stands
@@ -21,6 +24,9 @@ pub mod Laws
 pub mod Frame
 pub mod FrameLaws
 pub mod Image
+pub mod Restore
 pub mod Merge
+pub mod ReadLaws
+pub mod RunLaws
 pub mod Privacy
 pub mod TextLaws

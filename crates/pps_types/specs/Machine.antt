@@ -1,17 +1,21 @@
 -- The machine: all records that were ever made, the names, and a cursor for each open handle; what stands of them; and its steps. Own.
-use Rattle.std.specs.Prelude.{◌≡◌, ◌≤◌, ◌<◌, ℕ, ◌+◌, List, [], ◌∷◌, ◌++◌, Bool, true, false, not, ◌==◌, if◌then◌else◌, Option, Some, None, Err, filter, map, length, drop}
+use Rattle.std.specs.Prelude.{◌≡◌, ◌≤◌, ℕ, ◌+◌, List, [], ◌∷◌, ◌++◌, Bool, true, false, not, ◌==◌, if◌then◌else◌, Option, Some, None, is_some, Err, find, map, option_map, length, drop}
 use Rattle.std.specs.List.{filter_map, AllByRecursion}
 use Rattle.pps_types.specs.declared.event.Event.{Event}
 use Rattle.pps_types.specs.declared.refusal.Refusal.TheVariants.{OutOfMemory}
 use Rattle.pps_types.specs.declared.record.Kind.{Kind}
+use Rattle.pps_types.specs.declared.handle_kind.HandleKind.{HandleKind}
+use Rattle.pps_types.specs.declared.handle_kind.HandleKind.TheVariants.{Object as ObjectHandle, Directory as DirectoryHandle, Names as NamesHandle, Server as ServerHandle, Client as ClientHandle}
 use Rattle.pps_types.specs.declared.record.Kind.TheVariants.{Created}
 use Rattle.pps_types.specs.Outcome.{Reply}
 use Rattle.pps_types.specs.History.{Entry, state, is_alive}
-use Rattle.pps_types.specs.Reading.{Open, Seen, Owed, reseen, Style, Queue, style, seen_with, visible, behind}
+use Rattle.pps_types.specs.Reading.{Open, reseen, Style, Queue, style, visible}
+use Rattle.pps_types.specs.Rests.{Seen, Owed, seen_with, behind}
 use Rattle.pps_types.specs.Outbox.{behind_first}
 use Rattle.pps_types.specs.Content.{Object, Directory, Known, Connection, Content}
 use Rattle.pps_types.specs.Checks.{checks}
-use Rattle.pps_types.specs.Plan.{Move, Attaches, Leaves, Creates, Happens, Opens, Closes, CatchesUp, Passes, Parks, Arms, Queues, Takes, MakesDirectory, RemovesDirectory, without_first, on_numbered, without_number, on_connection, with_connection, without_connection, creation, plan, effect, settling, step_seen}
+use Rattle.pps_types.specs.WellFormed.{IsContent, server_of}
+use Rattle.pps_types.specs.Plan.{Move, Attaches, Leaves, Creates, Happens, Opens, Closes, CatchesUp, Passes, Parks, Arms, Queues, Takes, MakesDirectory, RemovesDirectory, without_first, on_numbered, without_number, on_connection, with_connection, without_connection, creation, apply_seen, plan, effect, settling, step_seen}
 
 -- A handle has its cursor, a place in the history, from its first read on; a server's or client's from its opening on.
 pub record Machine : Type 0 where
@@ -111,10 +115,50 @@ abbrev pub IsWithin : ℕ → Option ℕ → Type 0
 IsWithin end None = Unit {0}
 IsWithin end (Some cursor) = cursor ≤ end
 
--- objects are numbered below the next number, and no cursor is past the end
+-- from n on, one after the other
+abbrev pub AreCounted : ℕ → List Object → Type 0
+AreCounted n [] = Unit {0}
+AreCounted n (o ∷ os) = (o.number ≡ n) × AreCounted (n + 1) os
+
+-- the server of an object that was made, alive or dead: none of a plain one
+abbrev pub server_made : Machine → ℕ → Option (Option ℕ)
+server_made m object = option_map (λ o. o.server) (find (λ o. o.number == object) m.objects)
+
+-- the object was made; a server's and a client's is a server object, and any other object's handle is on a plain one
+abbrev pub is_for : HandleKind → Option (Option ℕ) → Bool
+is_for ServerHandle (Some server) = is_some server
+is_for ServerHandle None = false
+is_for ClientHandle (Some server) = is_some server
+is_for ClientHandle None = false
+is_for (ObjectHandle delta) (Some server) = not (is_some server)
+is_for (ObjectHandle delta) None = false
+is_for (DirectoryHandle delta) made = true
+is_for NamesHandle made = true
+
+-- the record is of an object that was made, under its directory and its name
+pub record IsRecorded (objects : List Object) (e : Entry) : Type 0 where
+  pub object : Object
+  pub made : find (λ o. o.number == e.record_of.object) objects ≡ Some object
+  pub in_directory : e.directory ≡ object.directory
+  pub under_name : e.name ≡ object.name
+
+-- Objects are numbered 0, 1, 2 and so on, in the order in which they were made; each record is of one of them; no cursor is past the end;
+-- each handle is on an object for its kind, alive or dead; and what stands is well formed.
 pub record IsMachine (m : Machine) : Type 0 where
-  pub numbered : AllByRecursion (λ o. o.number < length m.objects) m.objects
+  pub counted : AreCounted 0 m.objects
+  pub recorded : AllByRecursion (IsRecorded m.objects) m.history
   pub within : AllByRecursion (λ h. IsWithin (length m.history) h.seen) m.handles
+  pub targets : AllByRecursion (λ h. is_for h.kind (server_made m h.target) ≡ true) m.handles
+  pub standing : IsContent (shown m)
+
+-- All of it but that what stands is well formed, which does not hold between the moves of one event.
+pub record IsMade (m : Machine) : Type 0 where
+  pub counted : AreCounted 0 m.objects
+  pub recorded : AllByRecursion (IsRecorded m.objects) m.history
+  pub within : AllByRecursion (λ h. IsWithin (length m.history) h.seen) m.handles
+  pub targets : AllByRecursion (λ h. is_for h.kind (server_made m h.target) ≡ true) m.handles
+
+-- ---- moves that keep a machine well formed
 
 abbrev pub is_creation : Kind → Bool
 is_creation Created = true
@@ -133,6 +177,24 @@ next_after next _ = next
 abbrev pub AreLawful : ℕ → List Move → Type 0
 AreLawful next [] = Unit {0}
 AreLawful next (x ∷ xs) = IsLawful next x × AreLawful (next_after next x) xs
+
+-- the record is of an object that is alive, under its directory and its name
+pub record IsOfAlive (objects : List Known) (e : Entry) : Type 0 where
+  pub object : Known
+  pub found : find (λ o. o.object.number == e.record_of.object) objects ≡ Some object
+  pub in_directory : e.directory ≡ object.object.directory
+  pub under_name : e.name ≡ object.object.name
+
+-- a handle opens on an object that is alive, for its kind, and only what is alive has records
+abbrev pub IsAlive : Content → Move → Type 0
+IsAlive c (Opens h) = is_for h.kind (server_of c h.target) ≡ true
+IsAlive c (Happens e) = IsOfAlive c.objects e
+IsAlive c x = Unit {0}
+
+-- each where those before it took effect
+abbrev pub AreAlive : Content → List Move → Type 0
+AreAlive c [] = Unit {0}
+AreAlive c (x ∷ xs) = IsAlive c x × AreAlive (apply_seen x c) xs
 
 -- names what opens for a computation of the machine: `unfolding machine` opens it all
 unfoldable pub machine : ℕ

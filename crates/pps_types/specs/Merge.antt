@@ -1,5 +1,5 @@
 -- Sessions, and when one history is a merge of them. Own.
-use Rattle.std.specs.Prelude.{◌≡◌, ℕ, List, [], ◌∷◌, Bool, true, not, ◌&&◌, ◌==◌, All, filter}
+use Rattle.std.specs.Prelude.{◌≡◌, ℕ, List, [], ◌∷◌, ◌++◌, Bool, true, not, ◌&&◌, ◌==◌, if◌then◌else◌, All, filter}
 use Rattle.std.specs.List.{list_any, list_all}
 use Rattle.pps_types.specs.declared.event.Event.{Event}
 use Rattle.pps_types.specs.Runs.{Answered, events_of}
@@ -22,3 +22,7 @@ pub record IsMerge (trace : List Answered) (sessions : List Session) : Type 0 wh
 abbrev pub are_distinct : List ℕ → Bool
 are_distinct [] = true
 are_distinct (c ∷ cs) = not (list_any (λ d. d == c) cs) && are_distinct cs
+
+-- one more event of its connection's session
+abbrev pub with_event : Event → Session → Session
+with_event e s = if s.connection == e.conn then record s { events = s.events ++ e ∷ [] } else s

@@ -9,7 +9,8 @@ use Rattle.pps_types.specs.Bytes.{is_empty}
 use Rattle.pps_types.specs.Names.{Path, name_cmp, sorted_by}
 use Rattle.pps_types.specs.History.{Entry, line_of}
 use Rattle.pps_types.specs.declared.handle_kind.HandleKind.TheVariants.{Object as ObjectHandle, Names as NamesHandle}
-use Rattle.pps_types.specs.Reading.{Open, Seen, Owed, style, is_full_style, is_delta_style, is_directory_kind, visible, is_chained, block, Member, everything_of, Answer, whole_answer, owed_answer}
+use Rattle.pps_types.specs.Reading.{Open, style, is_full_style, is_delta_style, is_directory_kind, visible, is_chained, block, Member, everything_of, Answer, whole_answer, owed_answer}
+use Rattle.pps_types.specs.Rests.{Seen, Owed}
 use Rattle.pps_types.specs.Content.{Known, Content, at, member, handle_numbered}
 use Rattle.pps_types.specs.Machine.{Machine, known, shown}
 
@@ -115,13 +116,18 @@ oldest directory target history [] = None
 oldest directory target history (h ∷ hs) =
     older (if is_of directory target h && not (is_past_limit h (owed h history h.seen)) then first_owed h history h.seen else None) (oldest directory target history hs)
 
-abbrev pub count_from : Bool → ℕ → List Entry → Option ℕ → ℕ
-count_from directory target history None = 0
-count_from directory target history (Some place) = length (filter (in_chain directory target) (drop place history))
+-- the records of a directory or an object from a place in the history on
+abbrev pub records_from : Bool → ℕ → List Entry → Option ℕ → List Entry
+records_from directory target history None = []
+records_from directory target history (Some place) = filter (in_chain directory target) (drop place history)
 
--- how many records of an object or a directory there are from the oldest that is owed, up to the newest
+-- the records of an object or a directory from the oldest that is owed, up to the newest
+abbrev pub kept_records : Machine → Bool → ℕ → List Entry
+kept_records m directory target = records_from directory target m.history (oldest directory target m.history m.handles)
+
+-- how many they are
 abbrev pub kept_of : Machine → Bool → ℕ → ℕ
-kept_of m directory target = count_from directory target m.history (oldest directory target m.history m.handles)
+kept_of m directory target = length (kept_records m directory target)
 
 abbrev pub kept_at : (Bool → ℕ → ℕ) → Found → ℕ
 kept_at count (FoundObject number) = count false number
@@ -144,3 +150,16 @@ longest directory target (h ∷ hs) = max (if is_of directory target h then leng
 
 abbrev pub kept_seen : Content → Path → Option ℕ
 kept_seen c path = option_map (kept_at (λ directory target. longest directory target c.handles)) (at c path)
+
+-- the longer of two lists, the first where they are equally long
+abbrev pub longer : List Entry → List Entry → List Entry
+longer first second = if nat_lt (length first) (length second) then second else first
+
+-- the longest rest of the delta and names handles of that directory or object
+abbrev pub longest_rest : Bool → ℕ → List (Open Seen) → List Entry
+longest_rest directory target [] = []
+longest_rest directory target (h ∷ hs) = longer (if is_of directory target h then rest_seen h.seen else []) (longest_rest directory target hs)
+
+-- the records of an object or a directory that have to be kept
+abbrev pub kept_records_seen : Content → Bool → ℕ → List Entry
+kept_records_seen c directory target = longest_rest directory target c.handles

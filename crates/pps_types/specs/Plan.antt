@@ -1,6 +1,6 @@
 -- What an event answers and changes where no check refuses it, and what follows from it, as a list of moves that is read off what stands.
 -- QNX PPS guide, on opening, reading, writing and deleting and on server objects; QNX C library, on `ionotify`; how late replies and pulses follow is our own.
-use Rattle.std.specs.Prelude.{ℕ, ◌+◌, ◌-◌, ◌^◌, List, [], ◌∷◌, ◌++◌, Bool, false, not, ◌&&◌, ◌||◌, ◌==◌, nat_lt, if◌then◌else◌, Option, Some, None, is_some, unwrap_or, Result, Ok, Err, filter, map, length, codes}
+use Rattle.std.specs.Prelude.{ℕ, ◌+◌, ◌-◌, ◌^◌, List, [], ◌∷◌, ◌++◌, Bool, false, not, ◌&&◌, ◌||◌, ◌==◌, nat_lt, if◌then◌else◌, Option, Some, None, is_some, unwrap_or, Result, Ok, Err, map, length, codes}
 use Rattle.std.specs.Option.{option_map_or}
 use Rattle.std.specs.List.{concat, filter_map, flat_map}
 use Rattle.pps_types.specs.declared.refusal.Refusal.{Refusal}
@@ -24,9 +24,10 @@ use Rattle.pps_types.specs.OpenText.{OpenSpec, open_text, path_text}
 use Rattle.pps_types.specs.History.{Entry, after_kind, resolve, message_line}
 use Rattle.pps_types.specs.declared.handle_kind.HandleKind.{HandleKind}
 use Rattle.pps_types.specs.declared.handle_kind.HandleKind.TheVariants.{Object as ObjectHandle, Directory as DirectoryHandle, Names as NamesHandle, Server as ServerHandle, Client as ClientHandle}
-use Rattle.pps_types.specs.Reading.{Open, Seen, News, Unread, Over, Owed, reseen, style, Style, Queue, pushed, past, from_first, unread, seen_of, visible, keeps, Answer, Everything, Blocks, Needs, Waits}
+use Rattle.pps_types.specs.Reading.{Open, reseen, style, Style, Queue, visible, Answer, Everything, Blocks, Needs, Waits}
+use Rattle.pps_types.specs.Rests.{Seen, News, Unread, Over, Owed, pushed, past, from_first, unread, seen_of, keeps}
 use Rattle.pps_types.specs.Outbox.{arms, first_of, behind_first, put_rising}
-use Rattle.pps_types.specs.Content.{Object, Directory, Known, Connection, Content, attributes_of, object_numbered, directory_at, object_at, parent_number, members, subdirectories, handle_numbered, handles_of, news, read_answer, queue_of}
+use Rattle.pps_types.specs.Content.{Object, Directory, Known, Connection, Content, attributes_of, object_numbered, directory_at, object_at, parent_number, members, subdirectories, handle_numbered, own_handle, handles_of, news, read_answer, queue_of}
 use Rattle.pps_types.specs.Checks.{first_refusal, reaches_memory, Check, Refuse, checks, addressee, Addressee, OneClient}
 
 -- ---- moves
@@ -259,8 +260,9 @@ abbrev pub received : ℕ → Option Item → Outcome × List Move
 received conn None = (Empty, [])
 received conn (Some item) = (ItemOutcome item, Takes conn ∷ [])
 
-abbrev pub with_handle : Content → ℕ → (Open Seen → Outcome × List Move) → Outcome × List Move
-with_handle c number effect = option_map_or effect (handle_numbered c number) (Done, [])
+-- An event that no check refuses is of a handle that is there, and its texts can be read: no other answer of these three is ever met.
+abbrev pub with_handle : Content → ℕ → ℕ → (Open Seen → Outcome × List Move) → Outcome × List Move
+with_handle c conn number effect = option_map_or effect (own_handle c conn number) (Done, [])
 
 abbrev pub with_path : List ℕ → (Path → Outcome × List Move) → Outcome × List Move
 with_path text effect = option_map_or effect (path_text text) (Done, [])
@@ -274,25 +276,25 @@ unfoldable pub effect : Content → ℕ → Request → Outcome × List Move
 effect c conn Attach = (Done, Attaches conn ∷ [])
 effect c conn Detach = (Done, closings c (handles_of c conn) ++ Leaves conn ∷ [])
 effect c conn (OpenRequest mode text) = with_result (open_text text) (λ spec. (OpenedHandle c.next_handle, opening c conn mode spec (found_object c spec)))
-effect c conn (Read handle size) = with_handle c handle (λ h. read_effect h size (read_answer c h size))
-effect c conn (Write handle bytes) = with_handle c handle (λ h. with_result (write_text bytes) (λ text. (Wrote (length bytes), writing c h text)))
-effect c conn (Close handle) = with_handle c handle (λ h. (Done, closing c h))
+effect c conn (Read handle size) = with_handle c conn handle (λ h. read_effect h size (read_answer c h size))
+effect c conn (Write handle bytes) = with_handle c conn handle (λ h. with_result (write_text bytes) (λ text. (Wrote (length bytes), writing c h text)))
+effect c conn (Close handle) = with_handle c conn handle (λ h. (Done, closing c h))
 effect c conn (Unlink path) = with_path path (λ names. (Done, unlinking (object_at c names) (directory_at c names)))
 effect c conn (Mkdir path) = with_path path (λ names. (Done, MakesDirectory names ∷ []))
 effect c conn (ListRequest path) = with_path path (λ names. (Data (listing c names), []))
 effect c conn (Notify handle action code value) =
-    with_handle c handle (λ h. (Input (news h), Arms h.number (if arms action (news h) then Some (code, value) else None) ∷ []))
+    with_handle c conn handle (λ h. (Input (news h), Arms h.number (if arms action (news h) then Some (code, value) else None) ∷ []))
 effect c conn Receive = received conn (first_of (queue_of c conn))
 
 -- ---- what follows
 
-abbrev pub fired : Open Seen → List Move
+abbrev pub fired : {S : Type 0} → Open S → List Move
 fired h = option_map_or (λ pulse. Arms h.number None ∷ Queues h.connection (Pulse pulse.0 pulse.1) ∷ []) h.armed []
 
-abbrev pub ended : Open Seen → Result (List ℕ) Refusal → List Move
+abbrev pub ended : {S : Type 0} → Open S → Result (List ℕ) Refusal → List Move
 ended h result = Parks h.number None ∷ Queues h.connection (ReadDone h.number result) ∷ []
 
-abbrev pub late_reply : Open Seen → Answer → List Move
+abbrev pub late_reply : {S : Type 0} → Open S → Answer → List Move
 late_reply h (Everything text) = CatchesUp h.number ∷ ended h (Ok text)
 late_reply h (Blocks count text) = Passes h.number count ∷ ended h (Ok text)
 late_reply h (Needs need) = ended h (Err (TooSmall need))

@@ -1,16 +1,16 @@
 -- Private traffic: runs that one connection can't tell apart, since they differ only in what others' clients and their servers do between themselves. Own.
-use Rattle.std.specs.Prelude.{◌≡◌, ℕ, ◌-◌, ◌^◌, List, [], ◌∷◌, Bool, true, false, not, ◌&&◌, ◌||◌, ◌==◌, nat_lt, if◌then◌else◌, is_none, Result, Ok, Err}
+use Rattle.std.specs.Prelude.{◌≡◌, ℕ, ◌-◌, ◌^◌, List, [], ◌∷◌, Bool, true, false, not, ◌&&◌, ◌||◌, ◌==◌, nat_lt, if◌then◌else◌, is_none, Err}
 use Rattle.std.specs.Option.{option_map_or}
 use Rattle.std.specs.List.{list_any}
-use Rattle.pps_types.specs.declared.refusal.Refusal.{Refusal}
 use Rattle.pps_types.specs.declared.refusal.Refusal.TheVariants.{Backlogged}
 use Rattle.pps_types.specs.declared.event.Event.{Event}
 use Rattle.pps_types.specs.declared.event.Request.{Request}
 use Rattle.pps_types.specs.declared.event.Request.TheVariants.{Read, Write, Notify, Receive}
 use Rattle.pps_types.specs.Outcome.{Reply, is_marked}
-use Rattle.pps_types.specs.Text.{WriteText, write_text}
+use Rattle.pps_types.specs.Text.{header_of, lines_of}
 use Rattle.pps_types.specs.declared.handle_kind.HandleKind.{HandleKind}
-use Rattle.pps_types.specs.Reading.{Open, Seen}
+use Rattle.pps_types.specs.Reading.{Open}
+use Rattle.pps_types.specs.Rests.{Seen}
 use Rattle.pps_types.specs.Content.{Content, handle_numbered}
 use Rattle.pps_types.specs.Checks.{Addressee, OneClient, addressee, meant, is_client, is_server, first_refusal, checks}
 use Rattle.pps_types.specs.Plan.{apply_all_seen, effect}
@@ -27,13 +27,9 @@ abbrev pub is_elsewhere : Content → ℕ → ℕ → Addressee → Bool
 is_elsewhere c conn object (OneClient id) = list_any (λ h. not (h.connection == conn)) (meant c object (OneClient id))
 is_elsewhere c conn object _ = false
 
--- a server's message to one client of another connection
+-- a server's message to one client of another connection, by its first line alone, also where a later line is bad
 abbrev pub names_other : Content → ℕ → List ℕ → Open Seen → Bool
-names_other c conn bytes h = is_server h.kind && told (write_text bytes)
-  where
-    told : Result WriteText Refusal → Bool
-    told (Ok text) = is_elsewhere c conn h.target (addressee h.name text.header)
-    told (Err e) = false
+names_other c conn bytes h = is_server h.kind && is_elsewhere c conn h.target (addressee h.name (header_of (lines_of bytes)))
 
 -- what others do that isn't told to the connection
 abbrev pub is_others_own : ℕ → Content → Request → Bool
@@ -71,10 +67,13 @@ is_server_write c request = false
 abbrev pub wants_records : Content → Event → Bool
 wants_records c e = is_none (first_refusal (checks c e.conn e.request)) && nat_lt (2 ^ 64 - 1) (apply_all_seen (effect c e.conn e.request).1 c).records
 
--- the event is not marked, not refused for a server's or the connection's own backlog, and not for want of record numbers
+-- a server's write, or one of the connection itself, that a full queue refuses
+abbrev pub is_held_up : ℕ → Content → Answered → Bool
+is_held_up conn c x = is_backlogged x.reply && ((x.event.conn == conn) || is_server_write c x.event.request)
+
+-- the event is not marked, not held up by a full queue, and not refused for want of record numbers
 abbrev pub is_quiet_step : ℕ → Content → Answered → Bool
-is_quiet_step conn c x =
-    not (is_marked x.reply) && not (is_backlogged x.reply && ((x.event.conn == conn) || is_server_write c x.event.request)) && not (wants_records c x.event)
+is_quiet_step conn c x = not (is_marked x.reply) && not (is_held_up conn c x) && not (wants_records c x.event)
 
 -- the connection never holds a server's handle, and each step is quiet
 abbrev pub is_quiet : ℕ → Machine → List Answered → Bool

@@ -1,7 +1,7 @@
--- Handles: which records one sees, what each looks like to it, what it has still to be given, and what a read answers.
+-- Handles: which records one sees, what each looks like to it, what everything is, and what a read answers by what is owed.
 -- QNX PPS guide, on opening modes, on full and delta mode, on subscribing to all objects and on server objects;
 -- delivery marks, `deltadir`, limits and the reading of blocks are our own.
-use Rattle.std.specs.Prelude.{ℕ, ◌+◌, ◌-◌, List, [], ◌∷◌, ◌++◌, Bool, true, false, not, ◌&&◌, ◌||◌, ◌==◌, nat_le, nat_lt, if◌then◌else◌, Option, Some, None, is_some, filter, map, length, drop, codes, zero, suc}
+use Rattle.std.specs.Prelude.{ℕ, ◌+◌, ◌-◌, List, [], ◌∷◌, ◌++◌, Bool, true, false, not, ◌&&◌, ◌||◌, ◌==◌, nat_le, if◌then◌else◌, Option, Some, None, is_some, filter, map, length, codes}
 use Rattle.std.specs.Option.{option_map_or}
 use Rattle.std.specs.List.{concat, list_any}
 use Rattle.std.specs.Fmt.{decimal}
@@ -11,20 +11,11 @@ use Rattle.pps_types.specs.declared.line.Line.{Line}
 use Rattle.pps_types.specs.declared.record.Kind.{Kind}
 use Rattle.pps_types.specs.declared.record.Kind.TheVariants.{Created, Change, Truncated, Dropped, Deleted, Opened, Closed, FromClient, ToClient, ToAll}
 use Rattle.pps_types.specs.declared.record.Record.{Record}
-use Rattle.pps_types.specs.Bytes.{is_empty}
 use Rattle.pps_types.specs.Text.{print_header, print_lines}
 use Rattle.pps_types.specs.Filter.{Part, matches}
 use Rattle.pps_types.specs.History.{Entry}
 
 -- ---- handles
-
--- What a handle has of the records: in full mode whether there is news; else nothing yet, more than its limit,
--- or the records of its target from the first that it is owed on.
-pub data Seen : Type 0 where
-  News : Bool → Seen
-  Unread : Seen
-  Over : Seen
-  Owed : List Entry → Seen
 
 -- One open. S is what is known of what it has seen: a cursor, or what the cursor comes to.
 -- name: of its target, where that is an object. parked: the size of the parked read. armed: a code and a value.
@@ -165,7 +156,7 @@ concerns h e = if is_directory_kind h.kind then e.directory == h.target else e.r
 abbrev pub visible : {S : Type 0} → Open S → Entry → Bool
 visible h e = concerns h e && sees h e.record_of
 
--- the kinds of which a target's records are kept for its handles in delta mode
+-- the records of a directory or an object that are kept for those who subscribe to it in delta mode
 abbrev pub is_chained : HandleKind → Kind → Bool
 is_chained ServerHandle _ = false
 is_chained ClientHandle _ = false
@@ -176,78 +167,6 @@ is_chained _ Truncated = true
 is_chained _ Dropped = true
 is_chained _ Deleted = true
 is_chained _ _ = false
-
--- what is owed, and what stands between in the target's kept records
-abbrev pub keeps : {S : Type 0} → Open S → Entry → Bool
-keeps h e = visible h e || (concerns h e && is_chained h.kind e.record_of.kind)
-
--- ---- lists that are read from the front
-
-module _ {X : Type 0} where
-  -- from the first that passes on
-  abbrev pub from_first : (X → Bool) → List X → List X
-  from_first test [] = []
-  from_first test (x ∷ xs) = if test x then x ∷ xs else from_first test xs
-
-  -- one more at the end, where there is something or it passes
-  abbrev pub pushed : (X → Bool) → X → List X → List X
-  pushed test y [] = if test y then y ∷ [] else []
-  pushed test y (x ∷ xs) = x ∷ xs ++ y ∷ []
-
-  -- behind the first n that pass
-  abbrev pub past : (X → Bool) → ℕ → List X → List X
-  past test zero xs = xs
-  past test (suc n) [] = []
-  past test (suc n) (x ∷ xs) = if test x then past test n xs else past test (suc n) xs
-
-  -- how many stand before what is behind the first n that pass
-  abbrev pub behind : (X → Bool) → ℕ → List X → ℕ
-  behind test zero xs = 0
-  behind test (suc n) [] = 0
-  behind test (suc n) (x ∷ xs) = if test x then behind test n xs + 1 else behind test (suc n) xs + 1
-
--- ---- what a handle has seen
-
--- by the rest that begins with the first record that it is owed
-abbrev pub stand : Style → Bool → Bool → List Entry → Seen
-stand Full reads over rest = News (reads && not (is_empty rest))
-stand Delta reads over rest = if over then Over else Owed rest
-stand Queue reads over rest = Owed rest
-
-abbrev pub over_limit : {S : Type 0} → Open S → List Entry → Bool
-over_limit h rest = nat_lt h.limit (length (filter (visible h) rest))
-
-abbrev pub seen_of : {S : Type 0} → Open S → List Entry → Seen
-seen_of h rest = stand (style h.kind) h.reads (over_limit h rest) rest
-
--- before the first read
-abbrev pub unread : Style → Bool → Seen
-unread Full reads = News reads
-unread Delta reads = Unread
-unread Queue reads = Unread
-
--- of the records from the cursor on: what is kept, from the first that is owed
-abbrev pub rest_of : {S : Type 0} → Open S → List Entry → List Entry
-rest_of h entries = from_first (visible h) (filter (keeps h) entries)
-
--- what a handle has seen that has this cursor in this history
-abbrev pub seen_with : {S : Type 0} → Open S → List Entry → Option ℕ → Seen
-seen_with h history None = unread (style h.kind) h.reads
-seen_with h history (Some cursor) = seen_of h (rest_of h (drop cursor history))
-
-abbrev pub owed_in : {S : Type 0} → Open S → Seen → List Entry
-owed_in h (Owed rest) = filter (visible h) rest
-owed_in h _ = []
-
-abbrev pub news_in : Bool → Seen → Bool
-news_in reads (News b) = b
-news_in reads Unread = reads
-news_in reads Over = true
-news_in reads (Owed rest) = not (is_empty rest)
-
-abbrev pub is_over : Seen → Bool
-is_over Over = true
-is_over _ = false
 
 -- ---- everything
 
@@ -305,11 +224,3 @@ idle_answer dead wait = if dead then TargetGone else if wait then Waits else Not
 abbrev pub owed_answer : Bool → List (List ℕ) → Bool → ℕ → Answer
 owed_answer wait [] dead max = idle_answer dead wait
 owed_answer wait (b ∷ bs) dead max = if nat_le (length b) max then blocks_answer (fitting max (b ∷ bs)) else Needs (length b)
-
--- The answer to a read of max bytes, by what everything is, and whether the target is a dead object.
-abbrev pub answer : Open Seen → Seen → List ℕ → Bool → ℕ → Answer
-answer h (News true) everything dead max = whole_answer everything max
-answer h (News false) everything dead max = idle_answer dead h.wait
-answer h Unread everything dead max = whole_answer everything max
-answer h Over everything dead max = whole_answer everything max
-answer h (Owed rest) everything dead max = owed_answer h.wait (map (block h) (filter (visible h) rest)) dead max

@@ -15,6 +15,11 @@ abbrev pub replies : Machine → List Event → List Reply
 replies m [] = []
 replies m (e ∷ es) = (step m e).0 ∷ replies (step m e).1 es
 
+-- the same, of what stands
+abbrev pub replies_seen : Content → List Event → List Reply
+replies_seen c [] = []
+replies_seen c (e ∷ es) = (step_seen c e).0 ∷ replies_seen (step_seen c e).1 es
+
 -- the machine after all of them
 abbrev pub after : Machine → List Event → Machine
 after m [] = m
@@ -30,6 +35,12 @@ after_seen c (e ∷ es) = after_seen (step_seen c e).1 es
 pub record Answered : Type 0 where
   pub event : Event
   pub reply : Reply
+
+-- each event with its reply, as far as both go
+abbrev pub answered : List Event → List Reply → List Answered
+answered [] replies = []
+answered (e ∷ es) [] = []
+answered (e ∷ es) (r ∷ rs) = record { event = e; reply = r } ∷ answered es rs
 
 abbrev pub events_of : List Answered → List Event
 events_of answered = map (λ x. x.event) answered

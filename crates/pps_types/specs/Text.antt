@@ -32,12 +32,17 @@ is_attribute_name (b ∷ bs) = starts_name b && list_all continues_name bs && na
 abbrev pub is_encoding : List ℕ → Bool
 is_encoding bs = nat_le (length bs) 32 && list_all (λ b. is_between 33 126 b) bs
 
+-- the next step, where this one gave something
+infixl 10 ◌>>=◌
+abbrev pub ◌>>=◌ : {A B : Type 0} → Option A → (A → Option B) → Option B
+found >>= next = option_and_then next found
+
 -- name `:` encoding `:` value
 abbrev pub set_line : Mark → List ℕ → Option WriteLine
-set_line mark bs =
-    option_and_then (λ named. option_and_then (λ encoded.
-    if is_attribute_name named.0 && is_encoding encoded.0 then Some (WriteSet named.0 encoded.0 encoded.1 mark) else None)
-    (split_at_first 58 named.1)) (split_at_first 58 bs)
+set_line mark bs = do
+  named ← split_at_first 58 bs
+  encoded ← split_at_first 58 named.1
+  if is_attribute_name named.0 && is_encoding encoded.0 then Some (WriteSet named.0 encoded.0 encoded.1 mark) else None
 
 abbrev pub deletion_line : List ℕ → Option WriteLine
 deletion_line name = if is_attribute_name name then Some (WriteDel name) else None
@@ -45,9 +50,9 @@ deletion_line name = if is_attribute_name name then Some (WriteDel name) else No
 -- a deletion, or a set line, which may have a bracket before it
 abbrev pub write_line : List ℕ → Option WriteLine
 write_line bs =
-    option_or (option_and_then deletion_line (after_prefix (codes "-") bs))
-    (option_or (option_and_then (set_line On) (after_prefix (codes "[n]") bs))
-    (option_or (option_and_then (set_line Off) (after_prefix (codes "[-n]") bs))
+    option_or (after_prefix (codes "-") bs >>= deletion_line)
+    (option_or (after_prefix (codes "[n]") bs >>= set_line On)
+    (option_or (after_prefix (codes "[-n]") bs >>= set_line Off)
     (set_line Keep bs)))
 
 -- ---- the lines of a text
@@ -79,14 +84,19 @@ pub record WriteText : Type 0 where
 abbrev pub with_header : Option (List ℕ) → Result (List WriteLine) Refusal → Result WriteText Refusal
 with_header header body = result_map (λ lines. record { header = header; lines = lines }) body
 
+-- what a first line `@` and any bytes names
+abbrev pub header_of : List (List ℕ) → Option (List ℕ)
+header_of [] = None
+header_of (l ∷ ls) = after_prefix (codes "@") l
+
 abbrev pub text_after : Option (List ℕ) → List (List ℕ) → List (List ℕ) → Result WriteText Refusal
 text_after (Some header) all others = with_header (Some header) (write_lines 2 others)
 text_after None all others = with_header None (write_lines 1 all)
 
--- a first line `@` and any bytes is the header
+-- the header, where the first line is one, and the lines
 abbrev pub text_of_lines : List (List ℕ) → Result WriteText Refusal
 text_of_lines [] = with_header None (Ok [])
-text_of_lines (l ∷ ls) = text_after (after_prefix (codes "@") l) (l ∷ ls) ls
+text_of_lines (l ∷ ls) = text_after (header_of (l ∷ ls)) (l ∷ ls) ls
 
 -- what a written text says, or its first bad line
 abbrev pub write_text : List ℕ → Result WriteText Refusal

@@ -1,10 +1,17 @@
 //! The laws of the service's definitions. Each function does nothing: its contract is the law.
-ghost use Rattle.pps_types.specs.Laws.{MachinesStay, StepsAreShown, StepsStand, ImagesStart, HandlesAreTold, AnswersAreTold, KeptIsTold, StepsAreDecided, RefusalsKeep, DebtsGrow, BlocksFit};
+ghost use Rattle.pps_types.specs.PlanLaws.{NothingIsMissing};
+ghost use Rattle.pps_types.specs.Laws.{MachinesStay, ContentsStay, StepsAreShown, StepsStand, ImagesStart, HandlesAreTold, AnswersAreTold, KeptIsTold, StepsAreDecided, RefusalsKeep, DebtsGrow, BlocksFit, PrivateTraffic};
 
 /// Does nothing. Its contract is the law that the start is a well formed machine, and that each event keeps a
 /// machine well formed.
 pub fn machines_stay()
     ensures { MachinesStay }
+{}
+
+/// Does nothing. Its contract is the law that what stands of a well formed machine is well formed, and that each step
+/// of what stands keeps it so.
+pub fn contents_stay()
+    ensures { ContentsStay }
 {}
 
 /// Does nothing. Its contract is the law that what stands of a machine after an event is the step of what stood
@@ -63,4 +70,16 @@ pub fn debts_grow()
 /// Does nothing. Its contract is the law that a read gives the longest run of whole blocks, from the first, that fits.
 pub fn blocks_fit()
     ensures { BlocksFit }
+{}
+
+/// Does nothing. Its contract is the law that what an event speaks of is there, where no check refuses it.
+pub fn nothing_is_missing()
+    ensures { NothingIsMissing }
+{}
+
+/// Does nothing. Its contract is the law that a connection can't tell apart two runs that agree for it: it is given
+/// the same replies and is queued the same items, in order, whatever others' clients and their servers do between
+/// themselves.
+pub fn private_traffic_is_private()
+    ensures { PrivateTraffic }
 {}

@@ -9,6 +9,8 @@ mod found;
 mod handle_kind;
 mod laws;
 mod laws_of_frames;
+mod laws_of_reads;
+mod laws_of_runs;
 mod laws_of_texts;
 mod line;
 mod numbers;
@@ -24,12 +26,18 @@ pub use event::{Action, Event, Mode, Request};
 pub use found::Found;
 pub use handle_kind::HandleKind;
 pub use laws::{
-    answers_are_told, blocks_fit, debts_grow, handles_are_told, images_start, kept_is_told,
-    machines_stay, refusals_keep, steps_are_decided, steps_are_shown, steps_stand,
+    answers_are_told, blocks_fit, contents_stay, debts_grow, handles_are_told, images_start,
+    kept_is_told, machines_stay, nothing_is_missing, private_traffic_is_private, refusals_keep,
+    steps_are_decided, steps_are_shown, steps_stand,
 };
 pub use laws_of_frames::{
     conn_is_read, event_is_read_again, no_frame_begins_another, one_frame_is_of_one_event,
     read_bytes_are_the_body, reading_is_the_only_one, stream_has_one_reading, stream_is_read,
+};
+pub use laws_of_reads::{cursors_move, settling_is_told};
+pub use laws_of_runs::{
+    checks_want_nothing, merges_grow, moves_are_shown, plans_are_lawful, records_are_kept,
+    replies_are_runs, replies_are_shown, runs_join, seen_runs_join, wants_are_marked,
 };
 pub use laws_of_texts::{printed_lines_are_read, printings_are_prefix_free, printings_are_unique};
 pub use line::{Line, Lines, Mark, WriteLine};

@@ -9,7 +9,8 @@ use Rattle.pps_types.specs.declared.record.Kind.TheVariants.{Created, Change, Tr
 use Rattle.pps_types.specs.declared.record.Record.{Record}
 use Rattle.pps_types.specs.Filter.{Part}
 use Rattle.pps_types.specs.History.{Entry}
-use Rattle.pps_types.specs.Reading.{Open, Seen, Queue, style, concerns, sees, is_writer, is_object_kind, shown, with_lines, shown_to_server, shown_to_client, print_shown, block}
+use Rattle.pps_types.specs.Reading.{Open, Queue, style, concerns, sees, is_writer, is_object_kind, shown, with_lines, shown_to_server, shown_to_client, print_shown, block}
+use Rattle.pps_types.specs.Rests.{Seen}
 use Rattle.server_queue.specs.Blocks.{queue_shown, queue_blocks}
 use Rattle.server_queue.specs.OwedTo.{IsOwedTo}
 

@@ -1,7 +1,8 @@
 -- Whose queue it is.
 use Rattle.std.specs.Prelude.{◌≡◌, List, [], ◌∷◌, true}
 use Rattle.pps_types.specs.History.{Entry}
-use Rattle.pps_types.specs.Reading.{Open, Seen, Queue, style, visible}
+use Rattle.pps_types.specs.Reading.{Open, Queue, style, visible}
+use Rattle.pps_types.specs.Rests.{Seen}
 
 -- each is visible to the handle
 abbrev pub AllVisible : Open Seen → List Entry → Type 0

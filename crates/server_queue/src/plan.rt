@@ -63,6 +63,7 @@ pub(crate) fn plan_read(
         → refusal_of result ≡ read_refusal (owed.now.items ++ extra.now) max }
     ensures memory { refusal_of result ≡ Some OutOfMemory → first_len (owed.now.items ++ extra.now) < 2 ^ 32
         → read_refusal (owed.now.items ++ extra.now) max ≡ None }
+    ensures some { refusal_of result ≡ Some OutOfMemory → 0 < length (owed.now.items ++ extra.now) }
     ensures ok { IfOk result (λ plan. (plan.count, plan.text.items)
         ≡ reading.fitting max (queue_blocks (owed.now.items ++ extra.now))) }
 {

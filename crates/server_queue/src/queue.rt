@@ -3,7 +3,8 @@ ghost use Rattle.std.specs.Prelude.{◌≡◌, ◌≢◌, ◌↔◌, IsTrue, ◌
 ghost use Rattle.pps_types.specs.Bytes.{is_empty};
 ghost use Rattle.pps_types.specs.Names.{refusal_of};
 ghost use Rattle.pps_types.specs.declared.refusal.Refusal.TheVariants.{OutOfMemory};
-ghost use Rattle.pps_types.specs.Reading.{Open, Seen, fitting, block};
+ghost use Rattle.pps_types.specs.Reading.{Open, fitting, block};
+ghost use Rattle.pps_types.specs.Rests.{Seen};
 ghost use Rattle.server_queue.specs.Blocks.{queue_blocks};
 ghost use Rattle.server_queue.specs.Messages.{message_count};
 ghost use Rattle.server_queue.specs.OwedTo.{IsOwedTo};
@@ -119,12 +120,13 @@ impl Queue {
     /// blocks that fits. The queue stays.
     ///
     /// It is TooSmall, with the size, where the first block does not fit, before any memory is taken, and else
-    /// OutOfMemory is the only error.
+    /// OutOfMemory is the only error, where there is something to give.
     pub fn read_plan(&self, extra: &[Entry], max: u32) -> Result<Plan, Refusal>
         ensures refusal { refusal_of result ≢ Some OutOfMemory
             → refusal_of result ≡ read_refusal (self.now.owed ++ extra.now) max }
         ensures memory { refusal_of result ≡ Some OutOfMemory → first_len (self.now.owed ++ extra.now) < 2 ^ 32
             → read_refusal (self.now.owed ++ extra.now) max ≡ None }
+        ensures some { refusal_of result ≡ Some OutOfMemory → 0 < length (self.now.owed ++ extra.now) }
         ensures ok { IfOk result (λ plan. (plan.count, plan.text.items)
             ≡ fitting max (queue_blocks (self.now.owed ++ extra.now))) }
         ensures blocks { (h : Open Seen) → IsOwedTo h (self.now.owed ++ extra.now)

@@ -191,6 +191,7 @@ fn debts_are_told(rt: HostRuntime) -> Result<(), Fail> {
     engine.step(&write(alloc, PUBLISHER, 1, b"speed:n:66\n")?)?;
     assert!(rt; matches!(engine.owed(Handle::new(2)), Some(1)));
     assert!(rt; matches!(engine.kept(&path), Some(1)));
+    engine.holds_what_is_owed();
     Ok(())
 }
 

@@ -10,4 +10,6 @@ mod debts;
 #[cfg(test)]
 mod frames;
 #[cfg(test)]
+mod private;
+#[cfg(test)]
 mod scripts;

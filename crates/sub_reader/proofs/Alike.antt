@@ -1,7 +1,7 @@
 -- Places as far from the ends of chains that hold the same records.
 use Rattle.std.proofs.Common.{◌≡◌, ℕ, ◌+◌, ◌-◌, List, length, drop, map, sym, ap, ◌∙◌, arith, length-drop, drop-drop}
 use Rattle.pps_types.specs.declared.record.Record.{Record}
-use Rattle.pps_types.specs.Reading.{Seen, seen_of}
+use Rattle.pps_types.specs.Rests.{Seen, seen_of}
 use Rattle.sub_reader.specs.declared.settings.Settings.{Settings}
 use Rattle.sub_reader.specs.declared.place.Place.{Place}
 use Rattle.sub_reader.specs.declared.place.Place.TheVariants.{Fresh, At, Overflowed}

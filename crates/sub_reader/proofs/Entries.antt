@@ -5,7 +5,8 @@ use Rattle.std.specs.List.{AllByRecursion}
 use Rattle.pps_types.specs.declared.record.Record.{Record}
 use Rattle.pps_types.specs.Bytes.{is_empty}
 use Rattle.pps_types.specs.History.{Entry}
-use Rattle.pps_types.specs.Reading.{Style, Full, Delta, Queue, style, News, Over, Owed, stand, seen_of, over_limit, visible, keeps, pushed, unread, is_chained}
+use Rattle.pps_types.specs.Reading.{Style, Full, Delta, Queue, style, visible, is_chained}
+use Rattle.pps_types.specs.Rests.{News, Over, Owed, stand, seen_of, over_limit, keeps, pushed, unread}
 use Rattle.pps_types.specs.Plan.{offered}
 use Rattle.sub_reader.specs.declared.settings.Settings.{Settings}
 use Rattle.sub_reader.specs.declared.settings.Subject.{Subject}

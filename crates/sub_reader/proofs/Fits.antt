@@ -6,7 +6,8 @@ use Rattle.std.proofs.lemmas.Bool.{le-leb, lt-leb}
 use Rattle.std.proofs.lemmas.List.{drop_more, drop_all}
 use Rattle.std.proofs.lemmas.Option.{slice_get_within, get_or_from_slice_get}
 use Rattle.pps_types.specs.declared.record.Record.{Record}
-use Rattle.pps_types.specs.Reading.{fitting, with_block, from_first, past, block_of}
+use Rattle.pps_types.specs.Reading.{fitting, with_block, block_of}
+use Rattle.pps_types.specs.Rests.{from_first, past}
 use Rattle.sub_reader.specs.declared.settings.Settings.{Settings}
 use Rattle.sub_reader.specs.Reader.{Origins, gives, reader}
 use Rattle.sub_reader.specs.Target.{text_of}

@@ -5,7 +5,8 @@ use Rattle.std.proofs.lemmas.Bool.{lt-leb, leb-true, leb-false}
 use Rattle.std.proofs.lemmas.List.{drop_all, drop-append-le}
 use Rattle.pps_types.specs.declared.record.Record.{Record}
 use Rattle.pps_types.specs.declared.refusal.Refusal.{Refusal}
-use Rattle.pps_types.specs.Reading.{Seen, Owed, seen_of, fitting, from_first, past, visible, block, owed_answer, blocks_answer, Blocks, Needs, with_block}
+use Rattle.pps_types.specs.Reading.{fitting, visible, block, owed_answer, blocks_answer, Blocks, Needs, with_block}
+use Rattle.pps_types.specs.Rests.{Seen, Owed, seen_of, from_first, past}
 use Rattle.pps_types.specs.Plan.{left}
 use Rattle.pps_types.proofs.BasicLaws.{fitting-longest}
 use Rattle.pps_types.proofs.Lists.{filter-from_first}

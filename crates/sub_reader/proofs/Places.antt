@@ -5,7 +5,8 @@ use Rattle.std.proofs.lemmas.Bool.{eqb-true, eqb-false, ltb-true, ltb-false, le-
 use Rattle.std.proofs.lemmas.List.{drop_all, drop-append-le, length_push}
 use Rattle.std.proofs.lemmas.List.Elements.{filter-append}
 use Rattle.pps_types.specs.declared.record.Record.{Record}
-use Rattle.pps_types.specs.Reading.{style, Seen, News, Owed, seen_of, over_limit, visible, pushed}
+use Rattle.pps_types.specs.Reading.{style, visible}
+use Rattle.pps_types.specs.Rests.{Seen, News, Owed, seen_of, over_limit, pushed}
 use Rattle.pps_types.specs.Plan.{offered}
 use Rattle.pps_types.proofs.Lists.{all-push}
 use Rattle.sub_reader.specs.declared.settings.Settings.{Settings}

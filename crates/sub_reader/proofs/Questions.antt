@@ -1,7 +1,8 @@
 -- What a place says of what its handle has seen.
 use Rattle.std.proofs.Common.{◌≡◌, ℕ, ◌+◌, Bool, true, false, Some, List, [], ◌∷◌, length, drop, filter, map, refl, sym, ap, ◌∙◌, subst, arith, length-drop}
 use Rattle.pps_types.specs.declared.record.Record.{Record}
-use Rattle.pps_types.specs.Reading.{Style, Full, Delta, Queue, style, Seen, Owed, is_over, reseen, unread}
+use Rattle.pps_types.specs.Reading.{Style, Full, Delta, Queue, style, reseen}
+use Rattle.pps_types.specs.Rests.{Seen, Owed, is_over, unread}
 use Rattle.pps_types.specs.Owed.{owed_in_seen}
 use Rattle.sub_reader.specs.declared.settings.Settings.{Settings}
 use Rattle.sub_reader.specs.declared.place.Place.{Place}

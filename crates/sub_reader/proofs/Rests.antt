@@ -2,7 +2,8 @@
 use Rattle.std.proofs.Common.{◌≡◌, ℕ, zero, suc, ◌-◌, ◌<◌, Bool, true, false, cond, List, [], ◌∷◌, length, drop, filter, map, refl, ap, ◌∙◌, arith}
 use Rattle.std.specs.List.{AllByRecursion}
 use Rattle.pps_types.specs.declared.record.Record.{Record}
-use Rattle.pps_types.specs.Reading.{from_first, past, visible, block}
+use Rattle.pps_types.specs.Reading.{visible, block}
+use Rattle.pps_types.specs.Rests.{from_first, past}
 use Rattle.sub_reader.specs.declared.settings.Settings.{Settings}
 use Rattle.sub_reader.specs.Reader.{reader, gives, Origins, entry_by, IsInChain}
 use Rattle.sub_reader.specs.Target.{text_of}

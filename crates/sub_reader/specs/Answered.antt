@@ -1,9 +1,10 @@
 -- What a read answers, and what the handle has seen after it.
-use Rattle.std.specs.Prelude.{◌≡◌, ℕ, ◌+◌, ◌^◌, ◌≤◌, Option, Some, None, Result, Ok, Err, List, [], length, drop}
+use Rattle.std.specs.Prelude.{◌≡◌, ℕ, ◌+◌, ◌^◌, ◌<◌, ◌≤◌, Option, Some, None, Result, Ok, Err, List, [], length, drop}
 use Rattle.pps_types.specs.declared.record.Record.{Record}
 use Rattle.pps_types.specs.declared.refusal.Refusal.{Refusal}
 use Rattle.pps_types.specs.declared.refusal.Refusal.TheVariants.{OutOfMemory, Gone, TooSmall}
-use Rattle.pps_types.specs.Reading.{Seen, is_over, Answer, Everything, Blocks, Needs, TargetGone, Waits, Nothing, answer}
+use Rattle.pps_types.specs.Reading.{Answer, Everything, Blocks, Needs, TargetGone, Waits, Nothing}
+use Rattle.pps_types.specs.Rests.{Seen, is_over, answer}
 use Rattle.pps_types.specs.Plan.{caught_up, left}
 use Rattle.sub_reader.specs.declared.settings.Settings.{Settings}
 use Rattle.sub_reader.specs.declared.plan.Output.{Output}
@@ -35,7 +36,7 @@ IsOutput OutputWaits _ = ⊥
 -- The refusal says what is answered. Memory may be wanting only where there are bytes to give, or where a size is needed that is no
 -- number of 32 bits.
 abbrev pub IsRefused : Refusal → Answer → Type 0
-IsRefused OutOfMemory (Everything text) = Unit {0}
+IsRefused OutOfMemory (Everything text) = 0 < length text
 IsRefused OutOfMemory (Blocks count text) = Unit {0}
 IsRefused OutOfMemory (Needs need) = 2 ^ 32 ≤ need
 IsRefused OutOfMemory _ = ⊥

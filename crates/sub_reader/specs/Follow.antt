@@ -2,7 +2,8 @@
 use Rattle.std.specs.Prelude.{if◌then◌else◌, ◌≡◌, ℕ, ◌+◌, ◌-◌, ◌<◌, ◌≤◌, Bool, true, false, ◌==◌, nat_lt, Option, Some, None, List, [], ◌∷◌, length, filter, map, drop}
 use Rattle.std.specs.List.{AllByRecursion}
 use Rattle.pps_types.specs.declared.record.Record.{Record}
-use Rattle.pps_types.specs.Reading.{Style, Full, Delta, Queue, style, Seen, News, Over, Owed, seen_of, unread}
+use Rattle.pps_types.specs.Reading.{Style, Full, Delta, Queue, style}
+use Rattle.pps_types.specs.Rests.{Seen, News, Over, Owed, seen_of, unread}
 use Rattle.pps_types.specs.Plan.{offered}
 use Rattle.sub_reader.specs.declared.settings.Settings.{Settings}
 use Rattle.sub_reader.specs.declared.place.Place.{Place}

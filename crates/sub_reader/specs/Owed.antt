@@ -1,7 +1,8 @@
 -- What fits of what is owed.
 use Rattle.std.specs.Prelude.{◌≡◌, ℕ, ◌^◌, ◌<◌, ◌≤◌, Option, Some, None, List, [], ◌∷◌, length, filter, map, drop}
 use Rattle.pps_types.specs.declared.record.Record.{Record}
-use Rattle.pps_types.specs.Reading.{fitting, from_first, past}
+use Rattle.pps_types.specs.Reading.{fitting}
+use Rattle.pps_types.specs.Rests.{from_first, past}
 use Rattle.sub_reader.specs.declared.settings.Settings.{Settings}
 use Rattle.sub_reader.specs.declared.owed.Fit.{Fit}
 use Rattle.sub_reader.specs.Reader.{Origins, gives}

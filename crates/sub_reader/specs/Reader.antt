@@ -4,7 +4,8 @@ use Rattle.pps_types.specs.declared.handle_kind.HandleKind.{HandleKind}
 use Rattle.pps_types.specs.declared.handle_kind.HandleKind.TheVariants.{Object as ObjectHandle, Directory as DirectoryHandle, Names as NamesHandle}
 use Rattle.pps_types.specs.declared.record.Record.{Record}
 use Rattle.pps_types.specs.History.{Entry}
-use Rattle.pps_types.specs.Reading.{Open, Seen, reseen, sees, concerns, is_chained}
+use Rattle.pps_types.specs.Reading.{Open, reseen, sees, concerns, is_chained}
+use Rattle.pps_types.specs.Rests.{Seen}
 use Rattle.sub_reader.specs.declared.settings.Subject.{Subject}
 use Rattle.sub_reader.specs.declared.settings.Subject.TheVariants.{Object, Directory, Names}
 use Rattle.sub_reader.specs.declared.settings.Settings.{Settings}

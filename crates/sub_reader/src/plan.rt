@@ -2,6 +2,7 @@
 ghost use Rattle.std.specs.Prelude.{◌≡◌, ℕ, ◌+◌, ◌-◌, ◌^◌, ◌<◌, ◌≤◌, List, ◌++◌, length, drop, Bool, nat_le, if◌then◌else◌, IfOk};
 ghost use Rattle.pps_types.specs.declared.record.Record.{Record};
 ghost use Rattle.pps_types.specs.Reading as reading;
+ghost use Rattle.pps_types.specs.Rests as rests;
 ghost use Rattle.sub_reader.specs.declared.place.Place.TheVariants.{At};
 ghost use Rattle.sub_reader.specs.Reader.{Origins};
 ghost use Rattle.sub_reader.specs.Follow.{Stands, IsHeld, place_after_all};
@@ -80,7 +81,7 @@ fn read_whole<L: Lent>(
     max: u32,
 ) -> Result<Plan, Refusal>
     ensures reach { IfOk result (λ plan. (start : ℕ) → start ≤ end → PlanReaches plan start end) }
-    ensures answer { (origins : Origins) (log : List Record) (seen : reading.Seen) → length log ≡ end
+    ensures answer { (origins : Origins) (log : List Record) (seen : rests.Seen) → length log ≡ end
         → Answers settings.now origins log seen result (reading.whole_answer (everything settings.now over (L.target lent.now)) max) }
 {
     let Some(len) = everything_len(settings, lent, over) else {
@@ -121,7 +122,7 @@ fn read_idle<L: Lent>(
     position: u64,
 ) -> Result<Plan, Refusal>
     ensures reach { IfOk result (λ plan. (start : ℕ) → start ≤ position → PlanReaches plan start position) }
-    ensures answer { (origins : Origins) (log : List Record) (seen : reading.Seen) → Stands settings.now origins (At position 0) log seen
+    ensures answer { (origins : Origins) (log : List Record) (seen : rests.Seen) → Stands settings.now origins (At position 0) log seen
         → Answers settings.now origins log seen result (reading.idle_answer (is_dead settings.now.subject (L.target lent.now).alive) settings.now.wait) }
 {
     let next = Place::At { position, owed: 0 };
@@ -169,7 +170,7 @@ fn read_part<L: Lent>(
     requires up_to_end { position ≤ L.first lent.now + length (L.records lent.now ++ extra.now) }
     requires numbers { L.first lent.now + length (L.records lent.now ++ extra.now) < 2 ^ 64 }
     ensures reach { IfOk result (λ plan. PlanReaches plan (L.first lent.now) (L.first lent.now + length (L.records lent.now ++ extra.now))) }
-    ensures answer { (log : List Record) (seen : reading.Seen) (dead : Bool) → Stands settings.now (L.origins lent.now) (At position owed) log seen
+    ensures answer { (log : List Record) (seen : rests.Seen) (dead : Bool) → Stands settings.now (L.origins lent.now) (At position owed) log seen
         → IsEndOf (L.first lent.now) (L.records lent.now ++ extra.now) log
         → Answers settings.now (L.origins lent.now) log seen result (reading.owed_answer settings.now.wait (blocks_of settings.now (L.origins lent.now) (drop position log)) dead max) }
 {
@@ -205,7 +206,7 @@ pub(crate) fn plan_from<L: Lent>(
     requires held { IsHeld (L.first lent.now) (L.first lent.now + length (L.records lent.now ++ extra.now)) place }
     requires numbers { L.first lent.now + length (L.records lent.now ++ extra.now) < 2 ^ 64 }
     ensures reach { IfOk result (λ plan. PlanReaches plan (L.first lent.now) (L.first lent.now + length (L.records lent.now ++ extra.now))) }
-    ensures answer { (log : List Record) (seen : reading.Seen) → Stands settings.now (L.origins lent.now) place log seen
+    ensures answer { (log : List Record) (seen : rests.Seen) → Stands settings.now (L.origins lent.now) place log seen
         → IsEndOf (L.first lent.now) (L.records lent.now ++ extra.now) log
         → Answers settings.now (L.origins lent.now) log seen result (answer_of settings.now (L.target lent.now) max seen) }
 {

@@ -2,6 +2,7 @@
 ghost use Rattle.std.specs.Prelude.{◌≡◌, ℕ, ◌+◌, ◌^◌, ◌<◌, ◌≤◌, List, ◌∷◌, ◌++◌, [], length, drop, IfOk, IfSome, IsTrue, ◌↔◌, true};
 ghost use Rattle.pps_types.specs.declared.record.Record.{Record};
 ghost use Rattle.pps_types.specs.Reading as reading;
+ghost use Rattle.pps_types.specs.Rests as rests;
 ghost use Rattle.pps_types.specs.Plan as planning;
 ghost use Rattle.pps_types.specs.Owed as owing;
 ghost use Rattle.sub_reader.specs.Reader.{kind_of, reader, handle_with, Origins, entry_by, IsInChain};
@@ -28,7 +29,7 @@ impl Sub {
     /// A subscriber that has read nothing yet. It takes no memory.
     pub fn new(settings: Settings) -> Sub
         ensures settings { settings_of result ≡ settings }
-        ensures follows { (start : ℕ) (origins : Origins) (log : List Record) → Follows start result origins log (reading.unread (reading.style (kind_of settings.subject)) true) }
+        ensures follows { (start : ℕ) (origins : Origins) (log : List Record) → Follows start result origins log (rests.unread (reading.style (kind_of settings.subject)) true) }
         ensures reach { (start end : ℕ) → Reaches result start end }
     {
         Sub {
@@ -54,7 +55,7 @@ impl Sub {
     pub fn offer(&mut self, made: &Record, position: u64)
         requires { position + 1 < 2 ^ 64 }
         ensures settings { settings_of self.new ≡ settings_of self.old }
-        ensures follows { (start : ℕ) (origins : Origins) (log : List Record) (seen : reading.Seen)
+        ensures follows { (start : ℕ) (origins : Origins) (log : List Record) (seen : rests.Seen)
             → Follows start self.old origins log seen → IsInChain (settings_of self.old) origins made.now → length log ≡ position
             → Follows start self.new origins (log ++ made.now ∷ []) (planning.offered (reader (settings_of self.old)) (entry_by origins made.now) seen) }
         ensures reach { (start : ℕ) → Reaches self.old start position → Reaches self.new start (position + 1) }
@@ -65,8 +66,8 @@ impl Sub {
 
     /// Whether a read would give something new. It takes no memory.
     pub fn news(&self) -> bool
-        ensures { (start : ℕ) (origins : Origins) (log : List Record) (seen : reading.Seen) → Follows start self.now origins log seen
-            → result ≡ reading.news_in true seen }
+        ensures { (start : ℕ) (origins : Origins) (log : List Record) (seen : rests.Seen) → Follows start self.now origins log seen
+            → result ≡ rests.news_in true seen }
     {
         match self.place {
             Place::At { owed, .. } => owed != 0,
@@ -76,8 +77,8 @@ impl Sub {
 
     /// Whether it is owed more than its limit. It takes no memory.
     pub fn over(&self) -> bool
-        ensures { (start : ℕ) (origins : Origins) (log : List Record) (seen : reading.Seen) → Follows start self.now origins log seen
-            → result ≡ reading.is_over seen }
+        ensures { (start : ℕ) (origins : Origins) (log : List Record) (seen : rests.Seen) → Follows start self.now origins log seen
+            → result ≡ rests.is_over seen }
     {
         match self.place {
             Place::Fresh => false,
@@ -88,7 +89,7 @@ impl Sub {
 
     /// How many records it is owed: none is told in full mode, before the first read and past the limit. It takes no memory.
     pub fn owed(&self) -> Option<u32>
-        ensures { (start : ℕ) (origins : Origins) (log : List Record) (seen : reading.Seen) → Follows start self.now origins log seen
+        ensures { (start : ℕ) (origins : Origins) (log : List Record) (seen : rests.Seen) → Follows start self.now origins log seen
             → result ≡ owing.owed_in_seen (handle_with (settings_of self.now) seen) seen }
     {
         match self.place {
@@ -100,10 +101,10 @@ impl Sub {
     /// The position of the first record that it is owed, where it keeps count and is owed one. What stands before that
     /// may be cut from the chain, and where there is none, all of it. It takes no memory.
     pub fn first_owed(&self) -> Option<u64>
-        ensures first { (start : ℕ) (origins : Origins) (log : List Record) (seen : reading.Seen) → Follows start self.now origins log seen
+        ensures first { (start : ℕ) (origins : Origins) (log : List Record) (seen : rests.Seen) → Follows start self.now origins log seen
             → result ≡ first_owed_in (length log) seen }
         ensures reach { (start end to : ℕ) → Reaches self.now start end → to ≤ end → IfSome result (λ first. to ≤ first) → Reaches self.now to end }
-        ensures cut { (start to : ℕ) (origins : Origins) (log : List Record) (seen : reading.Seen) → Follows start self.now origins log seen
+        ensures cut { (start to : ℕ) (origins : Origins) (log : List Record) (seen : rests.Seen) → Follows start self.now origins log seen
             → to ≤ length log → IfSome result (λ first. to ≤ first) → Follows to self.now origins log seen }
     {
         match self.place {
@@ -134,7 +135,7 @@ impl Sub {
         requires held { Reaches self.now (L.first lent.now) (L.first lent.now + length (L.records lent.now)) }
         requires numbers { L.first lent.now + length (L.records lent.now ++ extra.now) < 2 ^ 64 }
         ensures reach { IfOk result (λ plan. PlanReaches plan (L.first lent.now) (L.first lent.now + length (L.records lent.now ++ extra.now))) }
-        ensures answer { (log : List Record) (seen : reading.Seen) → Follows (L.first lent.now) self.now (L.origins lent.now) log seen
+        ensures answer { (log : List Record) (seen : rests.Seen) → Follows (L.first lent.now) self.now (L.origins lent.now) log seen
             → IsEndOf (L.first lent.now) (L.records lent.now) log → AllByRecursion (IsInChain (settings_of self.now) (L.origins lent.now)) extra.now
             → let then = offered_all (settings_of self.now) (L.origins lent.now) extra.now seen in
             Answers (settings_of self.now) (L.origins lent.now) (log ++ extra.now) then result (answer_of (settings_of self.now) (L.target lent.now) max then) }
@@ -148,7 +149,7 @@ impl Sub {
     pub fn read_commit(&mut self, plan: Plan) -> Output
         ensures settings { settings_of self.new ≡ settings_of self.old }
         ensures output { result ≡ output_of plan }
-        ensures follows { (start : ℕ) (origins : Origins) (log : List Record) (seen : reading.Seen) → Leads (settings_of self.old) plan origins log seen
+        ensures follows { (start : ℕ) (origins : Origins) (log : List Record) (seen : rests.Seen) → Leads (settings_of self.old) plan origins log seen
             → PlanReaches plan start (length log) → Follows start self.new origins log seen }
         ensures reach { (start end : ℕ) → PlanReaches plan start end → Reaches self.new start end }
     {
@@ -181,7 +182,7 @@ impl Sub {
     /// takes no memory.
     pub fn same_before(&self, end: u64, other: &Sub, other_end: u64) -> bool
         ensures same { IsTrue result ↔ (from_end end self.now ≡ from_end other_end other.now) }
-        ensures seen { (start other_start : ℕ) (origins : Origins) (log other_log : List Record) (seen other_seen : reading.Seen)
+        ensures seen { (start other_start : ℕ) (origins : Origins) (log other_log : List Record) (seen other_seen : rests.Seen)
             → Follows start self.now origins log seen → Follows other_start other.now origins other_log other_seen
             → length log ≡ end → length other_log ≡ other_end → drop start log ≡ drop other_start other_log → IsTrue result → seen ≡ other_seen }
     {

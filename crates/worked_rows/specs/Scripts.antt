@@ -1,3 +1,4 @@
+pub mod APlainObjectAlone
 pub mod ArmingAndDisarming
 pub mod AttachAndDetach
 pub mod Backlog
@@ -48,6 +49,7 @@ pub mod ParkedReadAndPulse
 pub mod PastTheLimit
 pub mod PastTheLimitAndDeleted
 pub mod PrivateTraffic
+pub mod PrivateTrafficBesideAPlainObject
 pub mod PrivateTrafficOtherWay
 pub mod PrivateTrafficWithoutTheOther
 pub mod Reflect

@@ -1,4 +1,5 @@
 //! The scripts of tests/cases/rows, and what the machine answers them. Made by tools/script_theorems.
+ghost use Rattle.worked_rows.specs.Scripts.APlainObjectAlone.{APlainObjectAlone};
 ghost use Rattle.worked_rows.specs.Scripts.ArmingAndDisarming.{ArmingAndDisarming};
 ghost use Rattle.worked_rows.specs.Scripts.AttachAndDetach.{AttachAndDetach};
 ghost use Rattle.worked_rows.specs.Scripts.Backlog.{Backlog};
@@ -49,6 +50,7 @@ ghost use Rattle.worked_rows.specs.Scripts.ParkedReadAndPulse.{ParkedReadAndPuls
 ghost use Rattle.worked_rows.specs.Scripts.PastTheLimit.{PastTheLimit};
 ghost use Rattle.worked_rows.specs.Scripts.PastTheLimitAndDeleted.{PastTheLimitAndDeleted};
 ghost use Rattle.worked_rows.specs.Scripts.PrivateTraffic.{PrivateTraffic};
+ghost use Rattle.worked_rows.specs.Scripts.PrivateTrafficBesideAPlainObject.{PrivateTrafficBesideAPlainObject};
 ghost use Rattle.worked_rows.specs.Scripts.PrivateTrafficOtherWay.{PrivateTrafficOtherWay};
 ghost use Rattle.worked_rows.specs.Scripts.PrivateTrafficWithoutTheOther.{PrivateTrafficWithoutTheOther};
 ghost use Rattle.worked_rows.specs.Scripts.Reflect.{Reflect};
@@ -65,6 +67,11 @@ ghost use Rattle.worked_rows.specs.Scripts.TwoSessions.{TwoSessions};
 ghost use Rattle.worked_rows.specs.Scripts.Waiting.{Waiting};
 ghost use Rattle.worked_rows.specs.Scripts.WholeBlocksInOrder.{WholeBlocksInOrder};
 ghost use Rattle.worked_rows.specs.Scripts.WorkersOverlap.{WorkersOverlap};
+
+/// The same without the other client's and the server's own traffic: pulses and late replies are as before.
+pub fn a_plain_object_alone()
+    ensures { APlainObjectAlone }
+{}
 
 /// Each Notify first drops what was armed on its handle. Tranarm arms a pulse while there is news, which fires when
 /// news comes anew; Pollarm does not.
@@ -337,6 +344,11 @@ pub fn past_the_limit_and_deleted()
 /// Two clients of a server: what the one and the server write to each other is not seen by the other.
 pub fn private_traffic()
     ensures { PrivateTraffic }
+{}
+
+/// A client waits on a plain object, with a pulse armed, while another client and the server write to each other.
+pub fn private_traffic_beside_a_plain_object()
+    ensures { PrivateTrafficBesideAPlainObject }
 {}
 
 /// The same without the server's message to the first client: the answers to the second are as before.

@@ -4,6 +4,7 @@ use Rattle.std.specs.Prelude.{OnOk}
 use Rattle.std.specs.List.{concat}
 use Rattle.std.specs.Option.{option_copied}
 use Rattle.pps_types.specs.Reading as reading
+use Rattle.pps_types.specs.Rests as rests
 use Rattle.pps_types.specs.Content as content
 use Rattle.engine_reads.specs.Listed.{Listed, listed_object}
 use Rattle.engine_reads.specs.Everything.{print_listed, print_all}
@@ -13,7 +14,7 @@ pub returns : goal.returns
 returns c =
     let h = c.args.h.now in
     let names = c.args.names in
-    let over = reading.overflow_line (reading.is_over h.seen) in
+    let over = reading.overflow_line (rests.is_over h.seen) in
     let members = content.members c.args.state.now h.target in
     let are : c.as_slice.result.now ≡ map listed_object members =
     c.as_slice.ensures.value ∙ c.in_ok-members.ensures ∙ ap (λ t. map listed_object (content.members c.args.state.now t)) c.target.ensures in

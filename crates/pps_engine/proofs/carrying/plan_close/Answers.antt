@@ -19,11 +19,11 @@ returns-in_default-clause-err c =
 
 pub returns-then-does_close_take_memory-clause-ok : goal.returns-then-does_close_take_memory-clause-ok
 returns-then-does_close_take_memory-clause-ok c =
-    ok-then c.close_on_copy.result c.close_on_copy.ensures.ok (λ p k. closes c.args.state.now c.args.conn c.args.handle c.in-Some.h.now p c.requires (sym c.is_attached.ensures ∙ c.if-not-is_attached.false) (sym c.in-Some.ensures) c.does_close_take_memory.ensures.passes k)
+    ok-then c.close_on_copy.result c.close_on_copy.ensures.ok (λ p k. closes c.args.state.now c.args.conn c.args.handle c.in-Some.h.now p (sym c.is_attached.ensures ∙ c.if-not-is_attached.false) (sym c.in-Some.ensures) c.does_close_take_memory.ensures.passes k)
 
 pub returns-then-does_close_take_memory-clause-err : goal.returns-then-does_close_take_memory-clause-err
 returns-then-does_close_take_memory-clause-err c =
-    err-then c.close_on_copy.result c.close_on_copy.ensures.err (λ r k. cannot-close c.args.state.now c.args.conn c.args.handle c.in-Some.h.now r c.requires (sym c.is_attached.ensures ∙ c.if-not-is_attached.false) (sym c.in-Some.ensures) c.does_close_take_memory.ensures.passes
+    err-then c.close_on_copy.result c.close_on_copy.ensures.err (λ r k. cannot-close c.args.state.now c.args.conn c.args.handle c.in-Some.h.now r (sym c.is_attached.ensures ∙ c.if-not-is_attached.false) (sym c.in-Some.ensures) c.does_close_take_memory.ensures.passes
     (sym c.does_close_take_memory.ensures.wants ∙ c.if-does_close_take_memory.true) k)
 
 pub returns-clause-ok : goal.returns-clause-ok

@@ -10,4 +10,4 @@ pub returns-in-Some-clause-ok : goal.returns-in-Some-clause-ok
 unfolding effect
 returns-in-Some-clause-ok c =
     ok-then c.write.result c.write.ensures.ok (λ d t. own-takes c.args.state.now c.args.conn c.args.handle c.in-Some.h.now (checking.write_checks c.args.state.now c.args.bytes.now)
-    (λ h. with_result (write_text c.args.bytes.now) (λ text. (Outcome.Wrote (length c.args.bytes.now), writing c.args.state.now h text))) d c.requires (sym c.in-Some.ensures) t)
+    (λ h. with_result (write_text c.args.bytes.now) (λ text. (Outcome.Wrote (length c.args.bytes.now), writing c.args.state.now h text))) d (sym c.in-Some.ensures) t)

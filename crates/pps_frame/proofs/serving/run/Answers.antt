@@ -15,14 +15,14 @@ pub returns-then-is_err-clause-ran : goal.returns-then-is_err-clause-ran
 returns-then-is_err-clause-ran g c =
     let from = g.R.Read.remaining (device_inner c.args.reader.now) in
     let before = g.W.Write.contents (device_inner c.args.writer.now) in
-    stops_here from from from before before c.args.engine.now c.args.engine.now [] (begins from before c.args.engine.now) (keeps_itself from)
+    stops_here from from from before before c.args.engine.now.content c.args.engine.now.content [] (begins from before c.args.engine.now.content) (keeps_itself from)
 
 pub returns-in-Err-clause-ran : goal.returns-in-Err-clause-ran
 returns-in-Err-clause-ran g c =
     let bytes = g.R.Read.remaining in
     let held = g.W.Write.contents in
     stops_here (bytes (device_inner c.args.reader.now)) (bytes (device_inner c.pieces.reader)) (bytes (device_inner c.read.new.self))
-    (held (device_inner c.args.writer.now)) (held (device_inner c.pieces.writer)) c.args.engine.now c.pieces.engine c.pieces.decoder.rest
+    (held (device_inner c.args.writer.now)) (held (device_inner c.pieces.writer)) c.args.engine.now.content c.pieces.engine.content c.pieces.decoder.rest
     c.pieces.invariant.goes c.in-Err.ensures.bytes
 
 pub returns-clause-ran : goal.returns-clause-ran
@@ -30,7 +30,7 @@ returns-clause-ran g c =
     let bytes = g.R.Read.remaining in
     let held = g.W.Write.contents in
     stops_here (bytes (device_inner c.args.reader.now)) (bytes (device_inner c.pieces.reader)) (bytes (device_inner c.pieces.reader))
-    (held (device_inner c.args.writer.now)) (held (device_inner c.pieces.writer)) c.args.engine.now c.pieces.engine c.pieces.decoder.rest
+    (held (device_inner c.args.writer.now)) (held (device_inner c.pieces.writer)) c.args.engine.now.content c.pieces.engine.content c.pieces.decoder.rest
     c.pieces.invariant.goes (keeps_itself _)
 
 pub returns-in_err-serve_piece-clause-ran : goal.returns-in_err-serve_piece-clause-ran
@@ -42,9 +42,9 @@ returns-in_err-serve_piece-clause-ran g c =
     let after = held (device_inner c.serve_piece.new.writer) in
     rw p.1
     (goes_no_further (bytes (device_inner c.args.reader.now)) (bytes (device_inner c.pieces.reader)) (bytes (device_inner c.read.new.self))
-    (held (device_inner c.args.writer.now)) middle after c.args.engine.now c.pieces.engine c.serve_piece.new.engine
+    (held (device_inner c.args.writer.now)) middle after c.args.engine.now.content c.pieces.engine.content c.serve_piece.new.engine.content
     c.pieces.decoder.rest (take c.in-Ok.count c.read.new.buf) c.pieces.invariant.goes c.in-Ok.ensures.bytes.0
-    (subst (λ (piece : List ℕ). StopsInPiece middle after c.pieces.engine c.serve_piece.new.engine (c.pieces.decoder.rest ++ piece))
+    (subst (λ (piece : List ℕ). StopsInPiece middle after c.pieces.engine.content c.serve_piece.new.engine.content (c.pieces.decoder.rest ++ piece))
     (ap (take c.in-Ok.count) c.deref.ensures.value
     ∙ front_of c.in-Ok.count c.pieces.buffer.len c.read.new.buf (drop (length c.read.new.buf) c.pieces.buffer.items) c.in-Ok.ensures.bound.0 (omega (arith, c.in-Ok.ensures.bound, c.as_mut_slice.ensures.len, c.read.auto.buf)))
     c.in_err-serve_piece.ensures.served))
@@ -55,13 +55,13 @@ pieces-preserved g c =
     let held = g.W.Write.contents in
     let middle = held (device_inner c.pieces.writer) in
     let after = held (device_inner c.serve_piece.new.writer) in
-    let served = subst (λ (bad : Bool). ServesPiece middle after c.pieces.engine c.serve_piece.new.engine (c.pieces.decoder.rest ++ take c.in-Ok.count c.deref.result.now) c.serve_piece.new.decoder bad)
+    let served = subst (λ (bad : Bool). ServesPiece middle after c.pieces.engine.content c.serve_piece.new.engine.content (c.pieces.decoder.rest ++ take c.in-Ok.count c.deref.result.now) c.serve_piece.new.decoder bad)
     c.if-branch.false c.in_ok-serve_piece.ensures.served in
     record {
       goes = goes_on (bytes (device_inner c.args.reader.now)) (bytes (device_inner c.pieces.reader)) (bytes (device_inner c.read.new.self))
-          (held (device_inner c.args.writer.now)) middle after c.args.engine.now c.pieces.engine c.serve_piece.new.engine
+          (held (device_inner c.args.writer.now)) middle after c.args.engine.now.content c.pieces.engine.content c.serve_piece.new.engine.content
           c.pieces.decoder.rest (take c.in-Ok.count c.read.new.buf) c.pieces.invariant.goes c.in-Ok.ensures.bytes.0 c.serve_piece.new.decoder
-          (subst (λ (piece : List ℕ). ServesPiece middle after c.pieces.engine c.serve_piece.new.engine (c.pieces.decoder.rest ++ piece) c.serve_piece.new.decoder false)
+          (subst (λ (piece : List ℕ). ServesPiece middle after c.pieces.engine.content c.serve_piece.new.engine.content (c.pieces.decoder.rest ++ piece) c.serve_piece.new.decoder false)
           (ap (take c.in-Ok.count) c.deref.ensures.value
           ∙ front_of c.in-Ok.count c.pieces.buffer.len c.read.new.buf (drop (length c.read.new.buf) c.pieces.buffer.items) c.in-Ok.ensures.bound.0 (omega (arith, c.in-Ok.ensures.bound, c.as_mut_slice.ensures.len, c.read.auto.buf)))
           served);
@@ -83,15 +83,15 @@ returns-then-branch-clause-ran g c =
     let before = held (device_inner c.args.writer.now) in
     let middle = held (device_inner c.pieces.writer) in
     let after = held (device_inner c.serve_piece.new.writer) in
-    let served = subst (λ (bad : Bool). ServesPiece middle after c.pieces.engine c.serve_piece.new.engine (c.pieces.decoder.rest ++ take c.in-Ok.count c.deref.result.now) c.serve_piece.new.decoder bad)
+    let served = subst (λ (bad : Bool). ServesPiece middle after c.pieces.engine.content c.serve_piece.new.engine.content (c.pieces.decoder.rest ++ take c.in-Ok.count c.deref.result.now) c.serve_piece.new.decoder bad)
     c.if-branch.true c.in_ok-serve_piece.ensures.served in
-    let wrong = goes_wrong from (bytes (device_inner c.pieces.reader)) to before middle after c.args.engine.now c.pieces.engine c.serve_piece.new.engine
+    let wrong = goes_wrong from (bytes (device_inner c.pieces.reader)) to before middle after c.args.engine.now.content c.pieces.engine.content c.serve_piece.new.engine.content
     c.pieces.decoder.rest (take c.in-Ok.count c.read.new.buf) c.pieces.invariant.goes c.in-Ok.ensures.bytes.0 c.serve_piece.new.decoder
-    (subst (λ (piece : List ℕ). ServesPiece middle after c.pieces.engine c.serve_piece.new.engine (c.pieces.decoder.rest ++ piece) c.serve_piece.new.decoder true)
+    (subst (λ (piece : List ℕ). ServesPiece middle after c.pieces.engine.content c.serve_piece.new.engine.content (c.pieces.decoder.rest ++ piece) c.serve_piece.new.decoder true)
     (ap (take c.in-Ok.count) c.deref.ensures.value
     ∙ front_of c.in-Ok.count c.pieces.buffer.len c.read.new.buf (drop (length c.read.new.buf) c.pieces.buffer.items) c.in-Ok.ensures.bound.0 (omega (arith, c.in-Ok.ensures.bound, c.as_mut_slice.ensures.len, c.read.auto.buf)))
     served) in
-    ends_as_sent from to before after (held (device_inner c.send_end-then-branch.new.writer)) c.args.engine.now c.serve_piece.new.engine
+    ends_as_sent from to before after (held (device_inner c.send_end-then-branch.new.writer)) c.args.engine.now.content c.serve_piece.new.engine.content
     wrong.0 Malformed c.send_end-then-branch.result wrong.1 wrong.2 c.send_end-then-branch.ensures.bytes c.send_end-then-branch.ensures.ended
 
 pub returns-then-count-eq0-clause-ran : goal.returns-then-count-eq0-clause-ran
@@ -104,8 +104,8 @@ returns-then-count-eq0-clause-ran g c =
     let middle = held (device_inner c.pieces.writer) in
     let at_end = c.in-Ok.ensures.bytes.1 c.if-count-eq0.true (omega (arith, c.as_mut_slice.ensures.len, c.read.auto.buf, c.pieces.invariant.room)) in
     let rest = c.pieces.decoder.rest in
-    ends_as_sent from to before middle (held (device_inner c.send_end.new.writer)) c.args.engine.now c.pieces.engine rest c.if-rest-eq0.ended c.send_end.result
-    (goes_to_end from (bytes (device_inner c.pieces.reader)) to before middle c.args.engine.now c.pieces.engine rest (take c.in-Ok.count c.read.new.buf)
+    ends_as_sent from to before middle (held (device_inner c.send_end.new.writer)) c.args.engine.now.content c.pieces.engine.content rest c.if-rest-eq0.ended c.send_end.result
+    (goes_to_end from (bytes (device_inner c.pieces.reader)) to before middle c.args.engine.now.content c.pieces.engine.content rest (take c.in-Ok.count c.read.new.buf)
     (ap (λ (n : ℕ). take n c.read.new.buf) c.if-count-eq0.true) c.pieces.invariant.goes c.in-Ok.ensures.bytes.0)
     (elim c.if-rest-eq0.branch [
       | then-rest-eq0 w ↦ subst (λ (ended : Ended). IsTail ended rest to) (sym w.ended-is) (clean_end rest to (sym c.rest.ensures ∙ w.if-rest-eq0.true) at_end)

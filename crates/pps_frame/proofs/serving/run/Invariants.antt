@@ -8,7 +8,7 @@ use Rattle.pps_frame.proofs.serving.run.Given as goal
 
 abbrev pub invariant-pieces : goal.invariant-pieces
 invariant-pieces g l = record {
-  goes : Goes (g.R.Read.remaining (device_inner l.fn.reader)) (g.R.Read.remaining (device_inner l.reader)) (g.W.Write.contents (device_inner l.fn.writer)) (g.W.Write.contents (device_inner l.writer)) l.fn.engine l.engine l.decoder.rest;
+  goes : Goes (g.R.Read.remaining (device_inner l.fn.reader)) (g.R.Read.remaining (device_inner l.reader)) (g.W.Write.contents (device_inner l.fn.writer)) (g.W.Write.contents (device_inner l.writer)) l.fn.engine.content l.engine.content l.decoder.rest;
   partial : IsPartial l.decoder.rest;
   sound : l.decoder.failed ≡ false;
   reader : device_failed l.reader ≡ false;

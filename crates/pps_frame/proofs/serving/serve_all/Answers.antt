@@ -17,10 +17,10 @@ returns-in_err-serve-clause-served g c =
     let at = c.events.event-index in
     let event = c.event-item.result in
     rw p.1
-    (subst (λ (these : List Event). ServesPart before after c.args.engine.now c.serve.new.engine these)
+    (subst (λ (these : List Event). ServesPart before after c.args.engine.now.content c.serve.new.engine.content these)
     (ap (λ (these : List Event). these ++ drop (at + 1) events) (one_more events at event c.events-test.true c.event-item.is) ∙ take-append-drop (at + 1) events)
-    (serves_less before after c.args.engine.now c.serve.new.engine (take at events ++ event ∷ []) (drop (at + 1) events)
-    (serves_then_part before (contents (device_inner c.events.writer)) after c.args.engine.now c.events.engine c.serve.new.engine (take at events) (event ∷ [])
+    (serves_less before after c.args.engine.now.content c.serve.new.engine.content (take at events ++ event ∷ []) (drop (at + 1) events)
+    (serves_then_part before (contents (device_inner c.events.writer)) after c.args.engine.now.content c.events.engine.content c.serve.new.engine.content (take at events) (event ∷ [])
     c.events.invariant.done c.in_err-serve.ensures.served)))
 
 pub events-preserved : goal.events-preserved
@@ -32,8 +32,8 @@ events-preserved g c =
     let at = c.events.event-index in
     let event = c.event-item.result in
     record {
-      done = subst (λ (these : List Event). ServesAll before after c.args.engine.now c.serve.new.engine these) (one_more events at event c.events-test.true c.event-item.is)
-          (serves_then before (contents (device_inner c.events.writer)) after c.args.engine.now c.events.engine c.serve.new.engine (take at events) (event ∷ [])
+      done = subst (λ (these : List Event). ServesAll before after c.args.engine.now.content c.serve.new.engine.content these) (one_more events at event c.events-test.true c.event-item.is)
+          (serves_then before (contents (device_inner c.events.writer)) after c.args.engine.now.content c.events.engine.content c.serve.new.engine.content (take at events) (event ∷ [])
           c.events.invariant.done c.in_ok-serve.ensures.served);
       works = c.in_ok-serve.ensures.fault.0;
       stalls = c.in_ok-serve.ensures.fault.1 ∙ c.events.invariant.stalls;

@@ -12,8 +12,8 @@ returns-in_err-serve_all-in-Ok-clause-served g c =
     let before = g.W.Write.contents (device_inner c.args.writer.now) in
     let after = g.W.Write.contents (device_inner c.serve_all.new.writer) in
     rw p.1
-    (piece_stops before after c.args.engine.now c.serve_all.new.engine _ _ _ _ c.in-Ok.ensures.fed
-    (subst (λ (events : List Event). ServesPart before after c.args.engine.now c.serve_all.new.engine events) c.deref.ensures.value c.in_err-serve_all-in-Ok.ensures.served))
+    (piece_stops before after c.args.engine.now.content c.serve_all.new.engine.content _ _ _ _ c.in-Ok.ensures.fed
+    (subst (λ (events : List Event). ServesPart before after c.args.engine.now.content c.serve_all.new.engine.content events) c.deref.ensures.value c.in_err-serve_all-in-Ok.ensures.served))
 
 pub returns-in-Err-clause-served : goal.returns-in-Err-clause-served
 returns-in-Err-clause-served g c = piece_refused _ _ _

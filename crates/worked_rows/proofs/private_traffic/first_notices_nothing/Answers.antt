@@ -22,4 +22,4 @@ alone_shares = refl
 
 pub returns : goal.returns
 unfolding digits machine
-returns c = (record { same_events = both_share ∙ sym alone_shares; first_quiet = refl; second_quiet = refl }, refl)
+returns c = record { agree = record { same_events = both_share ∙ sym alone_shares; first_quiet = refl; second_quiet = refl }; replies = refl }

@@ -1,5 +1,6 @@
 use Rattle.std.proofs.Common.{◌≡◌, drop}
-use Rattle.pps_types.specs.Reading.{from_first, past, visible}
+use Rattle.pps_types.specs.Reading.{visible}
+use Rattle.pps_types.specs.Rests.{from_first, past}
 use Rattle.engine_state.proofs.handle.Open.place_behind.Given as goal
 
 abbrev pub invariant-rest : goal.invariant-rest

@@ -17,11 +17,14 @@ use Rattle.pps_types.specs.Outcome.{is_marked, item_has_bytes}
 use Rattle.pps_types.specs.Text.{WriteText, line_or, write_line, write_lines, with_header, text_after, text_of_lines, lines_of, write_text}
 use Rattle.pps_types.specs.Names.{Path, beyond, place, find_at, refusal_of, new_refusal}
 use Rattle.pps_types.specs.OpenText.{OpenPath, open_path, Options, options_text, OpenSpec, open_parts, open_spec, open_text, path_text}
-use Rattle.pps_types.specs.Reading.{Open, Seen, Answer, Everything, Blocks, Needs, TargetGone, Waits, Nothing}
+use Rattle.pps_types.specs.Reading.{Open, Answer, Everything, Blocks, Needs, TargetGone, Waits, Nothing}
+use Rattle.pps_types.specs.Rests.{Seen}
 use Rattle.pps_types.specs.Outbox.{Outbox, arm_refusal, park_refusal, held, is_armed, is_parked, is_full, arms, first_of}
 use Rattle.pps_types.specs.Content.{Content, at, object_numbered, handle_numbered, outbox_of, queue_of, read_answer, news}
 use Rattle.pps_types.specs.Checks.{Check, Refuse, Memory, first_refusal, refused, parsed, handle_checks, all_checks, object_checks, name_checks, open_checks, on_handle, answer_checks, read_checks, Addressee, Everyone, OneClient, Nobody, addressee, meant, server_backlog, client_backlog, client_checks, where_lines, count_owed, is_message_of, text_checks, write_checks, close_checks, on_path, unlink_found, unlink_checks, mkdir_checks, list_checks, notify_checks, receive_checks, checks}
-use Rattle.content_bounds.specs.Laws.{ChecksWantNothing}
+use Rattle.pps_types.specs.declared.event.Event.{Event}
+use Rattle.pps_types.specs.Plan.{apply_all_seen, effect, all_checks_of, passes_last_number}
+use Rattle.pps_types.specs.RunLaws.{ChecksWantNothing}
 
 abbrev IsNoWant : Refusal → Type 0
 IsNoWant r = is_marked (Err r) ≡ false
@@ -226,3 +229,8 @@ checks-wants c conn Receive = (refl, go (first_of (queue_of c conn)))
 
 pub checks-want-nothing : ChecksWantNothing
 checks-want-nothing c conn request r e = first-wants (checks c conn request) r (checks-wants c conn request) e
+
+-- nor does the check on the last numbers
+pub all-want-nothing : (c : Content) (e : Event) (r : Refusal) → first_refusal (all_checks_of c e) ≡ Some r → is_marked (Err r) ≡ false
+all-want-nothing c e r is =
+    first-wants (all_checks_of c e) r (both (checks c e.conn e.request) (Refuse (passes_last_number (apply_all_seen (effect c e.conn e.request).1 c)) Refusal.TableFull ∷ []) (checks-wants c e.conn e.request) (refl, tt)) is

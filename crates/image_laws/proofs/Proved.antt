@@ -1,0 +1,147 @@
+-- The laws of saved images.
+use Rattle.std.proofs.Common.{◌≡◌, ℕ, ◌+◌, ◌≤◌, true, false, ◌&&◌, List, [], ◌∷◌, ◌++◌, length, Ok, refl, sym, ap, subst, ◌∙◌, append_assoc, ⊎_elim, arith}
+use Rattle.std.specs.Prelude.{codes}
+use Rattle.std.specs.List.{flat_map, list_all}
+use Rattle.std.specs.Fmt.{decimal, digits}
+use Rattle.pps_types.specs.Machine.{shown}
+use Rattle.pps_types.specs.Image.{SavedLine, Saved, SavedDirectory, SavedObject, saved, text_line, print_saved, image_text, image, Image, started, First, Behind}
+use Rattle.pps_types.proofs.ImageStarts.{images-start}
+use Rattle.image_laws.specs.Images.{AreLines, IsEntry, AreEntries, IsImage}
+use Rattle.image_laws.specs.Laws.{is_newer, OnlyImagesAreRead, ReadImagesAreWell, TextsAreRead, StartsHoldTheEntries, SavedIsReadAgain, StartsAreWithinBounds, ReadersGoLineByLine, CallsStartIt, CallsDecide}
+use Rattle.std.specs.Result.{is_ok}
+use Rattle.std.specs.Ordering.{is_lt}
+use Rattle.pps_types.specs.Names.{path_cmp}
+use Rattle.pps_types.specs.Image.{path_of, as_line}
+use Rattle.pps_types.specs.Restore.{restore_directory, restore_object, restore_line}
+use Rattle.image_laws.proofs.Agree.{agree-directory, agree-object, agree-line}
+use Rattle.image_laws.proofs.Calls.{calls-start}
+use Rattle.content_bounds.specs.Bounds.{IsBound}
+use Rattle.image_laws.specs.Savable.{CanBeSaved}
+use Rattle.image_laws.proofs.Saving.{image-read}
+use Rattle.image_laws.proofs.Restoring.{started-bound}
+use Rattle.image_laws.proofs.Lengths.{line-short, long-refused}
+use Rattle.image_laws.proofs.Streams.{read-on, line-refused, line-ended, behind-end}
+use Rattle.image_laws.proofs.Printed.{image_text-read}
+use Rattle.image_laws.proofs.Only.{IsOlder, IsNewer, IsRead, read_image-only}
+use Rattle.image_laws.proofs.Started.{started-saves}
+
+-- ---- a longer text is allowed too
+
+lines-longer : (short long : ℕ) (before ls : List SavedLine) → short ≤ long → AreLines short before ls → AreLines long before ls
+lines-longer short long before [] le h = tt
+lines-longer short long before (l ∷ ls) le h = (h.0, h.1, omega (arith, h.2), lines-longer short long (before ++ l ∷ []) ls le h.3)
+
+entry-longer : (short long : ℕ) (before : List Saved) (e : Saved) → short ≤ long → IsEntry short before e → IsEntry long before e
+entry-longer short long before (SavedDirectory path) le h = h
+entry-longer short long before (SavedObject path lines) le h = (h.0, h.1, h.2, lines-longer short long [] lines le h.3)
+
+entries-longer : (short long : ℕ) (before es : List Saved) → short ≤ long → AreEntries short before es → AreEntries long before es
+entries-longer short long before [] le h = tt
+entries-longer short long before (e ∷ es) le h = (entry-longer short long before e le h.0, entries-longer short long (before ++ e ∷ []) es le h.1)
+
+-- ---- the versions
+
+newer-is : (l rest : List ℕ) (longest d : ℕ) → IsNewer l longest d → is_newer (text_line l ++ rest) ≡ true
+newer-is l rest longest d h = rw (h.0) refl
+
+older-not : (l rest : List ℕ) (longest d : ℕ) → IsOlder l longest d → is_newer (text_line l ++ rest) ≡ false
+older-not l rest longest d h = rw (h.0) refl
+
+-- the text behind the first line
+abbrev rest_of : List Saved → List ℕ
+rest_of es = flat_map print_saved es ++ text_line (codes "E " ++ decimal (length es))
+
+cut : (bytes : List ℕ) (i : Image) (h : IsRead bytes i) → bytes ≡ text_line h.head ++ rest_of i.entries
+cut bytes i h = h.text ∙ append_assoc (text_line h.head) (flat_map print_saved i.entries) (text_line (codes "E " ++ decimal (length i.entries)))
+
+image-cut : (d : ℕ) (es : List Saved) → image_text d es ≡ text_line (codes "PPSIMAGE 2 " ++ decimal d) ++ rest_of es
+image-cut d es = append_assoc (text_line (codes "PPSIMAGE 2 " ++ decimal d)) (flat_map print_saved es) (text_line (codes "E " ++ decimal (length es)))
+
+started-image : (longest : ℕ) (i : Image) → AreEntries longest [] i.entries → image (shown (started i)) ≡ image_text i.default_limit i.entries
+started-image longest i all = let h = started-saves longest i all in ap image (images-start.stands i) ∙ (λ j. image_text (h.1 j) (h.0 j))
+
+only-newer : (bytes : List ℕ) (i : Image) → IsRead bytes i → is_newer bytes ≡ true → image (shown (started i)) ≡ bytes
+only-newer bytes i h newer =
+    ⊎_elim
+    (λ v. absurd (let e = sym newer ∙ ap is_newer (cut bytes i h) ∙ older-not h.head (rest_of i.entries) h.longest i.default_limit v in cc))
+    (λ v. started-image h.longest i h.entries ∙ image-cut i.default_limit i.entries ∙ ap (λ l. text_line l ++ rest_of i.entries) (sym v.0) ∙ sym (cut bytes i h))
+    h.version
+
+spelled : codes "PPSIMAGE 2 " ++ decimal 256 ≡ codes "PPSIMAGE 2 256"
+unfolding digits
+spelled = refl
+
+only-older : (bytes : List ℕ) (i : Image) → IsRead bytes i → (is_newer bytes ≡ true → ⊥) → (i.default_limit ≡ 256) × (rest : List ℕ) × (bytes ≡ text_line (codes "PPSIMAGE 1") ++ rest) × (image (shown (started i)) ≡ text_line (codes "PPSIMAGE 2 256") ++ rest)
+only-older bytes i h older =
+    ⊎_elim
+    (λ v. (
+      v.2,
+      rest_of i.entries,
+      cut bytes i h ∙ ap (λ l. text_line l ++ rest_of i.entries) v.0,
+      started-image h.longest i h.entries ∙ image-cut i.default_limit i.entries ∙ ap (λ d. text_line (codes "PPSIMAGE 2 " ++ decimal d) ++ rest_of i.entries) v.2 ∙ ap (λ l. text_line l ++ rest_of i.entries) spelled,
+    ))
+    (λ v. absurd (older (ap is_newer (cut bytes i h) ∙ newer-is h.head (rest_of i.entries) h.longest i.default_limit v)))
+    h.version
+
+pub only-images : OnlyImagesAreRead
+only-images = record { newer = λ bytes i e. only-newer bytes i (read_image-only bytes i e); older = λ bytes i e. only-older bytes i (read_image-only bytes i e) }
+
+well : (bytes : List ℕ) (i : Image) → IsRead bytes i → IsImage i
+well bytes i h =
+    ⊎_elim
+    (λ v. record { least = omega (arith, v.2); most = omega (arith, v.2); entries = entries-longer h.longest 65536 [] i.entries (omega (arith, v.1)) h.entries })
+    (λ v. record { least = v.2; most = v.3; entries = entries-longer h.longest 65536 [] i.entries (omega (arith, v.1)) h.entries })
+    h.version
+
+well-older : (bytes : List ℕ) (i : Image) → IsRead bytes i → (is_newer bytes ≡ true → ⊥) → AreEntries 32768 [] i.entries
+well-older bytes i h older =
+    ⊎_elim
+    (λ v. subst (λ n. AreEntries n [] i.entries) v.1 h.entries)
+    (λ v. absurd (older (ap is_newer (cut bytes i h) ∙ newer-is h.head (rest_of i.entries) h.longest i.default_limit v)))
+    h.version
+
+pub read-well : ReadImagesAreWell
+read-well = record { well = λ bytes i e. well bytes i (read_image-only bytes i e); older = λ bytes i e. well-older bytes i (read_image-only bytes i e) }
+
+pub texts-read : TextsAreRead
+texts-read = image_text-read
+
+pub starts-hold : StartsHoldTheEntries
+starts-hold = record {
+  entries = λ i h. ap saved (images-start.stands i) ∙ (started-saves 65536 i h.entries).0;
+  limit = λ i h. ap (λ c. c.default_limit) (images-start.stands i) ∙ (started-saves 65536 i h.entries).1;
+}
+
+pub saved-again : SavedIsReadAgain
+saved-again = record {
+  reads = λ c w bound can. image-read c w.tree bound can;
+  begins = λ first d least most.
+      let h = (started-bound (record { default_limit = d; entries = [] }) (record { least = least; most = most; entries = tt })).1 in
+      record { least = h.least; most = h.most; apart = h.apart; parents = h.parents; homes = h.homes; paths = h.paths; object_paths = h.object_paths; attributes = h.attributes; directories = h.directories; objects = h.objects };
+}
+
+pub within-bounds : StartsAreWithinBounds
+within-bounds = record {
+  bound = λ bytes i e. subst IsBound (sym (images-start.stands i)) (started-bound i (well bytes i (read_image-only bytes i e))).0;
+  can = λ bytes i e. subst CanBeSaved (sym (images-start.stands i)) (started-bound i (well bytes i (read_image-only bytes i e))).1;
+}
+
+pub line-by-line : ReadersGoLineByLine
+line-by-line = record {
+  whole = λ ls rest p plain e. read-on 1 First p ls rest plain e;
+  refused = λ ls l rest p plain line e no_line. read-on 1 First p ls (text_line l ++ rest) plain e ∙ line-refused (1 + length ls) p l rest line no_line;
+  ended = λ ls l p plain line e. read-on 1 First p ls l plain e ∙ line-ended (1 + length ls) p l line;
+  long = λ ls l rest p plain line e many. read-on 1 First p ls (l ++ rest) plain e ∙ long-refused (1 + length ls) p l rest line many (λ k q k-line h. line-short ls k p q plain k-line e h);
+  behind = λ ls b rest i plain e. read-on 1 First (Behind i) ls (b ∷ rest) plain e ∙ behind-end (1 + length ls) i b rest;
+}
+
+pub calls-start-it : CallsStartIt
+calls-start-it bytes i e = calls-start i (well bytes i (read_image-only bytes i e)) ∙ ap Ok (sym (images-start.stands i))
+
+pub calls-decide : CallsDecide
+calls-decide = record {
+  directory = λ i is path named some. agree-directory i is path named some ∙ ap (λ c. list_all (λ x. is_lt (path_cmp (path_of x) path)) i.entries && is_ok (restore_directory c path)) (sym (images-start.stands i));
+  object = λ i is path named some. agree-object i is path named some ∙ ap (λ c. list_all (λ x. is_lt (path_cmp (path_of x) path)) i.entries && is_ok (restore_object c path)) (sym (images-start.stands i));
+  line = λ i is path lines l e named few. agree-line i is path lines l e named few
+      ∙ ap (λ c. is_ok (restore_line c path (as_line l))) (sym (images-start.stands (record { default_limit = i.default_limit; entries = i.entries ++ SavedObject path lines ∷ [] })));
+}

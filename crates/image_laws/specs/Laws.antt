@@ -1,0 +1,80 @@
+-- The laws that tie what is saved and what is read.
+use Rattle.std.specs.Prelude.{◌≡◌, ◌≤◌, ℕ, List, [], ◌∷◌, ◌++◌, Bool, true, Some, None, is_some, Ok, Err, ◌+◌, codes, length}
+use Rattle.std.specs.List.{list_all}
+use Rattle.pps_types.specs.Bytes.{after_prefix, is_empty, pieces}
+use Rattle.pps_types.specs.Content.{Content}
+use Rattle.std.specs.Prelude.{◌<◌, false, nat_le, map, ◌&&◌}
+use Rattle.std.specs.Result.{is_ok}
+use Rattle.std.specs.Ordering.{is_lt}
+use Rattle.pps_types.specs.Names.{Path, path_cmp}
+use Rattle.pps_types.specs.Text.{print_lines}
+use Rattle.pps_types.specs.Image.{SavedLine, SavedDirectory, SavedObject, path_of, as_line, may_follow}
+use Rattle.pps_types.specs.Image.{Image, saved, text_line, image_text, image, read_image, started, Position, First, Behind, line_read, read_lines, at_end}
+use Rattle.pps_types.specs.Machine.{start, shown}
+use Rattle.pps_types.specs.WellFormed.{IsContent}
+use Rattle.content_bounds.specs.Bounds.{IsBound}
+use Rattle.image_laws.specs.Images.{is_new, is_saved_line, IsSavedPath, IsEntry, is_plain, are_plain, joined, read_all, AreEntries, IsImage}
+use Rattle.image_laws.specs.Savable.{CanBeSaved}
+use Rattle.pps_types.specs.Restore.{restore_directory, restore_object, restore_line, restore_entries}
+
+-- the first line is that of version 2
+abbrev pub is_newer : List ℕ → Bool
+is_newer bytes = is_some (after_prefix (codes "PPSIMAGE 2 ") bytes)
+
+-- What is read of version 2 is what the service that it starts would save: no two texts are one image, and nothing else than images is read.
+-- Of version 1 it is the same text behind another first line.
+pub record OnlyImagesAreRead : Type 0 where
+  pub newer : (bytes : List ℕ) (i : Image) → read_image bytes ≡ Ok i → is_newer bytes ≡ true → image (shown (started i)) ≡ bytes
+  pub older : (bytes : List ℕ) (i : Image) → read_image bytes ≡ Ok i → (is_newer bytes ≡ true → ⊥)
+      → (i.default_limit ≡ 256) × (rest : List ℕ) × (bytes ≡ text_line (codes "PPSIMAGE 1") ++ rest) × (image (shown (started i)) ≡ text_line (codes "PPSIMAGE 2 256") ++ rest)
+
+-- What is read are entries that may follow one another; of version 1 their objects have at most 32,768 bytes of text.
+pub record ReadImagesAreWell : Type 0 where
+  pub well : (bytes : List ℕ) (i : Image) → read_image bytes ≡ Ok i → IsImage i
+  pub older : (bytes : List ℕ) (i : Image) → read_image bytes ≡ Ok i → (is_newer bytes ≡ true → ⊥) → AreEntries 32768 [] i.entries
+
+-- the text of entries that may follow one another is read as these
+abbrev pub TextsAreRead : Type 0
+TextsAreRead = (i : Image) → IsImage i → read_image (image_text i.default_limit i.entries) ≡ Ok i
+
+-- what an image starts has its entries to save, and its limit
+pub record StartsHoldTheEntries : Type 0 where
+  pub entries : (i : Image) → IsImage i → saved (shown (started i)) ≡ i.entries
+  pub limit : (i : Image) → IsImage i → (shown (started i)).default_limit ≡ i.default_limit
+
+-- What stands within its bounds is saved as an image that is read as what was saved.
+pub record SavedIsReadAgain : Type 0 where
+  pub reads : (c : Content) → IsContent c → IsBound c → CanBeSaved c → read_image (image c) ≡ Ok (record { default_limit = c.default_limit; entries = saved c })
+  pub begins : (first_handle default_limit : ℕ) → 1 ≤ default_limit → default_limit ≤ 65535 → CanBeSaved (shown (start first_handle default_limit))
+
+-- what an image starts is within its bounds, so that an engine may stand for it, and can be saved
+pub record StartsAreWithinBounds : Type 0 where
+  pub bound : (bytes : List ℕ) (i : Image) → read_image bytes ≡ Ok i → IsBound (shown (started i))
+  pub can : (bytes : List ℕ) (i : Image) → read_image bytes ≡ Ok i → CanBeSaved (shown (started i))
+
+-- A reader that has taken whole lines stands at one position, and what it answers is read off that position and what is still to come:
+-- a line that no image has there is told at once, and so is what stands behind the last line feed at the end.
+pub record ReadersGoLineByLine : Type 0 where
+  pub whole : (ls : List (List ℕ)) (rest : List ℕ) (p : Position) → are_plain ls ≡ true → read_all First ls ≡ Some p → read_image (joined ls ++ rest) ≡ read_lines (1 + length ls) p (pieces 10 rest)
+  pub refused : (ls : List (List ℕ)) (l rest : List ℕ) (p : Position) → are_plain ls ≡ true → list_all is_plain l ≡ true → read_all First ls ≡ Some p → line_read p l ≡ None
+      → read_image (joined ls ++ (text_line l ++ rest)) ≡ Err (1 + length ls)
+  pub ended : (ls : List (List ℕ)) (l : List ℕ) (p : Position) → are_plain ls ≡ true → list_all is_plain l ≡ true → read_all First ls ≡ Some p → read_image (joined ls ++ l) ≡ at_end (1 + length ls) p (is_empty l)
+  -- so many bytes without a line feed begin no line of an image, wherever they stand
+  pub long : (ls : List (List ℕ)) (l rest : List ℕ) (p : Position) → are_plain ls ≡ true → list_all is_plain l ≡ true → read_all First ls ≡ Some p → 65536 ≤ length l → read_image (joined ls ++ (l ++ rest)) ≡ Err (1 + length ls)
+  -- behind the end no byte may stand
+  pub behind : (ls : List (List ℕ)) (b : ℕ) (rest : List ℕ) (i : Image) → are_plain ls ≡ true → read_all First ls ≡ Some (Behind i) → read_image (joined ls ++ (b ∷ rest)) ≡ Err (1 + length ls)
+
+-- What an image starts is what the calls leave that restore its entries, one after the other, from the empty service: none of them is refused.
+abbrev pub CallsStartIt : Type 0
+CallsStartIt = (bytes : List ℕ) (i : Image) → read_image bytes ≡ Ok i → restore_entries (shown (start 1 i.default_limit)) i.entries ≡ Ok (shown (started i))
+
+-- Where an image's entries were restored, the calls decide what may come next, and what they don't say is said here: a directory or an object may follow
+-- where its path is behind all others and the call is not refused, and a line of the last object where the call is not refused.
+pub record CallsDecide : Type 0 where
+  pub directory : (i : Image) → IsImage i → (path : Path) → IsSavedPath path → is_empty path ≡ false
+      → may_follow i.entries (SavedDirectory path) ≡ (list_all (λ x. is_lt (path_cmp (path_of x) path)) i.entries && is_ok (restore_directory (shown (started i)) path))
+  pub object : (i : Image) → IsImage i → (path : Path) → IsSavedPath path → is_empty path ≡ false
+      → may_follow i.entries (SavedObject path []) ≡ (list_all (λ x. is_lt (path_cmp (path_of x) path)) i.entries && is_ok (restore_object (shown (started i)) path))
+  pub line : (i : Image) → IsImage i → (path : Path) (lines : List SavedLine) (l : SavedLine) → IsEntry 65536 i.entries (SavedObject path lines) → is_saved_line l ≡ true → length lines < 1024
+      → (is_new lines l && nat_le (length (print_lines (map as_line (lines ++ l ∷ [])))) 65536)
+      ≡ is_ok (restore_line (shown (started (record { default_limit = i.default_limit; entries = i.entries ++ SavedObject path lines ∷ [] }))) path (as_line l))
