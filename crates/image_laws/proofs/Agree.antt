@@ -11,22 +11,22 @@ use Rattle.pps_types.specs.declared.found.Found.{Found}
 use Rattle.pps_types.specs.declared.found.Found.TheVariants.{Object as FoundObject, Directory as FoundDirectory}
 use Rattle.pps_types.specs.declared.refusal.Refusal.{Refusal}
 use Rattle.pps_types.specs.Bytes.{is_empty, ◌>>=◌}
-use Rattle.pps_types.specs.Names.{Path, same_path, parent, last_name, path_cmp, sorted_by, name_cmp, beyond, place, new_refusal}
+use Rattle.pps_types.specs.Text.{print_lines}
+use Rattle.pps_types.specs.Names.{Path, same_path, parent, last_name, path_cmp, name_cmp, beyond, place, new_refusal, refusal_of}
 use Rattle.pps_types.specs.Content.{Directory, Known, Content, at, directory_at, object_at, members, subdirectories}
 use Rattle.pps_types.specs.Checks.{Check, Refuse, Memory, first_refusal, refused, object_checks, objects_beside, mkdir_checks}
 use Rattle.pps_types.specs.Plan.{Move, MakesDirectory, Creates, apply_all_seen, passes_last_number}
-use Rattle.pps_types.specs.Image.{directory_path, saved_object, Image, Saved, SavedDirectory, SavedObject, SavedLine, path_of, same_sort, are_beside, has_parent, may_follow, saved, restored_object, started_seen}
-use Rattle.pps_types.specs.Text.{print_lines}
 use Rattle.pps_types.specs.Machine.{start, shown}
-use Rattle.pps_types.specs.Image.{as_line, restored_seen}
-use Rattle.pps_types.proofs.Lists.{fold-push}
-use Rattle.image_laws.specs.Images.{is_new, is_saved_line, IsSavedPath, IsEntry, AreEntries, IsImage}
+use Rattle.pps_types.specs.Image.{directory_path, saved_object, Image, Saved, SavedDirectory, SavedObject, SavedLine, path_of, same_sort, are_beside, has_parent, may_follow, saved, restored_object, started_seen, is_directory_entry, is_kept, as_line, restored_seen}
 use Rattle.pps_types.specs.Restore.{decided, with_numbers, restore_directory, restore_object, restore_line}
+use Rattle.pps_types.proofs.Lists.{fold-push}
+use Rattle.image_laws.specs.Images.{is_new, is_saved_line, IsSavedPath}
+use Rattle.image_laws.proofs.Good.{IsEntry, AreEntries, IsGood}
 use Rattle.image_laws.proofs.Entries.{follow-parts}
 use Rattle.image_laws.proofs.Sorting.{any-sorted}
-use Rattle.image_laws.proofs.Saving.{parent-among, none-objects, none-directories, count-directories, count-objects, any-objects, all-pass, root-is, beside-home}
 use Rattle.image_laws.proofs.Started.{Held, content_of, nothing, restored_held, held_by, directories_of, objects_of, home-of, parent-last, restored-one, started-held}
-use Rattle.image_laws.proofs.Restoring.{IsFine, started-fine, count-saved}
+use Rattle.image_laws.proofs.Saving.{parent-among, none-objects, none-directories, count-directories, count-objects, any-objects, all-pass, root-is, beside-home}
+use Rattle.image_laws.proofs.Restoring.{IsFine, fine-content, started-fine, count-saved}
 use Rattle.image_laws.proofs.Calls.{Leads, IsSmall, small-next, call-directory, call-creation, object-line-decides, length-sorted}
 
 -- ---- none of the checks refuses
@@ -82,7 +82,7 @@ place-leads c a n (m ∷ ms) x e =
 new-leads : (c : Content) (n : List ℕ) (ns : Path) → new_refusal (at c) (n ∷ ns) ≡ None → Leads c (parent (n ∷ ns))
 new-leads c n ns h = by (place (at c) (n ∷ ns)) refl h
   where
-    by : (r : Result (Option Found) Refusal) → place (at c) (n ∷ ns) ≡ r → Rattle.pps_types.specs.Names.refusal_of (r >>= (λ found. cond (is_some found) (Err Refusal.Exists) (Ok found))) ≡ None → Leads c (parent (n ∷ ns))
+    by : (r : Result (Option Found) Refusal) → place (at c) (n ∷ ns) ≡ r → refusal_of (r >>= (λ found. cond (is_some found) (Err Refusal.Exists) (Ok found))) ≡ None → Leads c (parent (n ∷ ns))
     by (Err r) e h = absurd cc
     by (Ok x) e h = place-leads c [] n ns x e
 
@@ -91,7 +91,7 @@ new-leads c n ns h = by (place (at c) (n ∷ ns)) refl h
 parent-in : (d : ℕ) (h : Held) (before : List Saved) (e : Saved) → saved (content_of d h) ≡ before → Leads (content_of d h) (parent (path_of e)) → has_parent before e ≡ true
 parent-in d h before e is leads =
     let c = content_of d h in
-    let test = λ (x : Saved). Rattle.pps_types.specs.Image.is_directory_entry x && same_path (path_of x) (parent (path_of e)) in
+    let test = λ (x : Saved). is_directory_entry x && same_path (path_of x) (parent (path_of e)) in
     ap (λ es. is_empty (parent (path_of e)) || list_any test es) (sym is)
     ∙ ap (λ t. is_empty (parent (path_of e)) || t) (any-sorted path_cmp path_of test (directories_of h.directories ++ objects_of c))
     ∙ parent-among c e leads
@@ -116,7 +116,7 @@ follows-directory d h before n ns fine behind ok =
     let path = n ∷ ns in
     let e = SavedDirectory path in
     let c = content_of d h in
-    let none = front-passes (mkdir_checks c path) (Refuse (passes_last_number (apply_all_seen (MakesDirectory path ∷ []) c)) Refusal.TableFull ∷ []) (decided-ok c (MakesDirectory path ∷ []) (Rattle.pps_types.specs.Checks.first_refusal (with_numbers c (MakesDirectory path ∷ []) (mkdir_checks c path))) ok) in
+    let none = front-passes (mkdir_checks c path) (Refuse (passes_last_number (apply_all_seen (MakesDirectory path ∷ []) c)) Refusal.TableFull ∷ []) (decided-ok c (MakesDirectory path ∷ []) (first_refusal (with_numbers c (MakesDirectory path ∷ []) (mkdir_checks c path))) ok) in
     let one = known-passes (new_refusal (at c) path) (Refuse (nat_le 256 (length (subdirectories c (parent path)))) Refusal.TableFull ∷ Refuse (nat_lt 65535 (length h.directories)) Refusal.TableFull ∷ []) none in
     let two = first-passes (nat_le 256 (length (subdirectories c (parent path)))) Refusal.TableFull (Refuse (nat_lt 65535 (length h.directories)) Refusal.TableFull ∷ []) one.1 in
     let three = first-passes (nat_lt 65535 (length h.directories)) Refusal.TableFull [] two.1 in
@@ -124,10 +124,10 @@ follows-directory d h before n ns fine behind ok =
     let few = most-of 65535 (length h.directories) three.0 in
     let counted = fine.counted in
     let beside_total = count-saved c before (are_beside e) fine.saves in
-    let beside_none = ap length (none-objects (are_beside e) c (λ path lines. refl) (filter Rattle.pps_types.specs.Image.is_kept h.objects)) in
+    let beside_none = ap length (none-objects (are_beside e) c (λ path lines. refl) (filter is_kept h.objects)) in
     let beside_few = count-directories (are_beside e) (λ x. not (same_path x.path []) && same_path (parent x.path) (parent path)) (λ x t some. and_from _ _ (root-is x.path some) t) h.directories in
     let all_total = count-saved c before (same_sort e) fine.saves in
-    let all_none = ap length (none-objects (same_sort e) c (λ path lines. refl) (filter Rattle.pps_types.specs.Image.is_kept h.objects)) in
+    let all_none = ap length (none-objects (same_sort e) c (λ path lines. refl) (filter is_kept h.objects)) in
     let all_few = count-directories (same_sort e) (λ x. not (is_empty x.path)) (λ x t some. ap not some) h.directories in
     together before e refl behind (parent-in d h before e fine.saves (new-leads c n ns one.0)) (omega arith) (omega arith)
 
@@ -144,6 +144,7 @@ follows-object d h before n ns fine behind ok =
     let two = first-passes (nat_le 256 (objects_beside c path)) Refusal.TableFull (Refuse (nat_le 65535 (length h.objects)) Refusal.TableFull ∷ []) one.1 in
     let three = first-passes (nat_le 65535 (length h.objects)) Refusal.TableFull [] two.1 in
     let leads = new-leads c n ns one.0 in
+    let content = fine-content d h before fine in
     let home = home-of d h path fine.held leads in
     let where_is : o.directory ≡ home.number = ap (λ n. unwrap_or n 0) home.is in
     let objects : objects_beside c path ≡ length (members c home.number) = ap (λ n. option_map_or (λ d. length (members c d)) n 0) home.is in
@@ -155,7 +156,7 @@ follows-object d h before n ns fine behind ok =
     let beside_home : AllByRecursion (λ x. are_beside e (saved_object c x) ≡ true → eqb x.object.directory home.number ≡ true) h.objects =
     subst (λ n. AllByRecursion (λ x. are_beside e (saved_object c x) ≡ true → eqb x.object.directory n ≡ true) h.objects) where_is
     (subst (λ s. AllByRecursion (λ x. are_beside s (saved_object c x) ≡ true → eqb x.object.directory o.directory ≡ true) h.objects) is
-    (beside-home c fine.bound fine.can k there h.objects fine.can.homes)) in
+    (beside-home c content k there h.objects content.tree.places)) in
     let beside_total = count-saved c before (are_beside e) fine.saves in
     let beside_none = ap length (none-directories (are_beside e) (λ path. refl) (filter (λ d. not (is_empty d.path)) h.directories)) in
     let beside_few = count-objects c (are_beside e) (λ x. eqb x.object.directory home.number) h.objects beside_home in
@@ -177,7 +178,7 @@ small-all : (d : ℕ) (h : Held) (before es : List Saved) → IsSmall h → AreE
 small-all d h before [] small all = small
 small-all d h before (e ∷ es) small all = small-all d (restored_held d h e) (before ++ e ∷ []) es (small-next d h before e small all.0) all.1
 
-module _ (i : Image) (is : IsImage i) where
+module _ (i : Image) (is : IsGood i) where
   stands : started_seen i ≡ content_of i.default_limit (held_by i.default_limit nothing i.entries)
   stands = (started-held 65536 i is.entries).is
 

@@ -5,38 +5,36 @@ use Rattle.std.specs.Option.{option_map_or, option_or}
 use Rattle.std.specs.List.{list_all, list_any, AllByRecursion}
 use Rattle.std.proofs.lemmas.Bool.{and_parts, and_from, eqb-true, eq-eqb}
 use Rattle.std.proofs.lemmas.Bool.Decides.{nat_tests}
+use Rattle.std.specs.Ordering.{is_lt}
+use Rattle.std.specs.declared.cmp.Ordering.{Ordering}
+use Rattle.std.specs.Result.{is_ok}
 use Rattle.pps_types.specs.declared.found.Found.{Found}
 use Rattle.pps_types.specs.declared.found.Found.TheVariants.{Object as FoundObject, Directory as FoundDirectory}
 use Rattle.pps_types.specs.declared.refusal.Refusal.{Refusal}
+use Rattle.pps_types.specs.declared.refusal.Refusal.TheVariants.{Exists, TableFull, TooLarge}
+use Rattle.pps_types.specs.declared.record.Kind.TheVariants.{Change}
 use Rattle.pps_types.specs.Bytes.{same, ◌>>=◌}
-use Rattle.pps_types.specs.Names.{Path, same_path, parent, last_name, beyond, place, find_at, new_refusal}
-use Rattle.pps_types.specs.Content.{Object, Directory, Known, Content, at, object_at, parent_number}
-use Rattle.pps_types.specs.Image.{directory_path, Saved, SavedDirectory, SavedObject, SavedLine}
-use Rattle.pps_types.specs.Names.{name_cmp, sorted_by}
-use Rattle.pps_types.specs.Content.{members, subdirectories}
+use Rattle.pps_types.specs.Text.{print_lines}
+use Rattle.pps_types.specs.Names.{Path, same_path, parent, last_name, beyond, place, find_at, new_refusal, name_cmp, sorted_by, insert_by}
+use Rattle.pps_types.specs.History.{text_length}
+use Rattle.pps_types.specs.Content.{Object, Directory, Known, Content, at, object_at, parent_number, members, subdirectories}
 use Rattle.pps_types.specs.Checks.{Check, Refuse, Memory, first_refusal, refused, objects_beside, object_checks, mkdir_checks}
 use Rattle.pps_types.specs.Plan.{Move, Creates, Happens, MakesDirectory, entry_of, apply_all_seen, passes_last_number}
-use Rattle.pps_types.specs.declared.refusal.Refusal.TheVariants.{Exists, TableFull, TooLarge}
-use Rattle.pps_types.specs.Image.{path_of, may_follow, restored_object}
-use Rattle.std.specs.Ordering.{is_lt}
-use Rattle.std.specs.declared.cmp.Ordering.{Ordering}
-use Rattle.pps_types.specs.declared.record.Kind.TheVariants.{Change}
-use Rattle.pps_types.specs.Text.{print_lines}
-use Rattle.pps_types.specs.Names.{insert_by}
-use Rattle.pps_types.specs.History.{text_length}
 use Rattle.pps_types.specs.Machine.{start, shown}
-use Rattle.pps_types.specs.Image.{Image, as_line, started_seen}
-use Rattle.pps_types.proofs.Rising.{rising-below}
-use Rattle.pps_types.proofs.Trees.{same_path-is}
-use Rattle.image_laws.specs.Images.{is_new, is_saved_line, IsEntry, AreLines, AreEntries, IsImage}
-use Rattle.std.specs.Result.{is_ok}
+use Rattle.pps_types.specs.Image.{directory_path, Saved, SavedDirectory, SavedObject, SavedLine, path_of, may_follow, restored_object, Image, as_line, started_seen}
 use Rattle.pps_types.specs.Restore.{with_numbers, decided, restored_by, restore_directory, restore_object, restore_line, restore_lines, restore_entry, restore_entries, attributes_at, line_moves, line_checks}
-use Rattle.image_laws.proofs.Numbers.{same-is, same-own}
-use Rattle.image_laws.proofs.Printed.{count-push}
-use Rattle.image_laws.proofs.Restoring.{text-same, same-length, IsFine, fine-next, nothing-fine, less-all, other-directories, other-objects}
+use Rattle.pps_types.proofs.Lists.{append-nil}
+use Rattle.pps_types.proofs.Rising.{rising-below}
+use Rattle.pps_types.proofs.Trees.{same_path-is, path-itself, same-itself}
+use Rattle.image_laws.specs.Images.{is_new, is_saved_line, AreLines}
 use Rattle.image_laws.specs.Savable.{object_path}
-use Rattle.image_laws.proofs.Entries.{append-nil, follow-parts}
-use Rattle.image_laws.proofs.Started.{same_path-own, Held, content_of, nothing, known_with, with_directory, restored_held, held_by, IsHome, home-of, parent-there, parent-last, lines-applied, put-new, started-held, restored_attribute}
+use Rattle.image_laws.proofs.Good.{IsEntry, AreEntries, IsGood}
+use Rattle.image_laws.proofs.Places.{places}
+use Rattle.image_laws.proofs.Numbers.{same-is}
+use Rattle.image_laws.proofs.Entries.{follow-parts}
+use Rattle.image_laws.proofs.Printed.{count-push}
+use Rattle.image_laws.proofs.Started.{Held, content_of, nothing, known_with, with_directory, restored_held, held_by, IsHome, home-of, parent-there, parent-last, lines-applied, put-new, started-held, restored_attribute}
+use Rattle.image_laws.proofs.Restoring.{text-same, same-length, IsFine, fine-content, fine-next, nothing-fine, less-all, other-directories, other-objects}
 
 -- ---- paths that lead to a directory
 
@@ -140,7 +138,7 @@ object-none c p name number (o ∷ os) is h =
         → cond (s && t) (Some o) (find (λ o. eqb o.object.directory number && same o.object.name name) os) ≡ None
     by true true a b n rec =
         let e : object_path c o ≡ p = (λ i. directory_path c (eqb-true o.object.directory number a i) ++ same-is o.object.name name b i ∷ []) ∙ is in
-        absurd (let f = sym n ∙ ap (λ q. not (same_path q p)) e ∙ ap not (same_path-own p) in cc)
+        absurd (let f = sym n ∙ ap (λ q. not (same_path q p)) e ∙ ap not (path-itself p) in cc)
     by true false a b n rec = rec
     by false t a b n rec = rec
 
@@ -183,7 +181,7 @@ free d h before n ns e path fine f =
 pub not-taken : (d : ℕ) (h : Held) (before : List Saved) (n : List ℕ) (ns : Path) → IsFine d h before → IsFree d h n ns → new_refusal (at (content_of d h)) (n ∷ ns) ≡ None
 not-taken d h before n ns fine f =
     let c = content_of d h in
-    let placed = place-parent c fine.can.parents n ns f.leads in
+    let placed = place-parent c (places (content_of d h) (fine-content d h before fine)).parents n ns f.leads in
     let none : at c (n ∷ ns) ≡ None = rw (f.no_directory, f.parent_is, f.no_object) refl in
     rw (placed, none) refl
 
@@ -244,7 +242,7 @@ call-directory d h before (n ∷ ns) fine small e =
     let added : Directory = record { number = h.next_directory; path = path } in
     let after = fine-next d h before (SavedDirectory path) fine e in
     let more = count-push (λ (x : Directory). not (same_path x.path []) && same_path (parent x.path) (parent path)) h.directories added in
-    let own = same_path-own (parent path) in
+    let own = path-itself (parent path) in
     let room : length (subdirectories c (parent path)) < 256 = (let b = after.bound.branches (parent path) in let m = rw own at more in omega arith) in
     let few : length h.directories ≤ 65535 = (let b = after.can.directories in omega (arith, length-append h.directories (added ∷ []))) in
     restored-ok c (content_of d (with_directory h path)) (MakesDirectory path ∷ []) (mkdir_checks c path)
@@ -278,7 +276,7 @@ module _ (d next_object next_directory : ℕ) (olds : List Known) (o : Object) (
     object-there : (records : ℕ) (before : List SavedLine) → object_at (standing records before) (n ∷ ns) ≡ Some (known_with o before)
     object-there records before =
         rw parent_is (find-last (λ k. eqb k.object.directory o.directory && same k.object.name (last_name (n ∷ ns))) olds (known_with o before) no_object
-        (and_from _ _ (eq-eqb o.directory o.directory refl) (ap (same o.name) (sym named) ∙ same-own o.name)))
+        (and_from _ _ (eq-eqb o.directory o.directory refl) (ap (same o.name) (sym named) ∙ same-itself o.name)))
 
     found-there : (records : ℕ) (before : List SavedLine) → find_at (at (standing records before)) (n ∷ ns) ≡ Ok (FoundObject o.number)
     found-there records before =
@@ -410,7 +408,7 @@ call-object d h before n ns lines fine small e =
     let few_lines = e.2 in
     ap (λ r. r >>= (λ c. restore_lines c path lines)) (call-creation d h before n ns lines fine small e)
     ∙ call-lines d (h.next_object + 1) h.next_directory h.objects o h.directories n ns
-    (rising-below (λ k. k.object.number) 0 h.next_object h.objects fine.held.objects_rise) fine.can.parents f.leads
+    (rising-below (λ k. k.object.number) 0 h.next_object h.objects fine.held.objects_rise) (places (content_of d h) (fine-content d h before fine)).parents f.leads
     (f.parent_is ∙ ap Some (sym where_is)) f.no_directory (subst (λ m. find (λ k. eqb k.object.directory m && same k.object.name (last_name path)) h.objects ≡ None) (sym where_is) f.no_object) refl
     (omega arith) (omega arith) (h.records + 1) [] lines e.3 (omega arith) (omega arith)
 
@@ -428,7 +426,7 @@ object-line-decides d h before n ns lines l fine small e is fewer =
     let r = small.records in
     let k = fine.can.directories in
     line-decides d (h.next_object + 1) h.next_directory h.objects o h.directories n ns
-    (rising-below (λ k. k.object.number) 0 h.next_object h.objects fine.held.objects_rise) fine.can.parents f.leads
+    (rising-below (λ k. k.object.number) 0 h.next_object h.objects fine.held.objects_rise) (places (content_of d h) (fine-content d h before fine)).parents f.leads
     (f.parent_is ∙ ap Some (sym where_is)) f.no_directory (subst (λ m. find (λ k. eqb k.object.directory m && same k.object.name (last_name path)) h.objects ≡ None) (sym where_is) f.no_object) refl
     (omega arith) (omega arith) ((h.records + 1) + length lines) lines l is (omega arith) (omega arith)
 
@@ -446,7 +444,7 @@ call-entries d h before (e ∷ es) fine small all =
     ∙ call-entries d (restored_held d h e) (before ++ e ∷ []) es (fine-next d h before e fine all.0) (small-next d h before e small all.0) all.1
 
 -- what an image starts is what the calls leave, one for each directory, object and line, from the empty service
-pub calls-start : (i : Image) → IsImage i → restore_entries (shown (start 1 i.default_limit)) i.entries ≡ Ok (started_seen i)
+pub calls-start : (i : Image) → IsGood i → restore_entries (shown (start 1 i.default_limit)) i.entries ≡ Ok (started_seen i)
 calls-start i h =
     call-entries i.default_limit nothing [] i.entries (nothing-fine i.default_limit h.least h.most) (record { objects = refl; directories = refl; records = omega arith }) h.entries
     ∙ ap Ok (sym (started-held 65536 i h.entries).is)

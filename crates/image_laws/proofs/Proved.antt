@@ -3,27 +3,32 @@ use Rattle.std.proofs.Common.{◌≡◌, ℕ, ◌+◌, ◌≤◌, true, false, �
 use Rattle.std.specs.Prelude.{codes}
 use Rattle.std.specs.List.{flat_map, list_all}
 use Rattle.std.specs.Fmt.{decimal, digits}
-use Rattle.pps_types.specs.Machine.{shown}
-use Rattle.pps_types.specs.Image.{SavedLine, Saved, SavedDirectory, SavedObject, saved, text_line, print_saved, image_text, image, Image, started, First, Behind}
-use Rattle.pps_types.proofs.ImageStarts.{images-start}
-use Rattle.image_laws.specs.Images.{AreLines, IsEntry, AreEntries, IsImage}
-use Rattle.image_laws.specs.Laws.{is_newer, OnlyImagesAreRead, ReadImagesAreWell, TextsAreRead, StartsHoldTheEntries, SavedIsReadAgain, StartsAreWithinBounds, ReadersGoLineByLine, CallsStartIt, CallsDecide}
 use Rattle.std.specs.Result.{is_ok}
 use Rattle.std.specs.Ordering.{is_lt}
 use Rattle.pps_types.specs.Names.{path_cmp}
-use Rattle.pps_types.specs.Image.{path_of, as_line}
+use Rattle.pps_types.specs.Machine.{start, shown}
+use Rattle.pps_types.specs.Image.{SavedLine, Saved, SavedDirectory, SavedObject, saved, text_line, print_saved, image_text, image, Image, started, First, Behind, path_of, as_line}
 use Rattle.pps_types.specs.Restore.{restore_directory, restore_object, restore_line}
-use Rattle.image_laws.proofs.Agree.{agree-directory, agree-object, agree-line}
-use Rattle.image_laws.proofs.Calls.{calls-start}
+use Rattle.pps_types.proofs.WellSteps.{basis-in}
+use Rattle.pps_types.proofs.Law.{start-made}
+use Rattle.pps_types.proofs.ImageStarts.{images-start}
 use Rattle.content_bounds.specs.Bounds.{IsBound}
+use Rattle.content_bounds.proofs.Events.{bounds-stay}
+use Rattle.image_laws.specs.Images.{AreLines}
+use Rattle.image_laws.specs.Laws.{is_newer, OnlyImagesAreRead, ReadImagesArePrintable, TextsAreRead, StartsHoldTheEntries, SavedIsReadAgain, SavingStays, RunsAreReadAgain, StartsAreWithinBounds, ReadersGoLineByLine, CallsStartIt, CallsDecide}
 use Rattle.image_laws.specs.Savable.{CanBeSaved}
-use Rattle.image_laws.proofs.Saving.{image-read}
-use Rattle.image_laws.proofs.Restoring.{started-bound}
-use Rattle.image_laws.proofs.Lengths.{line-short, long-refused}
-use Rattle.image_laws.proofs.Streams.{read-on, line-refused, line-ended, behind-end}
+use Rattle.image_laws.proofs.Good.{IsEntry, AreEntries, IsGood, entry-of, texts-of, good, printable}
+use Rattle.image_laws.proofs.SavedEvents.{step-saved}
+use Rattle.image_laws.proofs.SavedRuns.{after-saved, read-later}
 use Rattle.image_laws.proofs.Printed.{image_text-read}
 use Rattle.image_laws.proofs.Only.{IsOlder, IsNewer, IsRead, read_image-only}
 use Rattle.image_laws.proofs.Started.{started-saves}
+use Rattle.image_laws.proofs.Saving.{image-read}
+use Rattle.image_laws.proofs.Restoring.{started-bound}
+use Rattle.image_laws.proofs.Streams.{read-on, line-refused, line-ended, behind-end}
+use Rattle.image_laws.proofs.Calls.{calls-start}
+use Rattle.image_laws.proofs.Agree.{agree-directory, agree-object, agree-line}
+use Rattle.image_laws.proofs.Lengths.{line-short, long-refused}
 
 -- ---- a longer text is allowed too
 
@@ -86,7 +91,7 @@ only-older bytes i h older =
 pub only-images : OnlyImagesAreRead
 only-images = record { newer = λ bytes i e. only-newer bytes i (read_image-only bytes i e); older = λ bytes i e. only-older bytes i (read_image-only bytes i e) }
 
-well : (bytes : List ℕ) (i : Image) → IsRead bytes i → IsImage i
+well : (bytes : List ℕ) (i : Image) → IsRead bytes i → IsGood i
 well bytes i h =
     ⊎_elim
     (λ v. record { least = omega (arith, v.2); most = omega (arith, v.2); entries = entries-longer h.longest 65536 [] i.entries (omega (arith, v.1)) h.entries })
@@ -100,30 +105,42 @@ well-older bytes i h older =
     (λ v. absurd (older (ap is_newer (cut bytes i h) ∙ newer-is h.head (rest_of i.entries) h.longest i.default_limit v)))
     h.version
 
-pub read-well : ReadImagesAreWell
-read-well = record { well = λ bytes i e. well bytes i (read_image-only bytes i e); older = λ bytes i e. well-older bytes i (read_image-only bytes i e) }
+pub read-printable : ReadImagesArePrintable
+read-printable = record {
+  newer = λ bytes i e. printable i (well bytes i (read_image-only bytes i e));
+  older = λ bytes i e old. texts-of 32768 [] i.entries (well-older bytes i (read_image-only bytes i e) old);
+}
 
 pub texts-read : TextsAreRead
-texts-read = image_text-read
+texts-read i is text = image_text-read i (good i is text)
 
 pub starts-hold : StartsHoldTheEntries
 starts-hold = record {
-  entries = λ i h. ap saved (images-start.stands i) ∙ (started-saves 65536 i h.entries).0;
-  limit = λ i h. ap (λ c. c.default_limit) (images-start.stands i) ∙ (started-saves 65536 i h.entries).1;
+  entries = λ i is text. ap saved (images-start.stands i) ∙ (started-saves 65536 i (good i is text).entries).0;
+  limit = λ i is text. ap (λ c. c.default_limit) (images-start.stands i) ∙ (started-saves 65536 i (good i is text).entries).1;
 }
 
 pub saved-again : SavedIsReadAgain
-saved-again = record {
-  reads = λ c w bound can. image-read c w.tree bound can;
-  begins = λ first d least most.
-      let h = (started-bound (record { default_limit = d; entries = [] }) (record { least = least; most = most; entries = tt })).1 in
-      record { least = h.least; most = h.most; apart = h.apart; parents = h.parents; homes = h.homes; paths = h.paths; object_paths = h.object_paths; attributes = h.attributes; directories = h.directories; objects = h.objects };
+saved-again = image-read
+
+pub saving-stays : SavingStays
+saving-stays = record {
+  begins = λ first d least most. record { least = least; most = most; paths = ((refl, omega arith), tt); object_paths = tt; attributes = tt; directories = omega arith; objects = omega arith };
+  images = λ i is text. subst CanBeSaved (sym (images-start.stands i)) (started-bound i (good i is text)).1;
+  stays = λ c well bound can e. step-saved c e (basis-in c well) bound can;
+  ends = λ c well bound can es. after-saved es c well bound can;
 }
 
 pub within-bounds : StartsAreWithinBounds
-within-bounds = record {
-  bound = λ bytes i e. subst IsBound (sym (images-start.stands i)) (started-bound i (well bytes i (read_image-only bytes i e))).0;
-  can = λ bytes i e. subst CanBeSaved (sym (images-start.stands i)) (started-bound i (well bytes i (read_image-only bytes i e))).1;
+within-bounds i is text = subst IsBound (sym (images-start.stands i)) (started-bound i (good i is text)).0
+
+pub runs-again : RunsAreReadAgain
+runs-again = record {
+  begins = λ first d ends least most. read-later (start first d) (record { made = start-made first d; bound = bounds-stay.begins first d ends; can = saving-stays.begins first d least most; keeps = refl });
+  images = λ bytes i e.
+      let is = images-start.read bytes i e in
+      let text = read-printable.newer bytes i e in
+      read-later (started i) (record { made = images-start.made i is; bound = within-bounds i is text; can = saving-stays.images i is text; keeps = refl });
 }
 
 pub line-by-line : ReadersGoLineByLine
@@ -136,12 +153,12 @@ line-by-line = record {
 }
 
 pub calls-start-it : CallsStartIt
-calls-start-it bytes i e = calls-start i (well bytes i (read_image-only bytes i e)) ∙ ap Ok (sym (images-start.stands i))
+calls-start-it i is text = calls-start i (good i is text) ∙ ap Ok (sym (images-start.stands i))
 
 pub calls-decide : CallsDecide
 calls-decide = record {
-  directory = λ i is path named some. agree-directory i is path named some ∙ ap (λ c. list_all (λ x. is_lt (path_cmp (path_of x) path)) i.entries && is_ok (restore_directory c path)) (sym (images-start.stands i));
-  object = λ i is path named some. agree-object i is path named some ∙ ap (λ c. list_all (λ x. is_lt (path_cmp (path_of x) path)) i.entries && is_ok (restore_object c path)) (sym (images-start.stands i));
-  line = λ i is path lines l e named few. agree-line i is path lines l e named few
+  directory = λ i is text path named some. agree-directory i (good i is text) path named some ∙ ap (λ c. list_all (λ x. is_lt (path_cmp (path_of x) path)) i.entries && is_ok (restore_directory c path)) (sym (images-start.stands i));
+  object = λ i is text path named some. agree-object i (good i is text) path named some ∙ ap (λ c. list_all (λ x. is_lt (path_cmp (path_of x) path)) i.entries && is_ok (restore_object c path)) (sym (images-start.stands i));
+  line = λ i is text path lines l follows has named few. agree-line i (good i is text) path lines l (entry-of 65536 i.entries (SavedObject path lines) follows has) named few
       ∙ ap (λ c. is_ok (restore_line c path (as_line l))) (sym (images-start.stands (record { default_limit = i.default_limit; entries = i.entries ++ SavedObject path lines ∷ [] })));
 }

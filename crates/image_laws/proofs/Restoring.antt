@@ -1,7 +1,7 @@
 -- What an image starts is within the bounds, and can be saved.
-use Rattle.std.proofs.Common.{◌≡◌, ℕ, suc, ◌+◌, ◌≤◌, ◌<◌, Bool, true, false, cond, not, ◌&&◌, ◌||◌, eqb, List, [], ◌∷◌, ◌++◌, length, map, Some, refl, sym, ap, subst, ◌∙◌, append_assoc, length-append, arith}
-use Rattle.std.specs.Prelude.{filter, find, is_some, unwrap_or, nat_le}
-use Rattle.std.specs.List.{list_all, list_any, AllByRecursion}
+use Rattle.std.proofs.Common.{◌≡◌, ℕ, suc, ◌+◌, ◌≤◌, ◌<◌, Bool, true, false, cond, not, ◌&&◌, eqb, List, [], ◌∷◌, ◌++◌, length, map, refl, sym, ap, subst, ◌∙◌, append_assoc, length-append, arith}
+use Rattle.std.specs.Prelude.{filter, unwrap_or, nat_le}
+use Rattle.std.specs.List.{list_all, AllByRecursion}
 use Rattle.std.specs.Ordering.{is_lt}
 use Rattle.std.proofs.lemmas.Bool.{and_parts, and_from, eqb-true}
 use Rattle.std.proofs.lemmas.Bool.Decides.{nat_tests}
@@ -12,19 +12,23 @@ use Rattle.pps_types.specs.Names.{Path, same_path, parent, last_name, path_cmp}
 use Rattle.pps_types.specs.OpenText.{is_path_name, are_names}
 use Rattle.pps_types.specs.History.{line_of}
 use Rattle.pps_types.specs.Content.{Object, Directory, Known, Content, subdirectories}
-use Rattle.pps_types.specs.Image.{SavedLine, Saved, SavedDirectory, SavedObject, path_of, as_line, saved_line, directory_path, is_kept, saved_object, saved, Image, same_sort, are_beside, restored_object, started_seen}
+use Rattle.pps_types.specs.WellFormed.{IsContent}
+use Rattle.pps_types.specs.Image.{SavedLine, Saved, SavedDirectory, SavedObject, path_of, as_line, saved_line, directory_path, is_kept, saved_object, saved, Image, same_sort, are_beside, may_follow, AreFollowing, IsImage, restored_object, restored_seen, started_seen}
+use Rattle.pps_types.proofs.Lists.{all-push, fold-push, append-nil}
+use Rattle.pps_types.proofs.Trees.{same_path-is, path-itself}
+use Rattle.pps_types.proofs.ImageStarts.{started-content}
 use Rattle.content_bounds.specs.Bounds.{IsBoundObject, crowd, IsBound}
-use Rattle.pps_types.proofs.Trees.{same_path-is}
-use Rattle.pps_types.proofs.Lists.{all-push, all-weaken}
-use Rattle.image_laws.specs.Images.{is_new, AreLines, IsSavedPath, IsEntry, AreEntries, IsImage}
-use Rattle.image_laws.specs.Savable.{AreApart, object_path, AreAttributes, CanBeSaved}
-use Rattle.image_laws.proofs.Entries.{append-nil, MayFollow, follow-parts}
-use Rattle.image_laws.proofs.Printed.{count-push}
+use Rattle.image_laws.specs.Images.{is_new, AreLines, IsSavedPath}
+use Rattle.image_laws.specs.Savable.{object_path, AreAttributes, AreSavable, CanBeSaved}
+use Rattle.image_laws.proofs.Good.{IsEntry, AreEntries, IsGood}
+use Rattle.image_laws.proofs.Places.{parent-push}
 use Rattle.image_laws.proofs.Paths.{names-of}
+use Rattle.image_laws.proofs.Entries.{MayFollow, follow-parts}
+use Rattle.image_laws.proofs.Printed.{count-push}
 use Rattle.image_laws.proofs.Sorting.{count-sorted}
+use Rattle.image_laws.proofs.Started.{Held, content_of, nothing, restored_attribute, known_with, with_directory, restored_held, IsHeld, restored-one, next, nothing-held, home-of, parent-there, path-stays, behind-all, directories_of, objects_of, map-push, parent-last, held_by}
 use Rattle.image_laws.proofs.Sorted.{lt-other}
-use Rattle.image_laws.proofs.Saving.{count-append, parent-push}
-use Rattle.image_laws.proofs.Started.{Held, content_of, nothing, restored_attribute, known_with, with_directory, restored_held, IsHeld, next, nothing-held, home-of, parent-there, path-stays, behind-all, directories_of, objects_of, map-push, parent-last, same_path-own, held_by, started-held}
+use Rattle.image_laws.proofs.Saving.{count-append, all-pass}
 
 -- ---- names and texts
 
@@ -90,17 +94,7 @@ more-objects c p t (o ∷ os) kept f = rw (kept.0) (by (t o) refl (p (saved_obje
     by true y true x f h = omega arith
     by true y false x f h = absurd (let e = sym x ∙ f y in cc)
 
--- ---- apart
-
--- one put in between
-apart-insert : (x : Path) (xs ys : List Path) → AreApart (xs ++ ys) → list_all (λ q. not (same_path q x)) xs ≡ true → list_all (λ q. not (same_path x q)) ys ≡ true → AreApart ((xs ++ x ∷ []) ++ ys)
-apart-insert x [] ys apart front back = (back, apart)
-apart-insert x (p ∷ xs) ys apart front back =
-    let parts = and_parts (not (same_path p x)) (list_all (λ q. not (same_path q x)) xs) front in
-    let both = and_parts (list_all (λ q. not (same_path p q)) xs) (list_all (λ q. not (same_path p q)) ys) (sym (list_all-append (λ q. not (same_path p q)) xs ys) ∙ apart.0) in
-    let more : list_all (λ q. not (same_path p q)) ((xs ++ x ∷ []) ++ ys) ≡ true =
-    list_all-append (λ q. not (same_path p q)) (xs ++ x ∷ []) ys ∙ and_from _ _ (list_all-append (λ q. not (same_path p q)) xs (x ∷ []) ∙ and_from _ _ both.0 (and_from _ _ parts.0 refl)) both.1 in
-    (more, apart-insert x xs ys apart.1 parts.1 back)
+-- ---- other paths
 
 -- what is less is another, either way
 record IsOther (p x : Path) : Type 0 where
@@ -112,7 +106,7 @@ other-sym p x h = record { front = by (same_path p x) refl; back = ap not h }
   where
     by : (t : Bool) → same_path p x ≡ t → not (same_path p x) ≡ true
     by false e = ap not e
-    by true e = absurd (let s = sym (same_path-own x) ∙ ap (same_path x) (sym (same_path-is p x e)) ∙ h in cc)
+    by true e = absurd (let s = sym (path-itself x) ∙ ap (same_path x) (sym (same_path-is p x e)) ∙ h in cc)
 
 other-less : (p x : Path) → is_lt (path_cmp p x) ≡ true → IsOther p x
 other-less p x lt = other-sym p x (lt-other p x lt)
@@ -152,24 +146,10 @@ pub record IsFine (d : ℕ) (h : Held) (before : List Saved) : Type 0 where
   pub saves : saved (content_of d h) ≡ before
   pub bound : IsBound (content_of d h)
   pub can : CanBeSaved (content_of d h)
+  pub follows : IsImage (record { default_limit = d; entries = before })
+  pub starts : started_seen (record { default_limit = d; entries = before }) ≡ content_of d h
   pub kept : AllByRecursion (λ o. is_kept o ≡ true) h.objects
   pub counted : length h.directories ≡ length (filter (λ d. not (is_empty d.path)) h.directories) + 1
-
-pub any-push : (p : Path) (ds : List Directory) (d : Directory) → list_any (λ x. same_path x.path p) ds ≡ true → list_any (λ x. same_path x.path p) (ds ++ d ∷ []) ≡ true
-any-push p [] d h = absurd cc
-any-push p (x ∷ ds) d h = by (same_path x.path p) h (any-push p ds d)
-  where
-    by : (t : Bool) → (t || list_any (λ x. same_path x.path p) ds) ≡ true → (list_any (λ x. same_path x.path p) ds ≡ true → list_any (λ x. same_path x.path p) (ds ++ d ∷ []) ≡ true) → (t || list_any (λ x. same_path x.path p) (ds ++ d ∷ [])) ≡ true
-    by true h rec = refl
-    by false h rec = rec h
-
-find-push : (n : ℕ) (ds : List Directory) (d : Directory) → is_some (find (λ x. eqb x.number n) ds) ≡ true → is_some (find (λ x. eqb x.number n) (ds ++ d ∷ [])) ≡ true
-find-push n [] d h = absurd cc
-find-push n (x ∷ ds) d h = by (eqb x.number n) h (find-push n ds d)
-  where
-    by : (t : Bool) → is_some (cond t (Some x) (find (λ x. eqb x.number n) ds)) ≡ true → (is_some (find (λ x. eqb x.number n) ds) ≡ true → is_some (find (λ x. eqb x.number n) (ds ++ d ∷ [])) ≡ true) → is_some (cond t (Some x) (find (λ x. eqb x.number n) (ds ++ d ∷ []))) ≡ true
-    by true h rec = refl
-    by false h rec = rec h
 
 -- all that is there comes before
 pub less-all : (c : Content) (before : List Saved) (e : Saved) → saved c ≡ before → MayFollow before e → (list_all (λ x. is_lt (path_cmp (path_of x) (path_of e))) (directories_of c.directories) ≡ true) × (list_all (λ x. is_lt (path_cmp (path_of x) (path_of e))) (objects_of c) ≡ true)
@@ -181,10 +161,6 @@ less-all c before e is follows =
 pub count-saved : (c : Content) (before : List Saved) (p : Saved → Bool) → saved c ≡ before → length (filter p before) ≡ length (filter p (directories_of c.directories)) + length (filter p (objects_of c))
 count-saved c before p is = ap (λ es. length (filter p es)) (sym is) ∙ count-sorted path_cmp path_of p (directories_of c.directories ++ objects_of c) ∙ count-append p (directories_of c.directories) (objects_of c)
 
-object-paths-stay : (d : ℕ) (h : Held) (path : Path) (os : List Known) → AllByRecursion (λ o. o.object.directory < h.next_directory) os → map (object_path (content_of d (with_directory h path))) os ≡ map (object_path (content_of d h)) os
-object-paths-stay d h path [] all = refl
-object-paths-stay d h path (o ∷ os) all = λ i. (path-stays d h path o.object.directory all.0 i ++ o.object.name ∷ []) ∷ object-paths-stay d h path os all.1 i
-
 paths-stay : (d : ℕ) (h : Held) (path : Path) (os : List Known) → AllByRecursion (λ o. o.object.directory < h.next_directory) os → AllByRecursion (λ o. IsSavedPath (object_path (content_of d h) o)) os → AllByRecursion (λ o. IsSavedPath (object_path (content_of d (with_directory h path)) o)) os
 paths-stay d h path [] all paths = tt
 paths-stay d h path (o ∷ os) all paths = (subst (λ p. IsSavedPath (p ++ o.object.name ∷ [])) (sym (path-stays d h path o.object.directory all.0)) paths.0, paths-stay d h path os all.1 paths.1)
@@ -192,6 +168,17 @@ paths-stay d h path (o ∷ os) all paths = (subst (λ p. IsSavedPath (p ++ o.obj
 not-root-is : (p : Path) → not (same_path p []) ≡ true → is_empty p ≡ false
 not-root-is [] h = absurd cc
 not-root-is (n ∷ p) h = refl
+
+following-push : (before es : List Saved) (e : Saved) → AreFollowing before es → may_follow (before ++ es) e ≡ true → AreFollowing before (es ++ e ∷ [])
+following-push before [] e all follows = (subst (λ xs. may_follow xs e ≡ true) (append-nil before) follows, tt)
+following-push before (x ∷ es) e all follows = (all.0, following-push (before ++ x ∷ []) es e all.1 (subst (λ xs. may_follow xs e ≡ true) (sym (append_assoc before (x ∷ []) es)) follows))
+
+starts-next : (d : ℕ) (h : Held) (before : List Saved) (e : Saved) → IsHeld h → started_seen (record { default_limit = d; entries = before }) ≡ content_of d h → IsEntry 65536 before e
+    → started_seen (record { default_limit = d; entries = before ++ e ∷ [] }) ≡ content_of d (restored_held d h e)
+starts-next d h before e held is entry = fold-push restored_seen (content_of d nothing) before e ∙ ap (λ c. restored_seen c e) is ∙ restored-one d 65536 h before e held entry
+
+pub fine-content : (d : ℕ) (h : Held) (before : List Saved) → IsFine d h before → IsContent (content_of d h)
+fine-content d h before fine = subst IsContent fine.starts (started-content (record { default_limit = d; entries = before }) fine.follows)
 
 fine-directory : (d : ℕ) (h : Held) (before : List Saved) (path : Path) → IsFine d h before → IsEntry 65536 before (SavedDirectory path) → IsFine d (with_directory h path) (before ++ SavedDirectory path ∷ [])
 fine-directory d h before path fine e =
@@ -202,8 +189,6 @@ fine-directory d h before path fine e =
     let step = next d 65536 h before entry fine.held fine.saves e in
     let bound = fine.bound in
     let can = fine.can in
-    let less = less-all c before entry fine.saves follows in
-    let objects = other-objects c path h.objects fine.kept less.1 in
     let is_some : is_empty path ≡ false = follows.some in
     let nonroot = count-push (λ (x : Directory). not (is_empty x.path)) h.directories added in
     let pushed : length (filter (λ (x : Directory). not (is_empty x.path)) (h.directories ++ added ∷ [])) ≡ length (filter (λ (x : Directory). not (is_empty x.path)) h.directories) + 1 = nonroot ∙ rw is_some refl in
@@ -227,20 +212,14 @@ fine-directory d h before path fine e =
       can = record {
         least = can.least;
         most = can.most;
-        apart =
-            subst (λ ps. AreApart (ps ++ map (object_path (content_of d (with_directory h path))) h.objects)) (sym (map-push (λ (x : Directory). x.path) h.directories added))
-            (subst (λ os. AreApart ((map (λ x. x.path) h.directories ++ path ∷ []) ++ os)) (sym (object-paths-stay d h path h.objects fine.held.homes))
-            (apart-insert path (map (λ x. x.path) h.directories) (map (object_path c) h.objects) can.apart (other-directories path h.directories is_some less.0) objects.1));
-        parents = all-push (λ x. list_any (λ y. same_path y.path (parent x.path)) (h.directories ++ added ∷ []) ≡ true) h.directories added
-            (all-weaken (λ x there. any-push (parent x.path) h.directories added there) h.directories can.parents)
-            (any-push (parent path) h.directories added (parent-there d h before entry fine.held fine.saves follows.parent));
-        homes = all-weaken (λ o there. find-push o.object.directory h.directories added there) h.objects can.homes;
         paths = all-push (λ x. IsSavedPath x.path) h.directories added can.paths e.0;
         object_paths = paths-stay d h path h.objects fine.held.homes can.object_paths;
         attributes = can.attributes;
         directories = omega arith;
         objects = can.objects;
       };
+      follows = following-push [] before entry fine.follows e.1;
+      starts = starts-next d h before entry fine.held fine.starts e;
       kept = fine.kept;
       counted = omega arith;
     }
@@ -278,15 +257,11 @@ fine-object d h before n ns lines fine e =
     let step = next d 65536 h before entry fine.held fine.saves e in
     let bound = fine.bound in
     let can = fine.can in
-    let less = less-all c before (SavedObject path []) fine.saves follows in
-    let objects = other-objects c path h.objects fine.kept less.1 in
     let home = home-of d h path fine.held (parent-there d h before (SavedObject path []) fine.held fine.saves follows.parent) in
     let o : Object = restored_object c path in
     let k = known_with o lines in
     let where_is : o.directory ≡ home.number = ap (λ n. unwrap_or n 0) home.is in
     let path_is : object_path c k ≡ path = (λ i. directory_path c (where_is i) ++ last_name path ∷ []) ∙ ap (λ p. p ++ last_name path ∷ []) home.path_is ∙ parent-last n ns in
-    let ds = map (λ (x : Directory). x.path) h.directories in
-    let os = map (object_path c) h.objects in
     let longer = length-append h.objects (k ∷ []) in
     let all_objects = more-objects c (same_sort (SavedObject path [])) (λ x. true) h.objects fine.kept (any-sort c path h.objects) in
     let all_pass = all-pass h.objects in
@@ -307,19 +282,14 @@ fine-object d h before n ns lines fine e =
       can = record {
         least = can.least;
         most = can.most;
-        apart =
-            subst (λ ps. AreApart (ds ++ ps)) (sym (map-push (object_path c) h.objects k ∙ ap (λ p. os ++ p ∷ []) path_is))
-            (subst AreApart (append-nil ((ds ++ os) ++ path ∷ []) ∙ append_assoc ds os (path ∷ []))
-            (apart-insert path (ds ++ os) [] (subst AreApart (sym (append-nil (ds ++ os))) can.apart)
-            (list_all-append (λ q. not (same_path q path)) ds os ∙ and_from _ _ (other-directories path h.directories refl less.0) objects.0) refl));
-        parents = can.parents;
-        homes = all-push (λ x. is_some (find (λ y. eqb y.number x.object.directory) h.directories) ≡ true) h.objects k can.homes (subst (λ n. is_some (find (λ y. eqb y.number n) h.directories) ≡ true) (sym where_is) home.there);
         paths = can.paths;
         object_paths = all-push (λ x. IsSavedPath (object_path c x)) h.objects k can.object_paths (subst IsSavedPath (sym path_is) e.0);
-        attributes = all-push (λ x. AreAttributes [] x.attributes × (length x.attributes ≤ 1024)) h.objects k can.attributes (attributes-are 65536 [] lines e.3, subst (λ m. m ≤ 1024) (sym (same-length lines)) e.2);
+        attributes = all-push (λ x. AreSavable x.attributes) h.objects k can.attributes (attributes-are 65536 [] lines e.3, subst (λ m. m ≤ 1024) (sym (same-length lines)) e.2);
         directories = can.directories;
         objects = omega arith;
       };
+      follows = following-push [] before entry fine.follows e.1;
+      starts = starts-next d h before entry fine.held fine.starts e;
       kept = all-push (λ x. is_kept x ≡ true) h.objects k fine.kept refl;
       counted = fine.counted;
     }
@@ -328,16 +298,12 @@ fine-object d h before n ns lines fine e =
     any-sort c path [] = tt
     any-sort c path (o ∷ os) = (λ t. refl, any-sort c path os)
 
-    all-pass : (os : List Known) → length (filter (λ o. true) os) ≡ length os
-    all-pass [] = refl
-    all-pass (o ∷ os) = ap suc (all-pass os)
-
     -- those in the directory are beside
     beside : (m : ℕ) → directory_path (content_of d h) m ≡ parent (n ∷ ns) → (os : List Known) → AllByRecursion (λ (o : Known). eqb o.object.directory m ≡ true → are_beside (SavedObject (n ∷ ns) []) (saved_object (content_of d h) o) ≡ true) os
     beside m is [] = tt
     beside m is (o ∷ os) = (
       λ here. let q : parent (object_path (content_of d h) o) ≡ parent (n ∷ ns) = parent-push (directory_path (content_of d h) o.object.directory) o.object.name ∙ ap (directory_path (content_of d h)) (eqb-true o.object.directory m here) ∙ is in
-          ap (λ p. same_path p (parent (n ∷ ns))) q ∙ same_path-own (parent (n ∷ ns)),
+          ap (λ p. same_path p (parent (n ∷ ns))) q ∙ path-itself (parent (n ∷ ns)),
       beside m is os,
     )
 
@@ -380,24 +346,22 @@ nothing-fine d least most = record {
   can = record {
     least = least;
     most = most;
-    apart = (refl, tt);
-    parents = (refl, tt);
-    homes = tt;
     paths = ((refl, omega arith), tt);
     object_paths = tt;
     attributes = tt;
     directories = omega arith;
     objects = omega arith;
   };
+  follows = tt;
+  starts = refl;
   kept = tt;
   counted = refl;
 }
 
-pub started-fine : (i : Image) → IsImage i → IsFine i.default_limit (held_by i.default_limit nothing i.entries) i.entries
+pub started-fine : (i : Image) → IsGood i → IsFine i.default_limit (held_by i.default_limit nothing i.entries) i.entries
 started-fine i h = all-fine i.default_limit nothing [] i.entries (nothing-fine i.default_limit h.least h.most) h.entries
 
-pub started-bound : (i : Image) → IsImage i → IsBound (started_seen i) × CanBeSaved (started_seen i)
+pub started-bound : (i : Image) → IsGood i → IsBound (started_seen i) × CanBeSaved (started_seen i)
 started-bound i h =
     let fine = started-fine i h in
-    let is = (started-held 65536 i h.entries).is in
-    (subst IsBound (sym is) fine.bound, subst CanBeSaved (sym is) fine.can)
+    (subst IsBound (sym fine.starts) fine.bound, subst CanBeSaved (sym fine.starts) fine.can)

@@ -2,22 +2,25 @@
 use Rattle.std.proofs.Common.{◌≡◌, ℕ, suc, ◌+◌, ◌≤◌, Bool, true, false, cond, not, ◌&&◌, ◌||◌, eqb, List, [], ◌∷◌, ◌++◌, length, map, Some, Ok, refl, sym, ap, subst, ◌∙◌, append_assoc, length-append, arith}
 use Rattle.std.specs.Prelude.{filter, find, is_some}
 use Rattle.std.specs.List.{list_all, list_any, AllByRecursion}
-use Rattle.std.proofs.lemmas.Bool.{and_parts, and_from, eqb-true, eq-eqb}
+use Rattle.std.proofs.lemmas.Bool.{and_parts, and_from, eq-eqb}
+use Rattle.std.proofs.lemmas.List.{map-append}
 use Rattle.pps_types.specs.Bytes.{same, is_empty}
 use Rattle.pps_types.specs.Text.{print_line, print_lines}
 use Rattle.pps_types.specs.Names.{Path, same_path, parent}
 use Rattle.pps_types.specs.History.{Attribute, line_of, persistent, text_length}
-use Rattle.pps_types.specs.Content.{Directory, Known, Content}
+use Rattle.pps_types.specs.Content.{Directory, Known, Content, directory_at}
+use Rattle.pps_types.specs.WellFormed.{IsContent}
 use Rattle.pps_types.specs.Image.{SavedLine, Saved, SavedDirectory, SavedObject, path_of, as_line, saved_line, directory_path, is_kept, saved_object, saved, image, is_directory_entry, same_sort, has_parent, are_beside, read_image}
-use Rattle.pps_types.specs.WellFormed.{AreTree}
+use Rattle.pps_types.proofs.Lists.{append-nil}
+use Rattle.pps_types.proofs.Finds.{is-some}
+use Rattle.pps_types.proofs.Trees.{same_path-is}
 use Rattle.content_bounds.specs.Bounds.{IsBoundObject, IsBound}
 use Rattle.content_bounds.proofs.Lists.{filter-push}
-use Rattle.pps_types.proofs.Trees.{same_path-is}
-use Rattle.image_laws.specs.Images.{is_new, AreLines, IsSavedPath, IsImage}
-use Rattle.image_laws.specs.Savable.{AreApart, object_path, AreAttributes, CanBeSaved}
-use Rattle.image_laws.proofs.Entries.{append-nil}
+use Rattle.image_laws.specs.Images.{is_new, AreLines, IsSavedPath}
+use Rattle.image_laws.specs.Savable.{object_path, AreAttributes, AreSavable, CanBeSaved}
+use Rattle.image_laws.proofs.Good.{IsGood}
+use Rattle.image_laws.proofs.Places.{any-found, parent-push, home, same-home, AreApart, ArePlaced, places}
 use Rattle.image_laws.proofs.Printed.{image_text-read}
-use Rattle.image_laws.proofs.Started.{same_path-own}
 use Rattle.image_laws.proofs.Sorted.{IsWell, sorted-entries}
 
 abbrev pub directories_of : List Directory → List Saved
@@ -143,24 +146,24 @@ not-root (d ∷ ds) =
     elim (not (is_empty d.path)) as (λ b. length (cond b (d ∷ filter (λ d. not (is_empty d.path)) ds) (filter (λ d. not (is_empty d.path)) ds)) ≤ length (d ∷ ds))
     [ true ↦ (let h = not-root ds in omega arith) | false ↦ (let h = not-root ds in omega arith) ]
 
--- one of them is the root
-pub with-root : (ds : List Directory) (root : Directory) → find (λ d. same_path d.path []) ds ≡ Some root → length (filter (λ d. not (is_empty d.path)) ds) + 1 ≤ length ds
-with-root [] root e = absurd (let h = e in cc)
-with-root (d ∷ ds) root e = by d.path e (with-root ds root)
+-- the root is not among them
+with-root : (ds : List Directory) (r : Directory) → find (λ d. same_path d.path []) ds ≡ Some r → length (filter (λ d. not (is_empty d.path)) ds) + 1 ≤ length ds
+with-root [] r h = absurd cc
+with-root (d ∷ ds) r h = by d.path refl h (not-root ds) (with-root ds r)
   where
-    by : (p : Path) → cond (same_path p []) (Some d) (find (λ d. same_path d.path []) ds) ≡ Some root → (find (λ d. same_path d.path []) ds ≡ Some root → length (filter (λ d. not (is_empty d.path)) ds) + 1 ≤ length ds)
-        → length (cond (not (is_empty p)) (d ∷ filter (λ d. not (is_empty d.path)) ds) (filter (λ d. not (is_empty d.path)) ds)) + 1 ≤ length (d ∷ ds)
-    by [] e rest = let n = not-root ds in omega arith
-    by (m ∷ p) e rest = let n = rest e in omega arith
+    by : (p : Path) → d.path ≡ p → cond (same_path p []) (Some d) (find (λ d. same_path d.path []) ds) ≡ Some r → length (filter (λ d. not (is_empty d.path)) ds) ≤ length ds
+        → (find (λ d. same_path d.path []) ds ≡ Some r → length (filter (λ d. not (is_empty d.path)) ds) + 1 ≤ length ds) → length (filter (λ d. not (is_empty d.path)) (d ∷ ds)) + 1 ≤ length (d ∷ ds)
+    by [] is h most rec = rw is (omega arith)
+    by (n ∷ p) is h most rec = let m = rec h in rw is (omega arith)
 
 pub root-is : (p : Path) → is_empty p ≡ false → not (same_path p []) ≡ true
 root-is [] e = absurd cc
 root-is (n ∷ p) e = refl
 
-abbrev pub all_entries : Content → List Saved
+abbrev all_entries : Content → List Saved
 all_entries c = directories_of c.directories ++ objects_of c c.objects
 
-module _ (c : Content) (tree : AreTree c) (bound : IsBound c) (can : CanBeSaved c) where
+module _ (c : Content) (content : IsContent c) (bound : IsBound c) (can : CanBeSaved c) where
   directory-well : (d : Directory) → is_empty d.path ≡ false → IsSavedPath d.path → list_any (λ x. same_path x.path (parent d.path)) c.directories ≡ true → IsWell (all_entries c) (SavedDirectory d.path)
   directory-well d some path parents = record {
     path_is = path;
@@ -178,7 +181,7 @@ module _ (c : Content) (tree : AreTree c) (bound : IsBound c) (can : CanBeSaved 
         let a = count-append sort (directories_of c.directories) (objects_of c c.objects) in
         let b = ap length (none-objects sort c (λ path lines. refl) (filter is_kept c.objects)) in
         let e = count-directories sort (λ x. not (is_empty x.path)) (λ x h some. ap not some) c.directories in
-        let f = with-root c.directories (record { number = 0; path = [] }) tree.root in
+        let f = with-root c.directories (record { number = 0; path = [] }) content.tree.root in
         let g = can.directories in
         omega arith;
     few = omega arith;
@@ -227,10 +230,6 @@ persistent-shorter (a ∷ attributes) = by a.n refl (persistent-shorter attribut
     by false is h =
         rw is (omega (arith, length-append (print_line (as_line (saved_line a))) (print_lines (map line_of attributes)), length-append (print_line (as_line (saved_line a))) (print_lines (map as_line (map saved_line (persistent attributes)))), h))
 
-map-append : (xs ys : List Attribute) → map saved_line (xs ++ ys) ≡ map saved_line xs ++ map saved_line ys
-map-append [] ys = refl
-map-append (x ∷ xs) ys = ap (λ rest. saved_line x ∷ rest) (map-append xs ys)
-
 lines-well : (before attributes : List Attribute) → AreAttributes before attributes
     → length (print_lines (map as_line (map saved_line (persistent before) ++ map saved_line (persistent attributes)))) ≤ 65536 → AreLines 65536 (map saved_line (persistent before)) (map saved_line (persistent attributes))
 lines-well before [] h fits = tt
@@ -245,7 +244,7 @@ lines-well before (a ∷ attributes) h fits = by a.n (persistent-push before a) 
         subst (λ b. AreLines 65536 (map saved_line b) (map saved_line (persistent attributes))) same
         (rec (subst (λ b. length (print_lines (map as_line (map saved_line b ++ map saved_line (persistent attributes)))) ≤ 65536) (sym same) fits))
     by false e fits rec =
-        let one : map saved_line (persistent (before ++ a ∷ [])) ≡ map saved_line (persistent before) ++ saved_line a ∷ [] = ap (map saved_line) e ∙ map-append (persistent before) (a ∷ []) in
+        let one : map saved_line (persistent (before ++ a ∷ [])) ≡ map saved_line (persistent before) ++ saved_line a ∷ [] = ap (map saved_line) e ∙ map-append saved_line (persistent before) (a ∷ []) in
         let all = append_assoc (map saved_line (persistent before)) (saved_line a ∷ []) (map saved_line (persistent attributes)) in
         let more : length (print_lines (map as_line ((map saved_line (persistent before) ++ saved_line a ∷ []) ++ map saved_line (persistent attributes)))) ≤ 65536 = subst (λ ls. length (print_lines (map as_line ls)) ≤ 65536) (sym all) fits in (
           h.0,
@@ -262,106 +261,38 @@ fewer-persistent (a ∷ attributes) =
 
 -- ---- objects
 
-pub parent-push : (p : Path) (n : List ℕ) → parent (p ++ n ∷ []) ≡ p
-parent-push [] n = refl
-parent-push (m ∷ []) n = refl
-parent-push (m ∷ k ∷ p) n = ap (λ rest. m ∷ rest) (parent-push (k ∷ p) n)
-
 push-some : (p : Path) (n : List ℕ) → is_empty (p ++ n ∷ []) ≡ false
 push-some [] n = refl
 push-some (m ∷ p) n = refl
 
--- a directory of that number, and its path
-record IsThere (c : Content) (ds : List Directory) (number : ℕ) : Type 0 where
-  pub one : Directory
-  pub found : find (λ d. eqb d.number number) ds ≡ Some one
-  pub rest : List Directory
-  pub filtered : filter (λ d. eqb d.number number) ds ≡ one ∷ rest
-  pub among : list_any (λ x. same_path x.path one.path) ds ≡ true
-
-there : (c : Content) (number : ℕ) (ds : List Directory) → is_some (find (λ d. eqb d.number number) ds) ≡ true → IsThere c ds number
-there c number [] h = absurd cc
-there c number (d ∷ ds) h = by (eqb d.number number) refl h (there c number ds)
-  where
-    by : (t : Bool) → eqb d.number number ≡ t → is_some (cond t (Some d) (find (λ d. eqb d.number number) ds)) ≡ true → (is_some (find (λ d. eqb d.number number) ds) ≡ true → IsThere c ds number) → IsThere c (d ∷ ds) number
-    by true is h rec = record { one = d; found = rw is refl; rest = filter (λ d. eqb d.number number) ds; filtered = rw is refl; among = rw (same_path-own d.path) refl }
-    by false is h rec =
-        let r = rec h in
-        record { one = r.one; found = rw is r.found; rest = r.rest; filtered = rw is r.filtered; among = later (list_any (λ x. same_path x.path r.one.path) ds) (same_path d.path r.one.path) r.among }
-      where
-        later : (a t : Bool) → a ≡ true → (t || a) ≡ true
-        later a true h = refl
-        later a false h = h
-
--- two directories of one path have one number
-found-in : (ds : List Directory) (n : ℕ) (d : Directory) (p : Path → Bool) → find (λ x. eqb x.number n) ds ≡ Some d → list_all p (map (λ x. x.path) ds) ≡ true → p d.path ≡ true
-found-in [] n d p e all = absurd cc
-found-in (x ∷ ds) n d p e all =
-    let parts = and_parts (p x.path) (list_all p (map (λ x. x.path) ds)) all in
-    by (eqb x.number n) e (λ h. found-in ds n d p h parts.1) parts.0
-  where
-    by : (t : Bool) → cond t (Some x) (find (λ x. eqb x.number n) ds) ≡ Some d → (find (λ x. eqb x.number n) ds ≡ Some d → p d.path ≡ true) → p x.path ≡ true → p d.path ≡ true
-    by true e rec h = let is : x ≡ d = cc in subst (λ d. p d.path ≡ true) is h
-    by false e rec h = rec e
-
-not-same : (p q : Path) → p ≡ q → not (same_path p q) ≡ true → ⊥
-not-same p q e h = let s = sym h ∙ ap (λ q. not (same_path p q)) (sym e) ∙ ap not (same_path-own p) in cc
-
-one-number : (ds : List Directory) (n m : ℕ) (d e : Directory) → AreApart (map (λ x. x.path) ds) → find (λ x. eqb x.number n) ds ≡ Some d → find (λ x. eqb x.number m) ds ≡ Some e → d.path ≡ e.path → n ≡ m
-one-number [] n m d e apart f g same = absurd cc
-one-number (x ∷ ds) n m d e apart f g same = by (eqb x.number n) (eqb x.number m) refl refl f g (λ f g. one-number ds n m d e apart.1 f g same)
-  where
-    by : (s t : Bool) → eqb x.number n ≡ s → eqb x.number m ≡ t → cond s (Some x) (find (λ x. eqb x.number n) ds) ≡ Some d → cond t (Some x) (find (λ x. eqb x.number m) ds) ≡ Some e
-        → (find (λ x. eqb x.number n) ds ≡ Some d → find (λ x. eqb x.number m) ds ≡ Some e → n ≡ m) → n ≡ m
-    by true true a b f g rec = sym (eqb-true x.number n a) ∙ eqb-true x.number m b
-    by true false a b f g rec = let is : x ≡ d = cc in absurd (not-same x.path e.path (ap (λ x. x.path) is ∙ same) (found-in ds m e (λ q. not (same_path x.path q)) g apart.0))
-    by false true a b f g rec = let is : x ≡ e = cc in absurd (not-same x.path d.path (ap (λ x. x.path) is ∙ sym same) (found-in ds n d (λ q. not (same_path x.path q)) f apart.0))
-    by false false a b f g rec = rec f g
-
-apart-front : (ds : List Directory) (ps : List Path) → AreApart (map (λ x. x.path) ds ++ ps) → AreApart (map (λ x. x.path) ds)
-apart-front [] ps h = tt
-apart-front (d ∷ ds) ps h = (front (λ q. not (same_path d.path q)) ds h.0, apart-front ds ps h.1)
-  where
-    front : (p : Path → Bool) (ds : List Directory) → list_all p (map (λ x. x.path) ds ++ ps) ≡ true → list_all p (map (λ x. x.path) ds) ≡ true
-    front p [] h = refl
-    front p (d ∷ ds) h = let parts = and_parts (p d.path) (list_all p (map (λ x. x.path) ds ++ ps)) h in and_from _ _ parts.0 (front p ds parts.1)
-
-module _ (c : Content) (bound : IsBound c) (can : CanBeSaved c) where
-  home : (n : ℕ) → is_some (find (λ d. eqb d.number n) c.directories) ≡ true → IsThere c c.directories n
-  home n h = there c n c.directories h
-
-  home-path : (n : ℕ) (t : IsThere c c.directories n) → directory_path c n ≡ t.one.path
-  home-path n t = rw (t.filtered) refl
-
-  same-home : (n m : ℕ) → is_some (find (λ d. eqb d.number n) c.directories) ≡ true → is_some (find (λ d. eqb d.number m) c.directories) ≡ true → directory_path c n ≡ directory_path c m → n ≡ m
-  same-home n m a b e =
-      let x = home n a in
-      let y = home m b in
-      one-number c.directories n m x.one y.one (apart-front c.directories (map (object_path c) c.objects) can.apart) x.found y.found (sym (home-path n x) ∙ e ∙ home-path m y)
-
+module _ (c : Content) (w : IsContent c) where
   -- those beside an object lie in its directory
   pub beside-home : (o : Known) → is_some (find (λ d. eqb d.number o.object.directory) c.directories) ≡ true → (os : List Known) → AllByRecursion (λ o. is_some (find (λ d. eqb d.number o.object.directory) c.directories) ≡ true) os
       → AllByRecursion (λ k. are_beside (saved_object c o) (saved_object c k) ≡ true → eqb k.object.directory o.object.directory ≡ true) os
   beside-home o h [] all = tt
   beside-home o h (k ∷ os) all = (
-    (λ b. eq-eqb k.object.directory o.object.directory (same-home k.object.directory o.object.directory all.0 h
+    (λ b. eq-eqb k.object.directory o.object.directory (same-home c w k.object.directory o.object.directory all.0 h
         (sym (parent-push (directory_path c k.object.directory) k.object.name) ∙ same_path-is (parent (object_path c k)) (parent (object_path c o)) b ∙ parent-push (directory_path c o.object.directory) o.object.name))),
     beside-home o h os all.1,
   )
 
-  object-well : (o : Known) → IsBoundObject o → is_some (find (λ d. eqb d.number o.object.directory) c.directories) ≡ true → IsSavedPath (object_path c o) → (AreAttributes [] o.attributes × (length o.attributes ≤ 1024)) → IsWell (all_entries c) (saved_object c o)
+module _ (c : Content) (content : IsContent c) (bound : IsBound c) (can : CanBeSaved c) where
+  placed : ArePlaced c
+  placed = places c content
+
+  object-well : (o : Known) → IsBoundObject o → is_some (find (λ d. eqb d.number o.object.directory) c.directories) ≡ true → IsSavedPath (object_path c o) → AreSavable o.attributes → IsWell (all_entries c) (saved_object c o)
   object-well o sized h path attributes = record {
     path_is = path;
     some = push-some (directory_path c o.object.directory) o.object.name;
     parent_is =
-        let t = home o.object.directory h in
-        let is : t.one.path ≡ parent (object_path c o) = sym (home-path o.object.directory t) ∙ sym (parent-push (directory_path c o.object.directory) o.object.name) in
-        parent-among c (saved_object c o) (subst (λ p. list_any (λ x. same_path x.path p) c.directories ≡ true) is t.among);
+        let d = home c content o.object.directory h in
+        let is : d.0.path ≡ parent (object_path c o) = sym d.3 ∙ sym (parent-push (directory_path c o.object.directory) o.object.name) in
+        parent-among c (saved_object c o) (subst (λ p. list_any (λ x. same_path x.path p) c.directories ≡ true) is (any-found (λ (x : Directory). same_path x.path d.0.path) c.directories (is-some (directory_at c d.0.path) d.0 d.2)));
     beside =
         let beside = are_beside (saved_object c o) in
         let a = count-append beside (directories_of c.directories) (objects_of c c.objects) in
         let b = ap length (none-directories beside (λ path. refl) (filter (λ d. not (is_empty d.path)) c.directories)) in
-        let e = count-objects c beside (λ k. eqb k.object.directory o.object.directory) c.objects (beside-home o h c.objects can.homes) in
+        let e = count-objects c beside (λ k. eqb k.object.directory o.object.directory) c.objects (beside-home c content o h c.objects content.tree.places) in
         let f = bound.crowds o.object.directory in
         omega arith;
     all =
@@ -377,19 +308,18 @@ module _ (c : Content) (bound : IsBound c) (can : CanBeSaved c) where
   }
 
   objects-well : (os : List Known) → AllByRecursion IsBoundObject os → AllByRecursion (λ o. is_some (find (λ d. eqb d.number o.object.directory) c.directories) ≡ true) os → AllByRecursion (λ o. IsSavedPath (object_path c o)) os
-      → AllByRecursion (λ o. AreAttributes [] o.attributes × (length o.attributes ≤ 1024)) os → AllByRecursion (IsWell (all_entries c)) (objects_of c os)
+      → AllByRecursion (λ o. AreSavable o.attributes) os → AllByRecursion (IsWell (all_entries c)) (objects_of c os)
   objects-well [] sized homes paths attributes = tt
   objects-well (o ∷ os) sized homes paths attributes =
       elim (is_kept o) as (λ b. AllByRecursion (IsWell (all_entries c)) (map (saved_object c) (cond b (o ∷ filter is_kept os) (filter is_kept os))))
       [ true ↦ (object-well o sized.0 homes.0 paths.0 attributes.0, objects-well os sized.1 homes.1 paths.1 attributes.1) | false ↦ objects-well os sized.1 homes.1 paths.1 attributes.1 ]
 
-module _ (c : Content) (tree : AreTree c) (bound : IsBound c) (can : CanBeSaved c) where
-  pub saved-well : IsImage (record { default_limit = c.default_limit; entries = saved c })
+  pub saved-well : IsGood (record { default_limit = c.default_limit; entries = saved c })
   saved-well = record {
     least = can.least;
     most = can.most;
-    entries = sorted-entries (all_entries c) (apart-entries c c.directories c.objects can.apart)
-        (directories-well c tree bound can c.directories can.paths can.parents (objects_of c c.objects) (objects-well c bound can c.objects bound.objects can.homes can.object_paths can.attributes));
+    entries = sorted-entries (all_entries c) (apart-entries c c.directories c.objects placed.apart)
+        (directories-well c content bound can c.directories can.paths placed.parents (objects_of c c.objects) (objects-well c.objects bound.objects content.tree.places can.object_paths can.attributes));
   }
 
   -- what is saved is read again

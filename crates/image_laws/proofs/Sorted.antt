@@ -12,12 +12,12 @@ use Rattle.std.proofs.lemmas.Cmp.{nat_list_cmp_total}
 use Rattle.std.proofs.lemmas.List.Folds.{list_all-append}
 use Rattle.pps_types.specs.Bytes.{is_empty}
 use Rattle.pps_types.specs.Names.{Name, Path, same_path, parent, name_cmp, path_cmp, insert_by, sorted_by}
-use Rattle.pps_types.specs.Image.{Saved, SavedDirectory, SavedObject, path_of, is_directory_entry, same_sort, has_parent, are_beside, may_follow}
-use Rattle.pps_types.proofs.Trees.{same_path-is}
-use Rattle.image_laws.specs.Images.{AreLines, IsSavedPath, IsEntry, AreEntries}
-use Rattle.image_laws.specs.Savable.{AreApart}
+use Rattle.pps_types.specs.Image.{Saved, SavedDirectory, SavedObject, path_of, is_directory_entry, same_sort, has_parent, are_beside, may_follow, SavedLine}
+use Rattle.pps_types.proofs.Trees.{same_path-is, path-itself}
+use Rattle.image_laws.specs.Images.{AreLines, IsSavedPath}
+use Rattle.image_laws.proofs.Good.{IsEntry, AreEntries}
+use Rattle.image_laws.proofs.Places.{AreApart}
 use Rattle.image_laws.proofs.Sorting.{paths_total, all-sorted, any-sorted, count-sorted}
-use Rattle.image_laws.proofs.Started.{same_path-own}
 
 -- ---- the order of paths
 
@@ -55,7 +55,7 @@ otherwise p q lt other = ap is_lt (paths_total.antisymm q p) ∙ by (path_cmp p 
   where
     by : (o : Ordering) → path_cmp p q ≡ o → is_lt o ≡ false → is_lt (ordering_reverse o) ≡ true
     by Less e h = absurd cc
-    by Equal e h = absurd (let is : p ≡ q = paths_exact p q e in let s = sym (same_path-own p) ∙ ap (same_path p) is ∙ other in cc)
+    by Equal e h = absurd (let is : p ≡ q = paths_exact p q e in let s = sym (path-itself p) ∙ ap (same_path p) is ∙ other in cc)
     by Greater e h = refl
 
 lt-trans : (p q r : Path) → is_lt (path_cmp p q) ≡ true → is_lt (path_cmp q r) ≡ true → is_lt (path_cmp p r) ≡ true
@@ -135,7 +135,7 @@ all-of-sorted P (e ∷ es) all = all-insert P e (sorted es) all.0 (all-of-sorted
 
 -- ---- entries that are well among all
 
-abbrev pub lines_of : Saved → List Rattle.pps_types.specs.Image.SavedLine
+abbrev pub lines_of : Saved → List SavedLine
 lines_of (SavedDirectory path) = []
 lines_of (SavedObject path lines) = lines
 
@@ -227,10 +227,10 @@ follows-front xs front es e n ns path is r own-beside own-sort has beside all =
 entry-well : (xs front es : List Saved) (e : Saved) → sorted xs ≡ front ++ e ∷ es → AreRising (front ++ e ∷ es) → IsWell xs e → IsEntry 65536 front e
 entry-well xs front es (SavedDirectory []) is r w = absurd (let h = w.some in cc)
 entry-well xs front es (SavedDirectory (n ∷ ns)) is r w =
-    (w.path_is, follows-front xs front es (SavedDirectory (n ∷ ns)) n ns refl is r (same_path-own (parent (n ∷ ns))) refl w.parent_is w.beside w.all)
+    (w.path_is, follows-front xs front es (SavedDirectory (n ∷ ns)) n ns refl is r (path-itself (parent (n ∷ ns))) refl w.parent_is w.beside w.all)
 entry-well xs front es (SavedObject [] lines) is r w = absurd (let h = w.some in cc)
 entry-well xs front es (SavedObject (n ∷ ns) lines) is r w =
-    (w.path_is, follows-front xs front es (SavedObject (n ∷ ns) lines) n ns refl is r (same_path-own (parent (n ∷ ns))) refl w.parent_is w.beside w.all, w.few, w.lines_are)
+    (w.path_is, follows-front xs front es (SavedObject (n ∷ ns) lines) n ns refl is r (path-itself (parent (n ∷ ns))) refl w.parent_is w.beside w.all, w.few, w.lines_are)
 
 entries-well : (xs front es : List Saved) → sorted xs ≡ front ++ es → AreRising (front ++ es) → AllByRecursion (IsWell xs) es → AreEntries 65536 front es
 entries-well xs front [] is r all = tt

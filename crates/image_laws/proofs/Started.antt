@@ -3,24 +3,25 @@ use Rattle.std.proofs.Common.{◌≡◌, ℕ, ◌+◌, ◌≤◌, ◌<◌, Bool,
 use Rattle.std.specs.Prelude.{fold, filter, find, is_some, unwrap_or}
 use Rattle.std.specs.List.{list_all, list_any, filter_map, cons_option, AllByRecursion}
 use Rattle.std.specs.Ordering.{is_lt}
-use Rattle.std.proofs.lemmas.Bool.{and_from, eq-eqb, ne_eqb}
+use Rattle.std.proofs.lemmas.Bool.{eq-eqb, ne_eqb}
 use Rattle.pps_types.specs.declared.record.Kind.TheVariants.{Change}
 use Rattle.pps_types.specs.Bytes.{same, is_empty}
 use Rattle.pps_types.specs.Names.{Path, same_path, parent, last_name, path_cmp, sorted_by}
 use Rattle.pps_types.specs.History.{Attribute, Entry, put, persistent}
 use Rattle.pps_types.specs.Content.{Object, Directory, Known, Content, parent_number}
+use Rattle.pps_types.specs.WellFormed.{AreRising}
 use Rattle.pps_types.specs.Plan.{Move, Happens, entry_of, touched, apply_all_seen}
 use Rattle.pps_types.specs.Machine.{start, shown}
 use Rattle.pps_types.specs.Image.{SavedLine, Saved, SavedDirectory, SavedObject, path_of, as_line, saved_line, directory_path, is_kept, saved_object, saved, Image, is_directory_entry, has_parent, restored_object, restored_seen, started_seen}
-use Rattle.pps_types.specs.WellFormed.{AreRising}
-use Rattle.pps_types.proofs.Rising.{rising-push, rising-below}
+use Rattle.pps_types.proofs.Lists.{all-push, all-weaken, append-nil}
 use Rattle.pps_types.proofs.Finds.{all-find}
+use Rattle.pps_types.proofs.Rising.{rising-push, rising-below}
 use Rattle.pps_types.proofs.Trees.{same_path-is}
 use Rattle.content_bounds.proofs.Lists.{filter-push}
-use Rattle.pps_types.proofs.Lists.{all-push, all-weaken}
-use Rattle.image_laws.specs.Images.{is_new, AreLines, IsEntry, AreEntries}
-use Rattle.image_laws.proofs.Numbers.{same-sym, same-own}
-use Rattle.image_laws.proofs.Entries.{append-nil, MayFollow, follow-parts}
+use Rattle.image_laws.specs.Images.{is_new, AreLines}
+use Rattle.image_laws.proofs.Good.{IsEntry, AreEntries}
+use Rattle.image_laws.proofs.Numbers.{same-sym}
+use Rattle.image_laws.proofs.Entries.{MayFollow, follow-parts}
 use Rattle.image_laws.proofs.Sorting.{paths_total, all-sorted, any-sorted, sorted-last}
 
 -- ---- what stands while an image is restored: no handle and no connection
@@ -198,10 +199,6 @@ home-of d h path held any =
         by false is e rec = rec e
 
 -- ---- the parent is there
-
-pub same_path-own : (p : Path) → same_path p p ≡ true
-same_path-own [] = refl
-same_path-own (n ∷ p) = and_from _ _ (same-own n) (same_path-own p)
 
 -- of the entries that are saved only directories are directories
 pub any-directory : (c : Content) (path : Path) → list_any (λ x. is_directory_entry x && same_path (path_of x) path) (saved c) ≡ true → list_any (λ x. same_path x.path path) c.directories ≡ true

@@ -1,21 +1,22 @@
 -- The laws that tie what is saved and what is read.
-use Rattle.std.specs.Prelude.{◌≡◌, ◌≤◌, ℕ, List, [], ◌∷◌, ◌++◌, Bool, true, Some, None, is_some, Ok, Err, ◌+◌, codes, length}
-use Rattle.std.specs.List.{list_all}
-use Rattle.pps_types.specs.Bytes.{after_prefix, is_empty, pieces}
-use Rattle.pps_types.specs.Content.{Content}
-use Rattle.std.specs.Prelude.{◌<◌, false, nat_le, map, ◌&&◌}
-use Rattle.std.specs.Result.{is_ok}
+use Rattle.std.specs.Prelude.{◌≡◌, ◌≤◌, ◌<◌, ℕ, ◌+◌, List, [], ◌∷◌, ◌++◌, Bool, true, false, ◌&&◌, nat_le, Some, None, is_some, Ok, Err, map, length, codes}
+use Rattle.std.specs.List.{list_all, AllByRecursion}
 use Rattle.std.specs.Ordering.{is_lt}
-use Rattle.pps_types.specs.Names.{Path, path_cmp}
+use Rattle.std.specs.Result.{is_ok}
+use Rattle.pps_types.specs.declared.event.Event.{Event}
+use Rattle.pps_types.specs.Bytes.{after_prefix, is_empty, pieces}
 use Rattle.pps_types.specs.Text.{print_lines}
-use Rattle.pps_types.specs.Image.{SavedLine, SavedDirectory, SavedObject, path_of, as_line, may_follow}
-use Rattle.pps_types.specs.Image.{Image, saved, text_line, image_text, image, read_image, started, Position, First, Behind, line_read, read_lines, at_end}
-use Rattle.pps_types.specs.Machine.{start, shown}
+use Rattle.pps_types.specs.Names.{Path, path_cmp}
+use Rattle.pps_types.specs.Content.{Content}
 use Rattle.pps_types.specs.WellFormed.{IsContent}
-use Rattle.content_bounds.specs.Bounds.{IsBound}
-use Rattle.image_laws.specs.Images.{is_new, is_saved_line, IsSavedPath, IsEntry, is_plain, are_plain, joined, read_all, AreEntries, IsImage}
-use Rattle.image_laws.specs.Savable.{CanBeSaved}
+use Rattle.pps_types.specs.Plan.{step_seen}
+use Rattle.pps_types.specs.Machine.{Machine, start, shown}
+use Rattle.pps_types.specs.Runs.{Answered, after, after_seen, end_of}
+use Rattle.pps_types.specs.Image.{SavedLine, SavedDirectory, SavedObject, path_of, as_line, saved, text_line, image_text, image, Image, Position, First, Behind, may_follow, line_read, at_end, read_lines, read_image, IsImage, started}
 use Rattle.pps_types.specs.Restore.{restore_directory, restore_object, restore_line, restore_entries}
+use Rattle.content_bounds.specs.Bounds.{IsBound}
+use Rattle.image_laws.specs.Images.{is_plain, are_plain, joined, read_all, is_saved_line, is_new, IsSavedPath, HasText, IsPrintable}
+use Rattle.image_laws.specs.Savable.{CanBeSaved}
 
 -- the first line is that of version 2
 abbrev pub is_newer : List ℕ → Bool
@@ -28,29 +29,48 @@ pub record OnlyImagesAreRead : Type 0 where
   pub older : (bytes : List ℕ) (i : Image) → read_image bytes ≡ Ok i → (is_newer bytes ≡ true → ⊥)
       → (i.default_limit ≡ 256) × (rest : List ℕ) × (bytes ≡ text_line (codes "PPSIMAGE 1") ++ rest) × (image (shown (started i)) ≡ text_line (codes "PPSIMAGE 2 256") ++ rest)
 
--- What is read are entries that may follow one another; of version 1 their objects have at most 32,768 bytes of text.
-pub record ReadImagesAreWell : Type 0 where
-  pub well : (bytes : List ℕ) (i : Image) → read_image bytes ≡ Ok i → IsImage i
-  pub older : (bytes : List ℕ) (i : Image) → read_image bytes ≡ Ok i → (is_newer bytes ≡ true → ⊥) → AreEntries 32768 [] i.entries
+-- What is read has a text; the objects of version 1 have one of at most 32,768 bytes.
+pub record ReadImagesArePrintable : Type 0 where
+  pub newer : (bytes : List ℕ) (i : Image) → read_image bytes ≡ Ok i → IsPrintable i
+  pub older : (bytes : List ℕ) (i : Image) → read_image bytes ≡ Ok i → (is_newer bytes ≡ true → ⊥) → AllByRecursion (HasText 32768) i.entries
 
 -- the text of entries that may follow one another is read as these
 abbrev pub TextsAreRead : Type 0
-TextsAreRead = (i : Image) → IsImage i → read_image (image_text i.default_limit i.entries) ≡ Ok i
+TextsAreRead = (i : Image) → IsImage i → IsPrintable i → read_image (image_text i.default_limit i.entries) ≡ Ok i
 
 -- what an image starts has its entries to save, and its limit
 pub record StartsHoldTheEntries : Type 0 where
-  pub entries : (i : Image) → IsImage i → saved (shown (started i)) ≡ i.entries
-  pub limit : (i : Image) → IsImage i → (shown (started i)).default_limit ≡ i.default_limit
+  pub entries : (i : Image) → IsImage i → IsPrintable i → saved (shown (started i)) ≡ i.entries
+  pub limit : (i : Image) → IsImage i → IsPrintable i → (shown (started i)).default_limit ≡ i.default_limit
 
--- What stands within its bounds is saved as an image that is read as what was saved.
-pub record SavedIsReadAgain : Type 0 where
-  pub reads : (c : Content) → IsContent c → IsBound c → CanBeSaved c → read_image (image c) ≡ Ok (record { default_limit = c.default_limit; entries = saved c })
+-- what is saved is read as what was saved
+abbrev pub IsReadAgain : ℕ → Content → Type 0
+IsReadAgain default_limit c = read_image (image c) ≡ Ok (record { default_limit = default_limit; entries = saved c })
+
+-- what stands, well formed and within its bounds, is read again where it can be saved
+abbrev pub SavedIsReadAgain : Type 0
+SavedIsReadAgain = (c : Content) → IsContent c → IsBound c → CanBeSaved c → IsReadAgain c.default_limit c
+
+-- The start can be saved, and so can what an image starts; and each event leaves what can be saved so.
+pub record SavingStays : Type 0 where
   pub begins : (first_handle default_limit : ℕ) → 1 ≤ default_limit → default_limit ≤ 65535 → CanBeSaved (shown (start first_handle default_limit))
+  pub images : (i : Image) → IsImage i → IsPrintable i → CanBeSaved (shown (started i))
+  pub stays : (c : Content) → IsContent c → IsBound c → CanBeSaved c → (e : Event) → CanBeSaved (step_seen c e).1
+  pub ends : (c : Content) → IsContent c → IsBound c → CanBeSaved c → (es : List Event) → CanBeSaved (after_seen c es)
 
--- what an image starts is within its bounds, so that an engine may stand for it, and can be saved
-pub record StartsAreWithinBounds : Type 0 where
-  pub bound : (bytes : List ℕ) (i : Image) → read_image bytes ≡ Ok i → IsBound (shown (started i))
-  pub can : (bytes : List ℕ) (i : Image) → read_image bytes ≡ Ok i → CanBeSaved (shown (started i))
+-- after any events, and after any that want of memory may have marked, what is saved is read again, with the limit of the beginning
+pub record IsReadLater (m : Machine) : Type 0 where
+  pub events : (es : List Event) → IsReadAgain m.default_limit (shown (after m es))
+  pub answered : (answered : List Answered) → IsReadAgain m.default_limit (shown (end_of m answered))
+
+-- so it is from the start, and from what an image starts that was read
+pub record RunsAreReadAgain : Type 0 where
+  pub begins : (first_handle default_limit : ℕ) → first_handle ≤ 4294967296 → 1 ≤ default_limit → default_limit ≤ 65535 → IsReadLater (start first_handle default_limit)
+  pub images : (bytes : List ℕ) (i : Image) → read_image bytes ≡ Ok i → IsReadLater (started i)
+
+-- what an image starts is within its bounds
+abbrev pub StartsAreWithinBounds : Type 0
+StartsAreWithinBounds = (i : Image) → IsImage i → IsPrintable i → IsBound (shown (started i))
 
 -- A reader that has taken whole lines stands at one position, and what it answers is read off that position and what is still to come:
 -- a line that no image has there is told at once, and so is what stands behind the last line feed at the end.
@@ -66,15 +86,15 @@ pub record ReadersGoLineByLine : Type 0 where
 
 -- What an image starts is what the calls leave that restore its entries, one after the other, from the empty service: none of them is refused.
 abbrev pub CallsStartIt : Type 0
-CallsStartIt = (bytes : List ℕ) (i : Image) → read_image bytes ≡ Ok i → restore_entries (shown (start 1 i.default_limit)) i.entries ≡ Ok (shown (started i))
+CallsStartIt = (i : Image) → IsImage i → IsPrintable i → restore_entries (shown (start 1 i.default_limit)) i.entries ≡ Ok (shown (started i))
 
 -- Where an image's entries were restored, the calls decide what may come next, and what they don't say is said here: a directory or an object may follow
 -- where its path is behind all others and the call is not refused, and a line of the last object where the call is not refused.
 pub record CallsDecide : Type 0 where
-  pub directory : (i : Image) → IsImage i → (path : Path) → IsSavedPath path → is_empty path ≡ false
+  pub directory : (i : Image) → IsImage i → IsPrintable i → (path : Path) → IsSavedPath path → is_empty path ≡ false
       → may_follow i.entries (SavedDirectory path) ≡ (list_all (λ x. is_lt (path_cmp (path_of x) path)) i.entries && is_ok (restore_directory (shown (started i)) path))
-  pub object : (i : Image) → IsImage i → (path : Path) → IsSavedPath path → is_empty path ≡ false
+  pub object : (i : Image) → IsImage i → IsPrintable i → (path : Path) → IsSavedPath path → is_empty path ≡ false
       → may_follow i.entries (SavedObject path []) ≡ (list_all (λ x. is_lt (path_cmp (path_of x) path)) i.entries && is_ok (restore_object (shown (started i)) path))
-  pub line : (i : Image) → IsImage i → (path : Path) (lines : List SavedLine) (l : SavedLine) → IsEntry 65536 i.entries (SavedObject path lines) → is_saved_line l ≡ true → length lines < 1024
+  pub line : (i : Image) → IsImage i → IsPrintable i → (path : Path) (lines : List SavedLine) (l : SavedLine) → may_follow i.entries (SavedObject path lines) ≡ true → HasText 65536 (SavedObject path lines) → is_saved_line l ≡ true → length lines < 1024
       → (is_new lines l && nat_le (length (print_lines (map as_line (lines ++ l ∷ [])))) 65536)
       ≡ is_ok (restore_line (shown (started (record { default_limit = i.default_limit; entries = i.entries ++ SavedObject path lines ∷ [] }))) path (as_line l))

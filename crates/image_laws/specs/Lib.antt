@@ -1,3 +1,3 @@
 pub mod Images
-pub mod Laws
 pub mod Savable
+pub mod Laws

@@ -1,5 +1,9 @@
+pub mod FirstFrames
 pub mod KeptAnswers
 pub mod Limits
 pub mod PrivateTraffic
+pub mod SavedImage
 pub mod Scripts
 pub mod ShownValues
+pub mod WrongFrames
+pub mod WrongImages

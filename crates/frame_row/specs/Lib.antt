@@ -1,2 +1,0 @@
-pub mod FirstPath
-pub mod WrongFrames

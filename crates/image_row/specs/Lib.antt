@@ -1,2 +1,0 @@
-pub mod SavedImage
-pub mod WrongImages

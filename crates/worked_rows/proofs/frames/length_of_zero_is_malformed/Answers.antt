@@ -1,0 +1,7 @@
+use Rattle.std.proofs.Common.{refl}
+use Rattle.pps_types.specs.Frame.{frame_reading}
+use Rattle.worked_rows.proofs.frames.length_of_zero_is_malformed.Goals as goal
+
+pub returns : goal.returns
+unfolding frame_reading
+returns c = refl
