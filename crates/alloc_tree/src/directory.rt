@@ -254,14 +254,7 @@ impl<A: Allocator> Directory<A> {
         ensures refusal { refusal_of result ≢ Some OutOfMemory → refusal_of result ≡ list_refused (whole self.now) path.now }
         ensures ok { IfOk result (λ members. members.items ≡ members_in path.now (whole self.now)) }
     {
-        let directory = match self.directory(path) {
-            Ok(directory) => directory,
-            Err(refusal) => return Err(refusal),
-        };
-        match directory.members() {
-            Ok(members) => Ok(members),
-            Err(_) => Err(Refusal::OutOfMemory),
-        }
+        Ok(self.directory(path)?.members()?)
     }
 
     /// Adds to a walk what stands here and below: a path before what is below it, and names in byte order.

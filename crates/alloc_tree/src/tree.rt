@@ -82,13 +82,8 @@ impl<A: Allocator> Tree<A> {
         ensures same { self.new.map ≡ self.old.map }
         ensures err { OnErr result (self.new ≡ self.old) }
     {
-        match self.root.prepare(path, kind) {
-            Ok(ready) => {
-                self.ready = Some(ready);
-                Ok(())
-            }
-            Err(refusal) => Err(refusal),
-        }
+        self.ready = Some(self.root.prepare(path, kind)?);
+        Ok(())
     }
 
     /// Takes the memory for a new object, and adds nothing. Whatever was ready before is not any more.
@@ -191,13 +186,9 @@ impl<A: Allocator> Tree<A> {
         ensures ready { OnOk result (self.new.ready ≡ None) }
         ensures err { OnErr result (self.new ≡ self.old) }
     {
-        match self.root.edit(path, edit) {
-            Ok(()) => {
-                self.ready = None;
-                Ok(())
-            }
-            Err(refusal) => Err(refusal),
-        }
+        self.root.edit(path, edit)?;
+        self.ready = None;
+        Ok(())
     }
 
     /// Puts another object in an object's place, which gives way. It takes no memory.
@@ -259,10 +250,7 @@ impl<A: Allocator> Tree<A> {
         ensures ok { IfOk result (λ walked. walked.items ≡ finite.entries self.now.map) }
         ensures err { IfErr result (λ r. r ≡ OutOfMemory) }
     {
-        match self.root.walked() {
-            Ok(walked) => Ok(walked),
-            Err(_) => Err(Refusal::OutOfMemory),
-        }
+        Ok(self.root.walked()?)
     }
 
     /// A tree in which the same stands. Nothing is ready in it.
@@ -275,10 +263,10 @@ impl<A: Allocator> Tree<A> {
         ensures ready { IfOk result (λ copy. copy.ready ≡ None) }
         ensures err { IfErr result (λ r. r ≡ OutOfMemory) }
     {
-        match self.root.copy() {
-            Ok(root) => Ok(Tree { root, ready: None }),
-            Err(_) => Err(Refusal::OutOfMemory),
-        }
+        Ok(Tree {
+            root: self.root.copy()?,
+            ready: None,
+        })
     }
 
     /// Whether the same stands in both trees. What is ready does not count. It takes no memory.

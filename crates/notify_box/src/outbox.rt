@@ -213,10 +213,7 @@ impl Outbox {
         ensures ok { IfOk result (λ copy. copy.outbox ≡ self.now.outbox) }
         ensures err { IfErr result (λ r. r ≡ OutOfMemory) }
     {
-        match self.copied() {
-            Ok(copy) => Ok(copy),
-            Err(_) => Err(Refusal::OutOfMemory),
-        }
+        Ok(self.copied()?)
     }
 
     /// Whether both have the same items, armed pulses and parked reads. It takes no memory.

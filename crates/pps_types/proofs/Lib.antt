@@ -43,3 +43,4 @@ pub mod ReadMoves
 pub mod SettledHandles
 pub mod RunJoins
 pub mod Merges
+pub mod Sames

@@ -1,5 +1,6 @@
 //! Lines of texts: as they are written, and as objects and records hold them.
 ghost use Rattle.std.specs.Prelude.{◌≡◌};
+ghost use Rattle.std.specs.Cmp.Lexicographic.{pointwise, lists_equiv, lists_per};
 
 use crate::bytes::Bytes;
 use std::alloc::Global;
@@ -97,4 +98,22 @@ impl Lines {
     {
         self.items.as_slice()
     }
+}
+
+impl PartialEq for Lines {
+    ghost use Rattle.pps_types.specs.contracts.line.LinePartialEq.TheImpl.Laws.{laws-law};
+
+    ghost eq = { pointwise ⟦<Line as PartialEq>⟧.eq };
+
+    ghost laws = { lists_per laws-law };
+
+    fn eq(&self, other: &Lines) -> bool {
+        self.as_slice() == other.as_slice()
+    }
+}
+
+impl Eq for Lines {
+    ghost use Rattle.pps_types.specs.contracts.line.LineEq.TheImpl.Laws.{laws-law};
+
+    ghost laws = { lists_equiv laws-law };
 }

@@ -4,7 +4,7 @@ use crate::line::Lines;
 use crate::numbers::{Handle, ObjId};
 
 /// What a record says of its object.
-#[derive(Debug, Drop)]
+#[derive(Debug, PartialEq, Eq, Drop)]
 pub enum Kind {
     Created,
     /// Attributes were set and deleted.
@@ -27,7 +27,7 @@ pub enum Kind {
 }
 
 /// One thing that happened to an object. The writer is the handle of a Write, and nobody else's.
-#[derive(Debug, Drop)]
+#[derive(Debug, PartialEq, Eq, Drop)]
 pub struct Record {
     pub object: ObjId,
     pub kind: Kind,
