@@ -1,4 +1,3 @@
-pub mod Kept
 pub mod Sorted
 pub mod ByKind
 pub mod Blocks

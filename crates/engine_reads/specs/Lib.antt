@@ -1,4 +1,3 @@
-pub mod Face
 pub mod Printing
 pub mod Owed
 pub mod Listed

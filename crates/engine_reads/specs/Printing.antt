@@ -1,13 +1,8 @@
--- What is printed of lines and of attributes.
-use Rattle.std.specs.Prelude.{ℕ, List, Option, filter, map}
-use Rattle.pps_types.specs.declared.line.Line.{Line}
-use Rattle.pps_types.specs.Filter.{Part, matches}
+-- What is printed of attributes.
+use Rattle.std.specs.Prelude.{ℕ, List, Option, map}
+use Rattle.pps_types.specs.Filter.{Part}
 use Rattle.pps_types.specs.History.{Attribute, line_of}
-use Rattle.pps_types.specs.Text.{print_lines}
-
--- the lines that match
-abbrev pub print_matching : Option (List Part) → List Line → List ℕ
-print_matching parts lines = print_lines (filter (matches parts) lines)
+use Rattle.pps_block.specs.Matching.{print_matching}
 
 -- the matching lines that set the attributes
 abbrev pub print_set : Option (List Part) → List Attribute → List ℕ

@@ -3,29 +3,12 @@ ghost use Rattle.std.specs.Prelude.{◌≡◌, ◌≤◌, ◌^◌, length, IfSom
 ghost use Rattle.std.specs.Option.{option_copied};
 ghost use Rattle.pps_types.specs.History as history;
 ghost use Rattle.pps_types.specs.Text as text;
-ghost use Rattle.engine_reads.specs.Printing.{print_matching, print_set};
+ghost use Rattle.engine_reads.specs.Printing.{print_set};
 
 use crate::print::is_matched;
-use attr_text::{line_len, set_len};
+use attr_text::set_len;
 use engine_state::Attribute;
-use pps_filter::{Filter, matches};
-use pps_types::Line;
-
-/// The length of the lines that match.
-pub(crate) fn lines_len(filter: Option<&Filter>, lines: &[Line]) -> Option<usize>
-    ensures some { IfSome result (λ len. len ≡ length (print_matching (option_copied filter.entry) lines.now)) }
-    ensures none { IfNone result (2 ^ 64 ≤ length (print_matching (option_copied filter.entry) lines.now)) }
-{
-    let mut total: usize = 0;
-    'lines: for line in lines {
-        if !matches(filter, line) {
-            continue;
-        }
-        let len = line_len(line)?;
-        total = total.checked_add(len)?;
-    }
-    Some(total)
-}
+use pps_filter::Filter;
 
 fn attribute_len(attribute: &Attribute) -> Option<usize>
     ensures some { IfSome result (λ len. len ≡ length (text.print_line (history.line_of attribute.now))) }

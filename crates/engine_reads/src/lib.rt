@@ -4,14 +4,12 @@
 mod answer;
 mod block;
 mod everything;
-mod face;
 mod lengths;
 mod measuring;
 mod members;
 mod names;
 mod owed;
 mod print;
-mod table;
 mod text;
 
 pub use answer::Measure;

@@ -1,20 +1,14 @@
 //! Printing into a vector that grows.
 ghost use Rattle.std.specs.Prelude.{◌≡◌, ◌++◌, OnOk, true};
 ghost use Rattle.std.specs.Option.{option_copied, option_to_list, ForSome};
-ghost use Rattle.std.specs.Fmt.{decimal};
-ghost use Rattle.std.specs.Prelude.{codes};
 ghost use Rattle.pps_types.specs.Filter as filters;
 ghost use Rattle.pps_types.specs.History as history;
 ghost use Rattle.pps_types.specs.Text as text;
-ghost use Rattle.engine_reads.specs.Printing.{print_matching, print_set};
+ghost use Rattle.engine_reads.specs.Printing.{print_set};
 
-use attr_text::{
-    client_header_len, header_len, line_len, push_client_header, push_header, push_line, push_set,
-    set_len,
-};
+use attr_text::{header_len, push_header, push_set, set_len};
 use engine_state::Attribute;
-use pps_filter::{Filter, matches, matches_set};
-use pps_types::{Handle, Line};
+use pps_filter::{Filter, matches_set};
 use std::alloc::AllocError;
 
 // Whether the line that sets the attribute matches.
@@ -22,17 +16,6 @@ pub(crate) fn is_matched(filter: Option<&Filter>, attribute: &Attribute) -> bool
     ensures { result ≡ filters.matches (option_copied filter.entry) (history.line_of attribute.now) }
 {
     matches_set(filter, attribute.name(), attribute.value())
-}
-
-fn put_line(out: &mut Vec<u8>, line: &Line) -> Result<(), AllocError>
-    ensures { OnOk result (out.new.items ≡ out.old.items ++ text.print_line line.now) }
-{
-    let Some(len) = line_len(line) else {
-        return Err(AllocError);
-    };
-    out.reserve(len)?;
-    push_line(out, line);
-    Ok(())
 }
 
 // The line that sets the attribute.
@@ -59,41 +42,6 @@ pub(crate) fn put_header(out: &mut Vec<u8>, mark: Option<u8>, name: &[u8]) -> Re
     };
     out.reserve(len)?;
     push_header(out, mark, name);
-    Ok(())
-}
-
-/// Puts a header that names a server's client.
-pub(crate) fn put_client_header(
-    out: &mut Vec<u8>,
-    mark: Option<u8>,
-    name: &[u8],
-    client: Handle,
-) -> Result<(), AllocError>
-    requires { ForSome mark (λ byte. text.is_header_mark byte ≡ true) }
-    ensures { OnOk result (out.new.items ≡ out.old.items ++ text.print_header (option_to_list mark) (name.now ++ codes "." ++ decimal client)) }
-{
-    let Some(len) = client_header_len(mark, name, client) else {
-        return Err(AllocError);
-    };
-    out.reserve(len)?;
-    push_client_header(out, mark, name, client);
-    Ok(())
-}
-
-/// Puts the lines that match.
-pub(crate) fn put_lines(
-    out: &mut Vec<u8>,
-    filter: Option<&Filter>,
-    lines: &[Line],
-) -> Result<(), AllocError>
-    ensures { OnOk result (out.new.items ≡ out.old.items ++ print_matching (option_copied filter.entry) lines.now) }
-{
-    'lines: for line in lines {
-        if !matches(filter, line) {
-            continue;
-        }
-        put_line(out, line)?;
-    }
     Ok(())
 }
 

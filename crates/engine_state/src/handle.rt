@@ -9,7 +9,8 @@ ghost use Rattle.pps_types.specs.Plan as planning;
 use crate::copies::{Copied, copy_all};
 use crate::entry::Entry;
 use crate::queue::Slot;
-use crate::sight::{is_chained, is_delta, is_directory_kind, is_full, is_object_kind, is_shown};
+use crate::sight::{is_chained, is_delta, is_directory_kind, is_full, is_object_kind};
+use pps_block::is_visible;
 use pps_filter::Filter;
 use pps_types::{Bytes, Conn, Handle, HandleKind, Record};
 use std::alloc::{AllocError, Global};
@@ -224,7 +225,7 @@ impl Open {
     {
         self.reads
             && (!self.wrote(made) || (self.reflect && is_object_kind(self.kind)))
-            && is_shown(self.kind, self.number, self.filter.as_ref(), &made.kind)
+            && is_visible(self.kind, self.number, self.filter.as_ref(), &made.kind)
     }
 
     // Whether the record is of its target, or of an object directly in it.

@@ -18,5 +18,5 @@ pub use entry::Entry;
 pub use handle::{Open, Opening, Parked, Pulse, Seen};
 pub use names::{Directory, Known};
 pub use queue::{Connection, Queue, Slot};
-pub use sight::{is_chained, is_delta, is_directory_kind, is_full, is_object_kind, is_shown};
+pub use sight::{is_chained, is_delta, is_directory_kind, is_full, is_object_kind};
 pub use state::State;

@@ -1,12 +1,8 @@
-//! Which records a handle sees, and as what: questions on what is fixed when it is opened.
-ghost use Rattle.std.specs.Prelude.{◌≡◌, ◌&&◌, is_some};
-ghost use Rattle.std.specs.Option.{option_copied};
-ghost use Rattle.std.specs.List.{list_any};
-ghost use Rattle.pps_types.specs.Filter as filters;
+//! Which records a handle sees: questions on what is fixed when it is opened.
+ghost use Rattle.std.specs.Prelude.{◌≡◌};
 ghost use Rattle.pps_types.specs.Reading as reading;
 
-use pps_filter::{Filter, matches};
-use pps_types::{Handle, HandleKind, Kind, Line};
+use pps_types::{HandleKind, Kind};
 
 /// Whether the handle is of a directory: all of it, or its names alone.
 pub fn is_directory_kind(kind: HandleKind) -> bool
@@ -42,56 +38,6 @@ pub fn is_delta(kind: HandleKind) -> bool
         HandleKind::Names => true,
         HandleKind::Server => false,
         HandleKind::Client => false,
-    }
-}
-
-fn any_matches(filter: Option<&Filter>, lines: &[Line]) -> bool
-    ensures { result ≡ list_any (filters.matches (option_copied filter.entry)) lines.now }
-{
-    lines.iter().any(|line| matches(filter, line))
-}
-
-fn is_shown_to_object(filter: Option<&Filter>, kind: &Kind) -> bool
-    ensures { result ≡ is_some (reading.shown_to_object (option_copied filter.entry) kind.now) }
-{
-    match kind {
-        Kind::Change(lines) => any_matches(filter, lines.as_slice()),
-        Kind::Truncated => true,
-        Kind::Dropped => true,
-        Kind::Deleted => true,
-        _ => false,
-    }
-}
-
-fn is_shown_to_client(number: Handle, kind: &Kind) -> bool
-    ensures { result ≡ is_some (reading.shown_to_client number kind.now) }
-{
-    match kind {
-        Kind::Deleted => true,
-        Kind::ToClient(id, _) => *id == number,
-        Kind::ToAll(_) => true,
-        _ => false,
-    }
-}
-
-/// Whether a record of that kind has a block for the handle.
-pub fn is_shown(handle: HandleKind, number: Handle, filter: Option<&Filter>, kind: &Kind) -> bool
-    ensures { result ≡ is_some (reading.shown handle number (option_copied filter.entry) kind.now) }
-{
-    match handle {
-        HandleKind::Object { .. } => is_shown_to_object(filter, kind),
-        HandleKind::Directory { .. } => {
-            if let Kind::Created = kind {
-                return true;
-            }
-            is_shown_to_object(filter, kind)
-        }
-        HandleKind::Names => matches!(kind, Kind::Created | Kind::Deleted),
-        HandleKind::Server => matches!(
-            kind,
-            Kind::Opened(_) | Kind::Closed(_) | Kind::FromClient(_, _)
-        ),
-        HandleKind::Client => is_shown_to_client(number, kind),
     }
 }
 

@@ -11,7 +11,8 @@ use Rattle.pps_types.specs.Filter.{Part}
 use Rattle.pps_types.specs.History.{Entry}
 use Rattle.pps_types.specs.Reading.{Open, Queue, style, concerns, sees, is_writer, is_object_kind, shown, with_lines, shown_to_server, shown_to_client, print_shown, block}
 use Rattle.pps_types.specs.Rests.{Seen}
-use Rattle.server_queue.specs.Blocks.{queue_shown, queue_blocks}
+use Rattle.pps_block.specs.Queue.{queue_shown}
+use Rattle.server_queue.specs.Blocks.{queue_blocks}
 use Rattle.server_queue.specs.OwedTo.{IsOwedTo}
 
 last_of : (a b c : Bool) → (a && (b && c)) ≡ true → c ≡ true

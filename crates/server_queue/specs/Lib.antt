@@ -1,5 +1,4 @@
 pub mod Blocks
-pub mod Face
 pub mod Messages
 pub mod OwedTo
 pub mod Queued

@@ -4,9 +4,7 @@
 mod block;
 mod counts;
 mod entry;
-mod face;
 mod fitting;
-mod lines;
 mod plan;
 mod queue;
 mod same;

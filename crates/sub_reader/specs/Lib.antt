@@ -1,7 +1,6 @@
 pub mod Reader
 pub mod Follow
 pub mod Target
-pub mod Face
 pub mod Owed
 pub mod Answered
 pub mod Tests

@@ -1,10 +1,9 @@
 -- What is lent of a target, beside the records of its chain.
-use Rattle.std.specs.Prelude.{ℕ, Bool, true, false, not, ◌&&◌, List, [], Option, codes, filter, map, slice_index_or}
+use Rattle.std.specs.Prelude.{ℕ, Bool, true, false, not, ◌&&◌, List, [], Option, codes, map, slice_index_or}
 use Rattle.std.specs.List.{concat}
-use Rattle.pps_types.specs.declared.line.Line.{Line}
 use Rattle.pps_types.specs.declared.record.Record.{Record}
-use Rattle.pps_types.specs.Filter.{Part, matches}
-use Rattle.pps_types.specs.Text.{print_header, print_lines}
+use Rattle.pps_types.specs.Filter.{Part}
+use Rattle.pps_types.specs.Text.{print_header}
 use Rattle.pps_types.specs.Reading.{Member, print_member, overflow_mark, overflow_line, everything_of, is_directory_kind, block_of}
 use Rattle.sub_reader.specs.declared.settings.Subject.{Subject}
 use Rattle.sub_reader.specs.declared.settings.Subject.TheVariants.{Object, Directory, Names}
@@ -19,10 +18,6 @@ pub record Target : Type 0 where
 -- the member at an index; behind the last there is none, and a blank one stands for it
 abbrev pub member_at : Target → ℕ → Member
 member_at t i = slice_index_or t.members i (record { name = []; lines = [] })
-
--- the lines that match
-abbrev pub print_matching : Option (List Part) → List Line → List ℕ
-print_matching parts lines = print_lines (filter (matches parts) lines)
 
 -- a member's part of everything
 abbrev pub print_one : Subject → Option (List Part) → Bool → Bool → Member → List ℕ

@@ -2,8 +2,9 @@
 ghost use Rattle.std.specs.Prelude.{◌≡◌, ℕ, ◌+◌, ◌-◌, ◌^◌, ◌<◌, ◌≤◌, ◌++◌, List, length, slice_get, vec_len, vec_capacity, IfSome, IfNone, Some};
 ghost use Rattle.std.specs.Option.{option_copied};
 ghost use Rattle.pps_types.specs.declared.record.Record.{Record};
+ghost use Rattle.pps_block.specs.Matching.{print_matching};
 ghost use Rattle.sub_reader.specs.Reader.{Origins};
-ghost use Rattle.sub_reader.specs.Target.{Target, member_at, print_matching};
+ghost use Rattle.sub_reader.specs.Target.{Target, member_at};
 
 use pps_filter::Filter;
 use pps_types::{ObjId, Record};

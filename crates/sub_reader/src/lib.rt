@@ -1,8 +1,6 @@
 //! Subscribers: where each stands in the shared records of its target, how much it is owed, and what a read gives it.
 #![tactic(auto)]
 
-mod block;
-mod face;
 mod lent;
 mod owed;
 mod place;
@@ -10,7 +8,6 @@ mod plan;
 mod settings;
 mod sight;
 mod sub;
-mod table;
 mod whole;
 
 pub use lent::Lent;

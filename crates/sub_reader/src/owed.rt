@@ -3,10 +3,9 @@ ghost use Rattle.std.specs.Prelude.{◌≡◌, ◌≤◌, ◌<◌, ◌+◌, ◌+
 ghost use Rattle.std.specs.List.{concat};
 ghost use Rattle.sub_reader.specs.Owed.{blocks_of, IsFit};
 
-use crate::block::{block_len, push_block};
 use crate::lent::Lent;
 use crate::settings::Settings;
-use crate::sight::is_given;
+use crate::sight::given_block;
 use pps_types::Record;
 
 /// How many blocks fit, how long they are together, and the index of the first record behind them that is given.
@@ -49,10 +48,10 @@ pub(crate) fn fit_blocks<L: Lent>(
     let mut given: usize = 0;
     'records: for i in from..count {
         let made = nth(lent, extra, i);
-        if !is_given(settings, made) {
+        let Some(block) = given_block(settings, made) else {
             continue;
-        }
-        let Some(len) = block_len(settings, lent.name_of(made.object), &made.kind) else {
+        };
+        let Some(len) = block.print_len(lent.name_of(made.object)) else {
             return Fit {
                 given,
                 len: max - room,
@@ -100,10 +99,10 @@ pub(crate) fn push_blocks<L: Lent>(
             return;
         }
         let made = nth(lent, extra, i);
-        if !is_given(settings, made) {
+        let Some(block) = given_block(settings, made) else {
             continue;
-        }
-        push_block(out, settings, lent.name_of(made.object), &made.kind);
+        };
+        block.push(out, lent.name_of(made.object));
         left -= 1;
     }
 }

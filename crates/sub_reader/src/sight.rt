@@ -1,14 +1,11 @@
 //! Which records a subscriber is given.
-ghost use Rattle.std.specs.Prelude.{◌≡◌, is_some, ◌&&◌};
-ghost use Rattle.std.specs.Option.{option_copied};
-ghost use Rattle.std.specs.List.{list_any};
-ghost use Rattle.pps_types.specs.Filter as filters;
+ghost use Rattle.std.specs.Prelude.{◌≡◌, ℕ, List, Some, IfSome, is_some, ◌&&◌};
 ghost use Rattle.pps_types.specs.Reading as reading;
-ghost use Rattle.sub_reader.specs.Reader.{kind_of, is_full, gives, bound};
+ghost use Rattle.sub_reader.specs.Reader.{kind_of, reader, is_full, gives, bound};
 
 use crate::settings::{Settings, Subject};
-use pps_filter::{Filter, matches};
-use pps_types::{Kind, Line, Record};
+use pps_block::Block;
+use pps_types::{HandleKind, Record};
 
 /// Whether it reads what stands, and not each change.
 pub(crate) fn reads_in_full(subject: Subject) -> bool
@@ -31,36 +28,14 @@ pub(crate) fn most(settings: &Settings) -> u32
     settings.limit
 }
 
-pub(crate) fn any_matches(filter: Option<&Filter>, lines: &[Line]) -> bool
-    ensures { result ≡ list_any (filters.matches (option_copied filter.entry)) lines.now }
-{
-    lines.iter().any(|line| matches(filter, line))
-}
-
-fn is_shown_to_object(filter: Option<&Filter>, kind: &Kind) -> bool
-    ensures { result ≡ is_some (reading.shown_to_object (option_copied filter.entry) kind.now) }
-{
-    match kind {
-        Kind::Change(lines) => any_matches(filter, lines.as_slice()),
-        Kind::Truncated => true,
-        Kind::Dropped => true,
-        Kind::Deleted => true,
-        _ => false,
-    }
-}
-
-fn is_shown(subject: Subject, number: u32, filter: Option<&Filter>, kind: &Kind) -> bool
-    ensures { result ≡ is_some (reading.shown (kind_of subject) number (option_copied filter.entry) kind.now) }
+// The kind of a handle that reads so.
+fn handle_kind(subject: Subject) -> HandleKind
+    ensures { result ≡ kind_of subject }
 {
     match subject {
-        Subject::Object { .. } => is_shown_to_object(filter, kind),
-        Subject::Directory { .. } => {
-            if let Kind::Created = kind {
-                return true;
-            }
-            is_shown_to_object(filter, kind)
-        }
-        Subject::Names => matches!(kind, Kind::Created | Kind::Deleted),
+        Subject::Object { delta } => HandleKind::Object { delta },
+        Subject::Directory { delta } => HandleKind::Directory { delta },
+        Subject::Names => HandleKind::Names,
     }
 }
 
@@ -84,17 +59,25 @@ fn reflects(settings: &Settings) -> bool
     }
 }
 
+/// The block of a record of its target, where the subscriber is given it.
+pub(crate) fn given_block<'a>(settings: &'a Settings, made: &'a Record) -> Option<Block<'a>>
+    ensures given { is_some result ≡ gives settings.now made.now }
+    ensures block { IfSome result (λ block. (name : List ℕ) → reading.print_shown name (Some block) ≡ reading.block_of (reader settings.now) name made.now.kind) }
+{
+    if wrote(settings, made) && !reflects(settings) {
+        return None;
+    }
+    Block::of(
+        handle_kind(settings.subject),
+        settings.handle,
+        settings.filter.as_ref(),
+        &made.kind,
+    )
+}
+
 /// Whether a record of its target is given to the subscriber.
 pub(crate) fn is_given(settings: &Settings, made: &Record) -> bool
     ensures { result ≡ gives settings.now made.now }
 {
-    if wrote(settings, made) && !reflects(settings) {
-        return false;
-    }
-    is_shown(
-        settings.subject,
-        settings.handle.number(),
-        settings.filter.as_ref(),
-        &made.kind,
-    )
+    given_block(settings, made).is_some()
 }

@@ -4,6 +4,8 @@
 #[cfg(test)]
 mod attributes;
 #[cfg(test)]
+mod blocks;
+#[cfg(test)]
 mod filters;
 #[cfg(test)]
 mod opens;

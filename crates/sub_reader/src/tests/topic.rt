@@ -1,9 +1,9 @@
 //! One target with its chain, and the subscribers of it.
 ghost use Rattle.std.specs.Prelude.{◌≡◌, ◌+◌, ◌^◌, ◌<◌};
 
-use crate::block::{lines_len, push_lines};
 use crate::{Lent, Output, Plan, Settings, Sub};
 use change_chain::Chain;
+use pps_block::{matching_len, push_matching};
 use pps_filter::Filter;
 use pps_types::{Bytes, Lines, ObjId, Record, Refusal};
 use std::alloc::Global;
@@ -92,11 +92,11 @@ impl<'a> Lent for View<'a> {
     }
 
     fn attributes_len(&self, i: usize, filter: Option<&Filter>) -> Option<usize> {
-        lines_len(filter, self.members[i].lines().as_slice())
+        matching_len(filter, self.members[i].lines().as_slice())
     }
 
     fn push_attributes(&self, i: usize, filter: Option<&Filter>, out: &mut Vec<u8>) {
-        push_lines(out, filter, self.members[i].lines().as_slice());
+        push_matching(out, filter, self.members[i].lines().as_slice());
     }
 }
 

@@ -1,0 +1,118 @@
+//! The table of blocks: a column for each kind of handle.
+ghost use Rattle.std.specs.Prelude.{◌≡◌, is_some};
+ghost use Rattle.std.specs.Option.{option_copied};
+ghost use Rattle.pps_types.specs.Reading as reading;
+ghost use Rattle.pps_block.specs.Queue.{queue_shown, shown_to_its_clients};
+
+use crate::block::Block;
+use crate::lines::from_first_match;
+use pps_filter::Filter;
+use pps_types::{Handle, HandleKind, Kind, Line};
+
+// The lines that match, where there are any.
+fn matching<'a>(filter: Option<&'a Filter>, lines: &'a [Line]) -> Option<Block<'a>>
+    ensures { result ≡ reading.matching_lines (option_copied filter.entry) lines.now }
+{
+    let lines = from_first_match(filter, lines)?;
+    Some(Block::matching(filter, lines))
+}
+
+fn to_object<'a>(filter: Option<&'a Filter>, kind: &'a Kind) -> Option<Block<'a>>
+    ensures { result ≡ reading.shown_to_object (option_copied filter.entry) kind.now }
+{
+    match kind {
+        Kind::Change(lines) => matching(filter, lines.as_slice()),
+        Kind::Truncated => Some(Block::header(b'#')),
+        Kind::Dropped => Some(Block::header(b'*')),
+        Kind::Deleted => Some(Block::header(b'-')),
+        _ => None,
+    }
+}
+
+fn to_directory<'a>(filter: Option<&'a Filter>, kind: &'a Kind) -> Option<Block<'a>>
+    ensures { result ≡ reading.shown_to_directory (option_copied filter.entry) kind.now }
+{
+    match kind {
+        Kind::Created => Some(Block::header(b'+')),
+        _ => to_object(filter, kind),
+    }
+}
+
+fn to_names<'a>(kind: &'a Kind) -> Option<Block<'a>>
+    ensures { result ≡ reading.shown_to_names kind.now }
+{
+    match kind {
+        Kind::Created => Some(Block::header(b'+')),
+        Kind::Deleted => Some(Block::header(b'-')),
+        _ => None,
+    }
+}
+
+fn to_server<'a>(kind: &'a Kind) -> Option<Block<'a>>
+    ensures { result ≡ reading.shown_to_server kind.now }
+{
+    match kind {
+        Kind::Opened(id) => Some(Block::of_client(Some(b'+'), *id, &[])),
+        Kind::Closed(id) => Some(Block::of_client(Some(b'-'), *id, &[])),
+        Kind::FromClient(id, lines) => Some(Block::of_client(None, *id, lines.as_slice())),
+        _ => None,
+    }
+}
+
+// To the client, or to each client, that it is for.
+fn to_its_clients<'a>(kind: &'a Kind) -> Option<Block<'a>>
+    ensures { result ≡ shown_to_its_clients kind.now }
+{
+    match kind {
+        Kind::Deleted => Some(Block::header(b'-')),
+        Kind::ToClient(_, lines) => Some(Block::all(lines.as_slice())),
+        Kind::ToAll(lines) => Some(Block::all(lines.as_slice())),
+        _ => None,
+    }
+}
+
+fn to_client<'a>(number: Handle, kind: &'a Kind) -> Option<Block<'a>>
+    ensures { result ≡ reading.shown_to_client number kind.now }
+{
+    match kind {
+        Kind::ToClient(id, _) if *id != number => None,
+        _ => to_its_clients(kind),
+    }
+}
+
+impl<'a> Block<'a> {
+    /// What a record of that kind looks like to the handle of that kind and number, where it has a block for it. The
+    /// filter is asked about each line at most once, and about none behind the first that matches.
+    pub fn of(
+        handle: HandleKind,
+        number: Handle,
+        filter: Option<&'a Filter>,
+        kind: &'a Kind,
+    ) -> Option<Block<'a>>
+        ensures { result ≡ reading.shown handle number (option_copied filter.entry) kind.now }
+    {
+        match handle {
+            HandleKind::Object { .. } => to_object(filter, kind),
+            HandleKind::Directory { .. } => to_directory(filter, kind),
+            HandleKind::Names => to_names(kind),
+            HandleKind::Server => to_server(kind),
+            HandleKind::Client => to_client(number, kind),
+        }
+    }
+
+    /// What a record of that kind looks like in a queue of its server object, to whichever handle it is for: the
+    /// server, or a client.
+    pub fn in_queue(kind: &'a Kind) -> Option<Block<'a>>
+        ensures { result ≡ queue_shown kind.now }
+    {
+        to_its_clients(kind).or_else(|| to_server(kind))
+    }
+}
+
+/// Whether a record of that kind has a block for the handle of that kind and number. The filter is asked about each
+/// line at most once.
+pub fn is_visible(handle: HandleKind, number: Handle, filter: Option<&Filter>, kind: &Kind) -> bool
+    ensures { result ≡ is_some (reading.shown handle number (option_copied filter.entry) kind.now) }
+{
+    Block::of(handle, number, filter, kind).is_some()
+}
