@@ -1,4 +1,5 @@
-//! Tests of the service: the engine's calls, how much it keeps and owes, full directories, and streams of frames.
+//! Tests of the service: the engine's calls, how much it keeps and owes, full directories, refused requests for memory,
+//! and streams of frames.
 #![tactic(auto)]
 
 #[cfg(test)]
@@ -11,5 +12,7 @@ mod debts;
 mod frames;
 #[cfg(test)]
 mod private;
+#[cfg(test)]
+mod refusals;
 #[cfg(test)]
 mod scripts;

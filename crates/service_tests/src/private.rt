@@ -1,9 +1,9 @@
 //! Two runs that a client can't tell apart, of which one alone has what another client does.
 
+use crate::scripts::{data, event};
 use pps_engine::{Engine, run_both};
-use pps_types::{Event, Outcome, Refusal, SharedBytes};
-use script_lines::{ScriptLine, read_line};
-use std::alloc::{AllocError, Global};
+use pps_types::{Event, Refusal};
+use std::alloc::Global;
 use std::test::Fail;
 
 /// The commands of the worked script `private_traffic`: a server, and clients of connections 2 and 3.
@@ -41,24 +41,9 @@ const WITHOUT_OTHER: [&[u8]; 11] = [
 fn events(alloc: Global, lines: &[&[u8]]) -> Result<Vec<Event>, Refusal> {
     let mut events = Vec::new(alloc);
     for line in lines {
-        let Some(ScriptLine::Command(event)) = read_line(alloc, line)? else {
-            return Err(Refusal::BadFrame);
-        };
-        events.push(event)?;
+        events.push(event(alloc, line)?)?;
     }
     Ok(events)
-}
-
-fn data(alloc: Global, bytes: &[u8]) -> Result<Outcome, AllocError> {
-    let bytes = bytes.to_vec(alloc)?;
-    Ok(Outcome::Data(SharedBytes::new(alloc, bytes)?))
-}
-
-fn is_answer(answers: &[Result<Outcome, Refusal>], place: usize, wanted: &Outcome) -> bool {
-    match answers.get(place) {
-        Some(Ok(outcome)) => *outcome == *wanted,
-        _ => false,
-    }
 }
 
 #[test]
@@ -74,11 +59,11 @@ fn another_clients_traffic_is_not_seen(rt: HostRuntime) -> Result<(), Fail> {
         &mut second,
         without_other.as_slice(),
     )?;
-    let told = data(alloc, b"@s\nr::2\n")?;
-    let told_all = data(alloc, b"@s\nall::3\n")?;
-    assert!(rt; is_answer(answers.first.as_slice(), 9, &told));
-    assert!(rt; is_answer(answers.second.as_slice(), 8, &told));
-    assert!(rt; is_answer(answers.first.as_slice(), 12, &told_all));
-    assert!(rt; is_answer(answers.second.as_slice(), 10, &told_all));
+    let told = Ok(data(alloc, b"@s\nr::2\n")?);
+    let told_all = Ok(data(alloc, b"@s\nall::3\n")?);
+    assert_eq!(rt; answers.first.get(9), Some(&told));
+    assert_eq!(rt; answers.second.get(8), Some(&told));
+    assert_eq!(rt; answers.first.get(12), Some(&told_all));
+    assert_eq!(rt; answers.second.get(10), Some(&told_all));
     Ok(())
 }

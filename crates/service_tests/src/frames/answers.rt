@@ -1,17 +1,12 @@
 //! Answers as frames.
-ghost use Rattle.std.specs.Prelude.{◌≡◌, IfOk};
+ghost use Rattle.std.specs.Prelude.{IfOk};
 ghost use Rattle.pps_types.specs.Outcome.{IsSendable};
 
+use crate::scripts::shared;
 use pps_frame::encode_outcome;
-use pps_types::{Conn, Handle, Item, Outcome, Refusal, SharedBytes};
+use pps_types::{Conn, Handle, Item, Outcome, Refusal};
 use std::alloc::{AllocError, Global};
 use std::test::Fail;
-
-fn shared(alloc: Global, bytes: &[u8]) -> Result<SharedBytes, AllocError>
-    ensures { IfOk result (λ s. s ≡ bytes.now) }
-{
-    SharedBytes::new(alloc, bytes.to_vec(alloc)?)
-}
 
 /// An answer of each form.
 fn answer(alloc: Global, number: usize) -> Result<Result<Outcome, Refusal>, AllocError>

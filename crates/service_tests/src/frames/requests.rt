@@ -50,7 +50,7 @@ fn a_body_has_at_most_131072_bytes(rt: HostRuntime) -> Result<(), Fail> {
         let fed = decoder.feed(alloc, piece)?;
         assert!(rt; !fed.bad);
         if decoder.rest() == 0 {
-            assert!(rt; fed.events.as_slice() == [longest].as_slice());
+            assert_eq!(rt; fed.events.as_slice(), [longest].as_slice());
             break;
         }
     }
