@@ -1,58 +1,16 @@
 -- How the definition reads a text from its front.
-use Rattle.std.proofs.Common.{◌≡◌, ℕ, zero, suc, ◌+◌, ◌<◌, ◌≤◌, Bool, true, false, eqb, List, [], ◌∷◌, ◌++◌, length, take, drop, get_or, Option, Some, None, Result, Ok, Err, append_assoc, inl, inr, refl, sym, ap, ◌∙◌, add-one, arith}
-use Rattle.std.specs.Prelude.{option_map, unwrap_or, codes, cond}
-use Rattle.std.proofs.lemmas.Bool.{false_from_ne_true, eqb-true, false≢true}
+use Rattle.std.proofs.Common.{◌≡◌, ℕ, suc, ◌+◌, ◌<◌, ◌≤◌, Bool, true, false, eqb, List, [], ◌∷◌, ◌++◌, length, Option, Some, None, Result, Ok, Err, append_assoc, inl, inr, refl, sym, ap, ◌∙◌, arith}
+use Rattle.std.specs.Prelude.{option_map, IfSome, unwrap_or, codes, cond}
+use Rattle.std.proofs.lemmas.Bool.{eqb-true, false≢true}
 use Rattle.pps_types.specs.declared.refusal.Refusal.{Refusal}
 use Rattle.pps_types.specs.declared.refusal.Refusal.TheVariants.{BadText, TooLarge}
 use Rattle.pps_types.specs.declared.line.WriteLine.{WriteLine}
-use Rattle.memchr.specs.Find.{IsFirstByte, is_byte}
-use Rattle.pps_types.specs.Bytes.{split_at_first, is_empty, after_prefix, pieces, onto_first, result_map}
+use Rattle.pps_types.specs.Bytes.{split_at_first, is_empty, after_prefix, pieces, result_map}
 use Rattle.pps_types.specs.Text.{without_empty_end, lines_of, write_line, line_or, write_lines, with_header, text_after, text_of_lines, write_text}
+use Rattle.text_parts.proofs.Cuts.{pieces_of, pieces-split, split_at_first-shorter}
 use Rattle.attr_text.specs.ReadWrite.{first_line_of, IsLinesRefusal, IsTextRefusal}
 
--- the byte stands nowhere
-none-at : (c : ℕ) (xs : List ℕ) → ((k : ℕ) → 0 ≤ k → k < length xs → eqb (get_or xs k 0) c ≡ true → ⊥) → split_at_first c xs ≡ None
-none-at c [] nowhere = refl
-none-at c (x ∷ xs) nowhere =
-    rw (
-      false_from_ne_true (eqb x c) (nowhere 0 (omega arith) (omega arith)),
-      none-at c xs (λ k low high. nowhere (suc k) (omega arith) (omega arith)),
-    ) refl
-
--- the byte stands at k first
-first-at : (c : ℕ) (xs : List ℕ) (k : ℕ) → k < length xs → ((j : ℕ) → 0 ≤ j → j < k → eqb (get_or xs j 0) c ≡ true → ⊥)
-    → eqb (get_or xs k 0) c ≡ true → split_at_first c xs ≡ Some (take k xs, drop (suc k) xs)
-first-at c [] k below before here = absurd (omega arith)
-first-at c (x ∷ xs) zero below before here = rw here refl
-first-at c (x ∷ xs) (suc k) below before here =
-    rw (
-      false_from_ne_true (eqb x c) (before 0 (omega arith) (omega arith)),
-      first-at c xs k (omega arith) (λ j low high. before (suc j) (omega arith) (omega arith)) here,
-    ) refl
-
-pub split_at_first-is : (c : ℕ) (xs : List ℕ) (r : Option ℕ) → IsFirstByte (is_byte c) xs r
-    → option_map (λ k. (take k xs, drop (k + 1) xs)) r ≡ split_at_first c xs
-split_at_first-is c xs None nowhere = sym (none-at c xs nowhere)
-split_at_first-is c xs (Some k) is = rw add-one (sym (first-at c xs k is.0.high is.0.before is.1))
-
 -- ---- the first piece, and the pieces behind it
-
-abbrev pieces_of : ℕ → List ℕ → Option (List ℕ × List ℕ) → List (List ℕ)
-pieces_of c xs None = xs ∷ []
-pieces_of c xs (Some parts) = parts.0 ∷ pieces c parts.1
-
-pieces-split : (c : ℕ) (xs : List ℕ) → pieces c xs ≡ pieces_of c xs (split_at_first c xs)
-pieces-split c [] = refl
-pieces-split c (x ∷ xs) = by (pieces-split c xs) (eqb x c)
-  where
-    onto : (o : Option (List ℕ × List ℕ)) → onto_first x (pieces_of c xs o) ≡ pieces_of c (x ∷ xs) (option_map (λ parts. (x ∷ parts.0, parts.1)) o)
-    onto None = refl
-    onto (Some parts) = refl
-
-    by : pieces c xs ≡ pieces_of c xs (split_at_first c xs) → (b : Bool) → cond b ([] ∷ pieces c xs) (onto_first x (pieces c xs))
-        ≡ pieces_of c (x ∷ xs) (cond b (Some ([], xs)) (option_map (λ parts. (x ∷ parts.0, parts.1)) (split_at_first c xs)))
-    by rest true = refl
-    by rest false = ap (onto_first x) rest ∙ onto (split_at_first c xs)
 
 without_empty_end-cons : (line : List ℕ) (c : ℕ) (xs : List ℕ) → without_empty_end (line ∷ pieces c xs) ≡ line ∷ without_empty_end (pieces c xs)
 without_empty_end-cons line c xs = rw pieces-split (by (split_at_first c xs))
@@ -71,26 +29,10 @@ lines_of-first b bs = ap without_empty_end (pieces-split 10 (b ∷ bs)) ∙ by (
     by (Some parts) = without_empty_end-cons parts.0 10 parts.1
 
 -- what stands behind the first is shorter
-abbrev IsShorter : ℕ → Option (List ℕ × List ℕ) → Type 0
-IsShorter n None = Unit {0}
-IsShorter n (Some parts) = length parts.1 < n
-
-split_at_first-shorter : (c : ℕ) (xs : List ℕ) → IsShorter (length xs) (split_at_first c xs)
-split_at_first-shorter c [] = tt
-split_at_first-shorter c (x ∷ xs) = by (split_at_first-shorter c xs) (eqb x c)
-  where
-    longer : (o : Option (List ℕ × List ℕ)) → IsShorter (length xs) o → IsShorter (suc (length xs)) (option_map (λ parts. (x ∷ parts.0, parts.1)) o)
-    longer None shorter = tt
-    longer (Some parts) shorter = omega arith
-
-    by : IsShorter (length xs) (split_at_first c xs) → (b : Bool) → IsShorter (suc (length xs)) (cond b (Some ([], xs)) (option_map (λ parts. (x ∷ parts.0, parts.1)) (split_at_first c xs)))
-    by rest true = omega arith
-    by rest false = longer (split_at_first c xs) rest
-
 pub first_line_of-shorter : (b : ℕ) (bs : List ℕ) → length (first_line_of (b ∷ bs)).1 < length (b ∷ bs)
 first_line_of-shorter b bs = by (split_at_first 10 (b ∷ bs)) (split_at_first-shorter 10 (b ∷ bs))
   where
-    by : (o : Option (List ℕ × List ℕ)) → IsShorter (length (b ∷ bs)) o → length (unwrap_or o (b ∷ bs, [])).1 < length (b ∷ bs)
+    by : (o : Option (List ℕ × List ℕ)) → IfSome {T = List ℕ × List ℕ} o (λ parts. length parts.1 < length (b ∷ bs)) → length (unwrap_or o (b ∷ bs, [])).1 < length (b ∷ bs)
     by None shorter = omega arith
     by (Some parts) shorter = shorter
 

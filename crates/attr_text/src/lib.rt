@@ -1,11 +1,13 @@
 //! The texts of attributes: what a write says, the one printing of lines and headers, and values as they are shown.
 #![tactic(auto)]
 
+mod limits;
 mod parts;
 mod print;
 mod read;
 mod show;
 
+pub use limits::passes_limits;
 pub use print::{
     client_header_len, header_len, line_len, print_header, print_line, push_client_header,
     push_header, push_line, push_set, set_len,

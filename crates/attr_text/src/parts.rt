@@ -5,50 +5,14 @@ ghost use Rattle.memchr.specs.Find.{IsFirstByte, is_byte};
 ghost use Rattle.pps_types.specs.Bytes as bytes_words;
 ghost use Rattle.pps_types.specs.Text as text;
 
-use memchr::memchr;
+use text_parts::split_at_first;
 
 const LINE_FEED: u8 = b'\n';
 
 const COLON: u8 = b':';
 
-/// The most bytes that may follow the first of a name.
-const NAME_REST: usize = 254;
-
 /// The most bytes of an encoding.
 const ENCODING_MAX: usize = 32;
-
-#[inline]
-fn starts_name(byte: u8) -> bool
-    ensures { result ≡ text.starts_name byte }
-{
-    byte.is_ascii_alphabetic() || byte == b'_'
-}
-
-#[inline]
-fn continues_name(byte: u8) -> bool
-    ensures { result ≡ text.continues_name byte }
-{
-    starts_name(byte) || byte.is_ascii_digit() || byte == b'.' || byte == b'-'
-}
-
-#[inline]
-fn are_name_bytes(bytes: &[u8]) -> bool
-    ensures { result ≡ list_all text.continues_name bytes.now }
-{
-    bytes.iter().all(|byte| continues_name(*byte))
-}
-
-/// Whether the bytes are an attribute's name: a letter or `_`, and up to 254 letters, digits, `_`, `.` and `-`.
-pub fn is_attribute_name(bytes: &[u8]) -> bool
-    ensures { result ≡ text.is_attribute_name bytes.now }
-{
-    match bytes {
-        [] => false,
-        [first, rest @ ..] => {
-            starts_name(*first) && rest.len() <= NAME_REST && are_name_bytes(rest)
-        }
-    }
-}
 
 #[inline]
 fn is_visible(byte: u8) -> bool
@@ -76,8 +40,7 @@ pub fn is_encoding(bytes: &[u8]) -> bool
 pub fn split_at_line_feed(bytes: &[u8]) -> Option<(&[u8], &[u8])>
     ensures { option_map (λ parts. (parts.0.now, parts.1.now)) result ≡ bytes_words.split_at_first LINE_FEED bytes.now }
 {
-    let at = memchr(LINE_FEED, bytes)?;
-    Some((&bytes[..at], &bytes[at + 1..]))
+    split_at_first(LINE_FEED, bytes)
 }
 
 /// Where the first colon stands. In a good line that is near the start.

@@ -20,13 +20,14 @@ use Rattle.pps_types.specs.Reading.{Open, Answer, Everything, Blocks, Needs, Tar
 use Rattle.pps_types.specs.Rests.{Seen}
 use Rattle.pps_types.specs.Outbox.{arms, first_of}
 use Rattle.pps_types.specs.Content.{Directory, Known, Connection, Content, is_attached, own_handle, connection_numbered, queue_of, members, subdirectories, directory_at, object_at, read_answer, news}
-use Rattle.pps_types.specs.Checks.{Check, Refuse, Memory, first_refusal, parsed, on_handle, on_path, letters_fit, open_checks, read_checks, write_checks, close_checks, mkdir_checks, notify_checks, checks}
+use Rattle.pps_types.specs.Checks.{Refuse, Memory, first_refusal, parsed, on_handle, on_path, letters_fit, open_checks, read_checks, write_checks, close_checks, mkdir_checks, notify_checks, checks}
 use Rattle.pps_types.specs.Plan.{Move, Arms, MakesDirectory, effect, opening, found_object, unlinking, writing, passes_last_number, closing, listing, received, read_effect, with_result, decided, all_checks_of, plan, settling, step_seen, apply_all_seen}
 use Rattle.pps_types.specs.WellFormed.{IsContent}
 use Rattle.pps_types.specs.Machine.{start, shown}
 use Rattle.content_bounds.specs.Bounds.{IsBoundObject, IsBoundItem, IsBoundConnection, IsBound}
 use Rattle.content_bounds.specs.Fit.{AreFit}
 use Rattle.content_bounds.specs.Laws.{BoundsStay, SizesFit}
+use Rattle.pps_types.proofs.Effects.{behind}
 use Rattle.pps_types.proofs.Finds.{all-filter, all-find}
 use Rattle.pps_types.proofs.Passes.{all-pass, none-fails, passes-both}
 use Rattle.content_bounds.proofs.Lists.{all-append}
@@ -35,10 +36,6 @@ use Rattle.content_bounds.proofs.Owners.{handled}
 use Rattle.content_bounds.proofs.Effects.{fit-append, low-number, bound-handle, write-fit, closing-fit, leaving-fit}
 use Rattle.content_bounds.proofs.Opens.{members-crowd, sorted-length, unlink-fit, mkdir-fit, open-fit}
 use Rattle.content_bounds.proofs.Replies.{FitsIn, read-fits, settling-fit, needs-fit, names-length, all-sorted}
-
-behind : (fails : Bool) (r : Refusal) (cs : List Check) → first_refusal (Refuse fails r ∷ cs) ≡ None → first_refusal cs ≡ None
-behind true r cs p = absurd (let h = p in cc)
-behind false r cs p = p
 
 read-size : (c : Content) (size : ℕ) (h : Open Seen) → first_refusal (read_checks c size h) ≡ None → size ≤ 17000000
 read-size c size h p = go (nat_le 1 size) (nat_le size 17000000) refl (all-pass (read_checks c size h) p).1.0

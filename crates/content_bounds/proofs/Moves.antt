@@ -1,7 +1,7 @@
 -- Fit moves keep what stands within its bounds.
 use Rattle.std.proofs.Common.{arith, ap, sym}
 use Rattle.std.specs.Prelude.{◌≡◌, ◌≤◌, ◌<◌, ℕ, ◌+◌, List, [], ◌∷◌, ◌++◌, ◌==◌, Bool, true, false, not, ◌&&◌, cond, nat_lt, Option, Some, None, filter, map, length, refl}
-use Rattle.std.proofs.lemmas.Bool.{eqb-true}
+use Rattle.std.proofs.lemmas.Bool.{and_parts, eqb-true}
 use Rattle.std.proofs.lemmas.List.{length-append}
 use Rattle.std.specs.List.{AllByRecursion, filter_map, cons_option}
 use Rattle.pps_types.specs.declared.record.Kind.{Kind}
@@ -15,6 +15,7 @@ use Rattle.pps_types.specs.Outbox.{behind_first}
 use Rattle.pps_types.specs.Content.{Directory, Known, Connection, Content}
 use Rattle.pps_types.specs.Plan.{Move, Attaches, Leaves, Creates, Happens, Opens, Closes, CatchesUp, Passes, Parks, Arms, Queues, Takes, MakesDirectory, RemovesDirectory, without_first, on_numbered, requeued, creation, offered, offer, still_known, touched, caught_up, left, first_seen, apply_seen, apply_all_seen, with_connection}
 use Rattle.pps_types.proofs.Lists.{all-push, all-on_first, all-without_first}
+use Rattle.pps_types.proofs.Trees.{touched-of}
 use Rattle.content_bounds.specs.Bounds.{IsShort, AreShort, IsBoundObject, IsBoundHandle, IsBoundItem, IsBoundConnection, crowd, IsBound}
 use Rattle.content_bounds.specs.Fit.{IsFit, AreFit}
 use Rattle.content_bounds.proofs.Lists.{all-from_first, all-past, all-pushed, filter-push}
@@ -91,19 +92,7 @@ bound-objects e (o ∷ os) all stay = go (touched e o) (bound-touched e o all.0 
     go (Some p) b rest = (b, rest)
 
 pub touched-directory : (e : Entry) (o : Known) → OfSome (λ p. p.object.directory ≡ o.object.directory) (touched e o)
-touched-directory e o = elim (e.record_of.object == o.object.number) as (λ b. OfSome (λ (p : Known). p.object.directory ≡ o.object.directory) (cond b (still_known o e.record_of.kind) (Some o))) [ true ↦ still e.record_of.kind | false ↦ refl ]
-  where
-    still : (k : Kind) → OfSome (λ (p : Known). p.object.directory ≡ o.object.directory) (still_known o k)
-    still Created = refl
-    still (Change lines) = refl
-    still Truncated = refl
-    still Dropped = refl
-    still Deleted = tt
-    still (Opened id) = refl
-    still (Closed id) = refl
-    still (FromClient id lines) = refl
-    still (ToClient id lines) = refl
-    still (ToAll lines) = refl
+touched-directory e o = touched-of (λ object. object.directory ≡ o.object.directory) e o refl
 
 one-each : {X : Type 0} (p o : X) (a b : Bool) → a ≡ b → (xs ys : List X) → length xs ≤ length ys → length (cond a (p ∷ xs) xs) ≤ length (cond b (o ∷ ys) ys)
 one-each p o true true e xs ys le = omega (arith, le)
@@ -148,25 +137,37 @@ at-most p y most xs le less = rw (filter-push p xs y, length-append (filter p xs
     go true e = omega (arith, less e)
     go false e = omega (arith, le)
 
-both-true : (a b : Bool) → (a && b) ≡ true → b ≡ true
-both-true true b e = e
-both-true false b e = cc
-
--- the handle of that number changed
-with-handles : (c : Content) (number : ℕ) (change : Open Seen → Open Seen) → IsBound c → ((h : Open Seen) → IsBoundHandle h → IsBoundHandle (change h)) → IsBound (record c { handles = on_numbered number change c.handles })
-with-handles c number change s keeps = record {
+-- other handles
+with-handles : (c : Content) (handles : List (Open Seen)) → IsBound c → AllByRecursion IsBoundHandle handles → IsBound (record c { handles = handles })
+with-handles c handles s bound = record {
   handles_end = s.handles_end;
   objects = s.objects;
   crowds = s.crowds;
   directories = s.directories;
   branches = s.branches;
-  handles = all-on_first IsBoundHandle (λ h. h.number == number) change keeps c.handles s.handles;
+  handles = bound;
   queues = s.queues;
 }
 
+-- the handle of that number changed
+with-handle : (c : Content) (number : ℕ) (change : Open Seen → Open Seen) → IsBound c → ((h : Open Seen) → IsBoundHandle h → IsBoundHandle (change h)) → IsBound (record c { handles = on_numbered number change c.handles })
+with-handle c number change s keeps = with-handles c (on_numbered number change c.handles) s (all-on_first IsBoundHandle (λ h. h.number == number) change keeps c.handles s.handles)
+
+-- other queues
+with-queues : (c : Content) (queues : List Connection) → IsBound c → AllByRecursion IsBoundConnection queues → IsBound (record c { connections = queues })
+with-queues c queues s bound = record {
+  handles_end = s.handles_end;
+  objects = s.objects;
+  crowds = s.crowds;
+  directories = s.directories;
+  branches = s.branches;
+  handles = s.handles;
+  queues = bound;
+}
+
 pub keeps-bound : (c : Content) (x : Move) → IsBound c → IsFit c x → IsBound (apply_seen x c)
-keeps-bound c (Attaches conn) s f = record { handles_end = s.handles_end; objects = s.objects; crowds = s.crowds; directories = s.directories; branches = s.branches; handles = s.handles; queues = bound-connection conn c.connections s.queues }
-keeps-bound c (Leaves conn) s f = record { handles_end = s.handles_end; objects = s.objects; crowds = s.crowds; directories = s.directories; branches = s.branches; handles = s.handles; queues = all-without_first IsBoundConnection (λ x. x.number == conn) c.connections s.queues }
+keeps-bound c (Attaches conn) s f = with-queues c _ s (bound-connection conn c.connections s.queues)
+keeps-bound c (Leaves conn) s f = with-queues c _ s (all-without_first IsBoundConnection (λ x. x.number == conn) c.connections s.queues)
 keeps-bound c (Creates o) s f = record {
   handles_end = s.handles_end;
   objects = all-push IsBoundObject c.objects (record { object = o; attributes = [] }) s.objects (f.0, omega arith);
@@ -194,43 +195,19 @@ keeps-bound c (Opens h) s f = record {
   handles = all-push IsBoundHandle c.handles (reseen (λ h. first_seen h (style h.kind)) h) s.handles (record { name = f.1; parked = rw f.2 tt; owed = short-first h (style h.kind); listens = f.3 });
   queues = s.queues;
 }
-keeps-bound c (Closes number) s f = record {
-  handles_end = s.handles_end;
-  objects = s.objects;
-  crowds = s.crowds;
-  directories = s.directories;
-  branches = s.branches;
-  handles = all-without_first IsBoundHandle (λ h. h.number == number) c.handles s.handles;
-  queues = s.queues;
-}
-keeps-bound c (CatchesUp number) s f = with-handles c number (reseen caught_up) s (λ h b. bound-reseen caught_up h (short-seen_of h [] tt) b)
-keeps-bound c (Passes number count) s f = with-handles c number (reseen (λ h. left h count h.seen)) s (λ h b. bound-reseen (λ h. left h count h.seen) h (short-left h count h.seen b.owed) b)
-keeps-bound c (Parks number size) s f = with-handles c number (λ h. record h { parked = size }) s (λ h b. record { name = b.name; parked = f; owed = b.owed; listens = b.listens })
-keeps-bound c (Arms number pulse) s f = with-handles c number (λ h. record h { armed = pulse }) s (λ h b. record { name = b.name; parked = b.parked; owed = b.owed; listens = b.listens })
-keeps-bound c (Queues conn item) s f = record {
-  handles_end = s.handles_end;
-  objects = s.objects;
-  crowds = s.crowds;
-  directories = s.directories;
-  branches = s.branches;
-  handles = s.handles;
-  queues = all-on_first IsBoundConnection (λ x. x.number == conn) (requeued (λ items. items ++ item ∷ [])) (λ x b. all-push IsBoundItem x.queue item b f) c.connections s.queues;
-}
-keeps-bound c (Takes conn) s f = record {
-  handles_end = s.handles_end;
-  objects = s.objects;
-  crowds = s.crowds;
-  directories = s.directories;
-  branches = s.branches;
-  handles = s.handles;
-  queues = all-on_first IsBoundConnection (λ x. x.number == conn) (requeued behind_first) (λ x b. bound-behind x.queue b) c.connections s.queues;
-}
+keeps-bound c (Closes number) s f = with-handles c _ s (all-without_first IsBoundHandle (λ h. h.number == number) c.handles s.handles)
+keeps-bound c (CatchesUp number) s f = with-handle c number (reseen caught_up) s (λ h b. bound-reseen caught_up h (short-seen_of h [] tt) b)
+keeps-bound c (Passes number count) s f = with-handle c number (reseen (λ h. left h count h.seen)) s (λ h b. bound-reseen (λ h. left h count h.seen) h (short-left h count h.seen b.owed) b)
+keeps-bound c (Parks number size) s f = with-handle c number (λ h. record h { parked = size }) s (λ h b. record { name = b.name; parked = f; owed = b.owed; listens = b.listens })
+keeps-bound c (Arms number pulse) s f = with-handle c number (λ h. record h { armed = pulse }) s (λ h b. record { name = b.name; parked = b.parked; owed = b.owed; listens = b.listens })
+keeps-bound c (Queues conn item) s f = with-queues c _ s (all-on_first IsBoundConnection (λ x. x.number == conn) (requeued (λ items. items ++ item ∷ [])) (λ x b. all-push IsBoundItem x.queue item b f) c.connections s.queues)
+keeps-bound c (Takes conn) s f = with-queues c _ s (all-on_first IsBoundConnection (λ x. x.number == conn) (requeued behind_first) (λ x b. bound-behind x.queue b) c.connections s.queues)
 keeps-bound c (MakesDirectory path) s f = record {
   handles_end = s.handles_end;
   objects = s.objects;
   crowds = s.crowds;
   directories = all-push (λ (d : Directory). length (last_name d.path) ≤ 255) c.directories (record { number = c.next_directory; path = path }) s.directories f.0;
-  branches = λ p. at-most (λ (d : Directory). not (same_path d.path []) && same_path (parent d.path) p) (record { number = c.next_directory; path = path }) 256 c.directories (s.branches p) (λ own. f.1 p (both-true (not (same_path path [])) (same_path (parent path) p) own));
+  branches = λ p. at-most (λ (d : Directory). not (same_path d.path []) && same_path (parent d.path) p) (record { number = c.next_directory; path = path }) 256 c.directories (s.branches p) (λ own. f.1 p (and_parts (not (same_path path [])) (same_path (parent path) p) own).1);
   handles = s.handles;
   queues = s.queues;
 }

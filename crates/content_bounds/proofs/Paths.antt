@@ -17,7 +17,7 @@ name-parts true true c d e = refl
 name-parts true false c d e = e
 name-parts false b c d e = absurd (let h = e in cc)
 
-last-short : (names : Path) → list_all is_path_name names ≡ true → length (last_name names) ≤ 255
+pub last-short : (names : Path) → list_all is_path_name names ≡ true → length (last_name names) ≤ 255
 last-short [] e = omega arith
 last-short (n ∷ []) e =
     let first = and-both (is_path_name n) true e in

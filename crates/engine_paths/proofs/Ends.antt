@@ -1,17 +1,8 @@
--- The last name of a path, and the names before it.
+-- The names before the last one of a path.
 use Rattle.std.proofs.Common.{◌≡◌, [], ◌∷◌, ◌++◌, not, refl, ap, ◌∙◌}
 use Rattle.std.specs.Prelude.{◌&&◌}
-use Rattle.pps_types.specs.Names.{Path, Name, parent, last_name, same_path}
-
-pub parent-push : (names : Path) (n : Name) → parent (names ++ n ∷ []) ≡ names
-parent-push [] n = refl
-parent-push (m ∷ []) n = refl
-parent-push (m ∷ p ∷ ps) n = ap (λ ns. m ∷ ns) (parent-push (p ∷ ps) n)
-
-pub last_name-push : (names : Path) (n : Name) → last_name (names ++ n ∷ []) ≡ n
-last_name-push [] n = refl
-last_name-push (m ∷ []) n = refl
-last_name-push (m ∷ p ∷ ps) n = last_name-push (p ∷ ps) n
+use Rattle.pps_types.specs.Names.{Path, Name, parent, same_path}
+use Rattle.pps_types.proofs.PathEnds.{parent-push}
 
 is_in-names : (names : Path) (n : Name) (directory : Path) → (not (same_path (names ++ n ∷ []) []) && same_path (parent (names ++ n ∷ [])) directory) ≡ same_path (parent (names ++ n ∷ [])) directory
 is_in-names [] n directory = refl

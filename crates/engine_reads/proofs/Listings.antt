@@ -7,20 +7,11 @@ use Rattle.std.specs.Option.{option_map_or}
 use Rattle.pps_types.specs.Names.{Path, Name, parent, last_name, same_path, name_cmp, insert_by, sorted_by}
 use Rattle.pps_types.specs.Content.{Known, Directory, Content, members, directory_at, subdirectories}
 use Rattle.pps_types.specs.Plan.{listing}
+use Rattle.pps_types.proofs.PathEnds.{parent-push, last_name-push}
 use Rattle.engine_reads.specs.Listed.{Listed, listed_object, listed_directory, insert, sorted_onto, is_directly_in, directories_onto, print_name}
 use Rattle.engine_reads.proofs.Sorted.{inserted-map}
 
 -- ---- paths
-
-parent-push : (names : Path) (n : Name) → parent (names ++ n ∷ []) ≡ names
-parent-push [] n = refl
-parent-push (m ∷ []) n = refl
-parent-push (m ∷ p ∷ ps) n = ap (λ ns. m ∷ ns) (parent-push (p ∷ ps) n)
-
-last_name-push : (names : Path) (n : Name) → last_name (names ++ n ∷ []) ≡ n
-last_name-push [] n = refl
-last_name-push (m ∷ []) n = refl
-last_name-push (m ∷ p ∷ ps) n = last_name-push (p ∷ ps) n
 
 not_root : (names : Path) (n : Name) → same_path (names ++ n ∷ []) [] ≡ false
 not_root [] n = refl

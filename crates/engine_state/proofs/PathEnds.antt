@@ -1,18 +1,9 @@
--- The last name of a path, and the names before it.
+-- What stands at a path, by its last name and the names before it.
 use Rattle.std.proofs.Common.{◌≡◌, [], ◌∷◌, ◌++◌, refl, ap, ◌∙◌}
 use Rattle.std.specs.Prelude.{option_map, option_and_then}
 use Rattle.pps_types.specs.Names.{Path, Name, parent, last_name}
 use Rattle.pps_types.specs.Content.{Content, object_in, object_at, directory_at}
-
-parent-push : (names : Path) (n : Name) → parent (names ++ n ∷ []) ≡ names
-parent-push [] n = refl
-parent-push (m ∷ []) n = refl
-parent-push (m ∷ p ∷ ps) n = ap (λ ns. m ∷ ns) (parent-push (p ∷ ps) n)
-
-last_name-push : (names : Path) (n : Name) → last_name (names ++ n ∷ []) ≡ n
-last_name-push [] n = refl
-last_name-push (m ∷ []) n = refl
-last_name-push (m ∷ p ∷ ps) n = last_name-push (p ∷ ps) n
+use Rattle.pps_types.proofs.PathEnds.{parent-push, last_name-push}
 
 object_at-names : (c : Content) (names : Path) (n : Name) → object_at c (names ++ n ∷ []) ≡ option_and_then (object_in c (last_name (names ++ n ∷ []))) (option_map (λ d. d.number) (directory_at c (parent (names ++ n ∷ []))))
 object_at-names c [] n = refl

@@ -6,12 +6,13 @@ ghost use Rattle.pps_types.specs.Checks as checking;
 ghost use Rattle.engine_writes.specs.Addressed.{addressee_of};
 
 use pps_types::Bytes;
+use text_parts::{after_prefix, number_up_to};
 
 /// The most digits of an identifier.
 const ID_DIGITS: usize = 10;
 
 /// The largest identifier.
-const ID_MAX: u64 = 4_294_967_295;
+const ID_MAX: u32 = 4_294_967_295;
 
 /// Whom a message of a server is for.
 #[derive(Clone, Copy, Debug, PartialEq, Eq)]
@@ -33,15 +34,8 @@ pub(crate) fn is_foreign(name: &[u8], header: Option<&Bytes>) -> bool
     }
 }
 
-// What follows a prefix.
-fn after_prefix<'a>(prefix: &[u8], bytes: &'a [u8]) -> Option<&'a [u8]>
-    ensures { option_copied result ≡ words.after_prefix prefix.now bytes.now }
-{
-    bytes.strip_prefix(prefix)
-}
-
 // What follows an object's name and a dot.
-#[tactic(auto, using(crate::proofs::Prefixes::after_prefix_joined))]
+#[tactic(auto, using(text_parts::proofs::Cuts::after_prefix_joined))]
 fn after_name<'a>(name: &[u8], header: &'a [u8]) -> Option<&'a [u8]>
     ensures { option_copied result ≡ words.after_prefix (name.now ++ codes ".") header.now }
 {
@@ -49,26 +43,6 @@ fn after_name<'a>(name: &[u8], header: &'a [u8]) -> Option<&'a [u8]>
         None => None,
         Some(rest) => after_prefix(b".", rest),
     }
-}
-
-// An identifier: 1 to 10 digits without a leading zero, at most 4,294,967,295.
-fn read_id(digits: &[u8]) -> Option<u32>
-    ensures { result ≡ words.number_up_to 10 4294967295 digits.now }
-{
-    if digits.is_empty() || digits.len() > ID_DIGITS || digits[0] == b'0' {
-        return None;
-    }
-    let mut number = 0u64;
-    'digits: for byte in digits {
-        if !byte.is_ascii_digit() {
-            return None;
-        }
-        number = 10 * number + u64::from(*byte - b'0');
-        if number > ID_MAX {
-            return None;
-        }
-    }
-    Some(number as u32)
 }
 
 /// Whom the header of a server's text names, where the object has that name: `@name` all clients, and `@name.id` one.
@@ -84,7 +58,7 @@ pub(crate) fn addressee(name: &[u8], header: Option<&Bytes>) -> Recipient
     let Some(digits) = after_name(name, header.as_slice()) else {
         return Recipient::Nobody;
     };
-    match read_id(digits) {
+    match number_up_to(ID_DIGITS, ID_MAX, digits) {
         None => Recipient::Nobody,
         Some(id) => Recipient::OneClient(id),
     }

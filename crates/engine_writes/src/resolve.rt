@@ -5,7 +5,7 @@ ghost use Rattle.pps_types.specs.History as history;
 
 use attr_text::WriteLines;
 use engine_state::{Attribute, apply_line};
-use pps_types::{Line, Mark, WriteLine};
+use pps_types::{Line, WriteLine};
 use std::alloc::{AllocError, Global};
 
 // Whether an attribute of that name is there and nonpersistent.
@@ -20,16 +20,6 @@ fn is_marked(name: &[u8], attributes: &[Attribute]) -> bool
     false
 }
 
-fn marked_by(mark: Mark, before: bool) -> bool
-    ensures { result ≡ history.marked_by mark before }
-{
-    match mark {
-        Mark::Keep => before,
-        Mark::On => true,
-        Mark::Off => false,
-    }
-}
-
 // The line that a line of a write comes to where these attributes stand.
 fn resolved(attributes: &[Attribute], line: WriteLine) -> Line
     ensures { result ≡ history.resolved attributes.now line }
@@ -41,7 +31,7 @@ fn resolved(attributes: &[Attribute], line: WriteLine) -> Line
             value,
             mark,
         } => {
-            let n = marked_by(mark, is_marked(name.as_slice(), attributes));
+            let n = mark.applied_to(is_marked(name.as_slice(), attributes));
             Line::Set {
                 name,
                 enc,
@@ -86,7 +76,7 @@ fn message_line(line: WriteLine) -> Line
             name,
             enc,
             value,
-            n: marked_by(mark, false),
+            n: mark.applied_to(false),
         },
         WriteLine::Del { name } => Line::Del { name },
     }

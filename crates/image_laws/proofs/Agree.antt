@@ -25,15 +25,12 @@ use Rattle.image_laws.proofs.Good.{IsEntry, AreEntries, IsGood}
 use Rattle.image_laws.proofs.Entries.{follow-parts}
 use Rattle.image_laws.proofs.Sorting.{any-sorted}
 use Rattle.image_laws.proofs.Started.{Held, content_of, nothing, restored_held, held_by, directories_of, objects_of, home-of, parent-last, restored-one, started-held}
+use Rattle.pps_types.proofs.Passes.{behind as first-passes}
 use Rattle.image_laws.proofs.Saving.{parent-among, none-objects, none-directories, count-directories, count-objects, any-objects, all-pass, root-is, beside-home}
 use Rattle.image_laws.proofs.Restoring.{IsFine, fine-content, started-fine, count-saved}
 use Rattle.image_laws.proofs.Calls.{Leads, IsSmall, small-next, call-directory, call-creation, object-line-decides, length-sorted}
 
 -- ---- none of the checks refuses
-
-first-passes : (b : Bool) (r : Refusal) (checks : List Check) → first_refusal (Refuse b r ∷ checks) ≡ None → (b ≡ false) × (first_refusal checks ≡ None)
-first-passes true r checks h = absurd cc
-first-passes false r checks h = (refl, h)
 
 front-passes : (checks more : List Check) → first_refusal (checks ++ more) ≡ None → first_refusal checks ≡ None
 front-passes [] more h = refl

@@ -2,6 +2,7 @@
 use Rattle.std.proofs.Common.{◌≡◌, ◌≤◌, Bool, true, false, cond, not, ◌||◌, List, [], ◌∷◌, ◌++◌, length, map, refl, sym, ap, ◌∙◌, arith}
 use Rattle.std.specs.Prelude.{filter, fold}
 use Rattle.std.specs.List.{list_any, AllByRecursion}
+use Rattle.std.proofs.lemmas.List.Filters.{length-filter_both}
 use Rattle.std.specs.Cmp.Lexicographic.{same_text}
 use Rattle.pps_types.specs.declared.line.Line.{Line}
 use Rattle.pps_types.specs.declared.line.Line.TheVariants.{Set, Del}
@@ -13,7 +14,7 @@ use Rattle.pps_types.specs.Image.{SavedLine, saved_line}
 use Rattle.image_laws.specs.Images.{is_saved_line, is_new}
 use Rattle.image_laws.specs.Savable.{AreAttributes, AreSavable}
 use Rattle.image_laws.proofs.Texts.{IsWritten}
-use Rattle.image_laws.proofs.Numbers.{same-sym}
+use Rattle.text_parts.proofs.Same.{same-sym}
 
 -- ---- names
 
@@ -66,8 +67,7 @@ same-attributes before others [] narrow h = tt
 same-attributes before others (a ∷ attributes) narrow h = (h.0, narrow (saved_line a) h.1, same-attributes (before ++ a ∷ []) (others ++ a ∷ []) attributes (narrower-push before others a narrow) h.2)
 
 fewer-length : (test : Attribute → Bool) (attributes : List Attribute) → length (filter test attributes) ≤ length attributes
-fewer-length test [] = omega arith
-fewer-length test (a ∷ attributes) = elim (test a) as (λ t. length (cond t (a ∷ filter test attributes) (filter test attributes)) ≤ length (a ∷ attributes)) [ true ↦ omega (arith, fewer-length test attributes) | false ↦ omega (arith, fewer-length test attributes) ]
+fewer-length test attributes = omega (arith, length-filter_both test (λ a. not (test a)) (λ a. refl) attributes)
 
 pub savable-fewer : (test : Attribute → Bool) (attributes : List Attribute) → AreSavable attributes → AreSavable (filter test attributes)
 savable-fewer test attributes h = (fewer-attributes test [] [] attributes (λ l new. new) h.0, (let le = fewer-length test attributes in omega (arith, h.1)))

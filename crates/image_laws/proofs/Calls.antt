@@ -3,7 +3,7 @@ use Rattle.std.proofs.Common.{◌≡◌, ℕ, zero, suc, ◌+◌, ◌-◌, ◌*�
 use Rattle.std.specs.Prelude.{filter, find, option_map, unwrap_or, nat_le, nat_lt}
 use Rattle.std.specs.Option.{option_map_or, option_or}
 use Rattle.std.specs.List.{list_all, list_any, AllByRecursion}
-use Rattle.std.proofs.lemmas.Bool.{and_parts, and_from, eqb-true, eq-eqb}
+use Rattle.std.proofs.lemmas.Bool.{and_parts, and_from, eqb-true, eq-eqb, not-true}
 use Rattle.std.proofs.lemmas.Bool.Decides.{nat_tests}
 use Rattle.std.specs.Ordering.{is_lt}
 use Rattle.std.specs.declared.cmp.Ordering.{Ordering}
@@ -30,7 +30,7 @@ use Rattle.image_laws.specs.Images.{is_new, is_saved_line, AreLines}
 use Rattle.image_laws.specs.Savable.{object_path}
 use Rattle.image_laws.proofs.Good.{IsEntry, AreEntries, IsGood}
 use Rattle.image_laws.proofs.Places.{places}
-use Rattle.image_laws.proofs.Numbers.{same-is}
+use Rattle.text_parts.proofs.Same.{same-is}
 use Rattle.image_laws.proofs.Entries.{follow-parts}
 use Rattle.image_laws.proofs.Printed.{count-push}
 use Rattle.image_laws.proofs.Started.{Held, content_of, nothing, known_with, with_directory, restored_held, held_by, IsHome, home-of, parent-there, parent-last, lines-applied, put-new, started-held, restored_attribute}
@@ -120,11 +120,7 @@ find-none : (p : Path) (ds : List Directory) → list_all (λ q. not (same_path 
 find-none p [] h = refl
 find-none p (x ∷ ds) h =
     let parts = and_parts (not (same_path x.path p)) (list_all (λ q. not (same_path q p)) (map (λ d. d.path) ds)) h in
-    rw (is-false (same_path x.path p) parts.0) (find-none p ds parts.1)
-  where
-    is-false : (t : Bool) → not t ≡ true → t ≡ false
-    is-false true h = absurd cc
-    is-false false h = refl
+    rw (not-true (same_path x.path p) parts.0) (find-none p ds parts.1)
 
 -- no object of that name in that directory, where its path is another's
 object-none : (c : Content) (p : Path) (name : List ℕ) (number : ℕ) (os : List Known) → directory_path c number ++ name ∷ [] ≡ p → list_all (λ q. not (same_path q p)) (map (object_path c) os) ≡ true

@@ -4,11 +4,12 @@ use Rattle.std.specs.Prelude.{is_some, find, filter, option_map, option_and_then
 use Rattle.std.specs.List.{list_all, list_any, AllByRecursion}
 use Rattle.std.proofs.lemmas.Bool.{and_from}
 use Rattle.std.proofs.lemmas.List.Folds.{list_all-append}
-use Rattle.pps_types.specs.Names.{Name, Path, same_path, parent, last_name}
+use Rattle.pps_types.specs.Names.{Name, Path, same_path, parent}
 use Rattle.pps_types.specs.Content.{Directory, Known, Content, directory_at, object_at, object_in}
 use Rattle.pps_types.specs.WellFormed.{AreRising, IsContent, directory_numbered}
 use Rattle.pps_types.specs.Image.{directory_path}
 use Rattle.pps_types.proofs.Finds.{some-of, all-both, all-imp, all-find, find-true}
+use Rattle.pps_types.proofs.PathEnds.{parent-push, last_name-push}
 use Rattle.pps_types.proofs.Rising.{rising-above}
 use Rattle.pps_types.proofs.Trees.{same_path-is}
 use Rattle.image_laws.specs.Savable.{object_path}
@@ -42,18 +43,6 @@ found-first test (y ∷ ys) x e = by (test y) e (found-first test ys x)
     by true e rec = (filter test ys, let is : y ≡ x = cc in ap (λ y. y ∷ filter test ys) is)
     by false e rec = rec e
 
--- ---- paths
-
-pub parent-push : (p : Path) (n : Name) → parent (p ++ n ∷ []) ≡ p
-parent-push [] n = refl
-parent-push (m ∷ []) n = refl
-parent-push (m ∷ k ∷ p) n = ap (λ rest. m ∷ rest) (parent-push (k ∷ p) n)
-
-pub last-push : (p : Path) (n : Name) → last_name (p ++ n ∷ []) ≡ n
-last-push [] n = refl
-last-push (m ∷ []) n = refl
-last-push (m ∷ k ∷ p) n = last-push (k ∷ p) n
-
 -- ---- what stands at a path
 
 -- the path of a directory is that of its number
@@ -64,7 +53,7 @@ home-path c n d e = let f = found-first (λ (d : Directory). eqb d.number n) c.d
 object-there : (c : Content) (p : Path) (n : Name) (d : Directory) (o : Known) → directory_at c p ≡ Some d → object_in c n d.number ≡ Some o → object_at c (p ++ n ∷ []) ≡ Some o
 object-there c [] n d o e f = ap (λ k. option_and_then (object_in c n) (option_map (λ (d : Directory). d.number) k)) e ∙ f
 object-there c (m ∷ ms) n d o e f =
-    (λ i. option_and_then (object_in c (last-push (m ∷ ms) n i)) (option_map (λ (d : Directory). d.number) (directory_at c (parent-push (m ∷ ms) n i))))
+    (λ i. option_and_then (object_in c (last_name-push (m ∷ ms) n i)) (option_map (λ (d : Directory). d.number) (directory_at c (parent-push (m ∷ ms) n i))))
     ∙ ap (λ k. option_and_then (object_in c n) (option_map (λ (d : Directory). d.number) k)) e ∙ f
 
 module _ (c : Content) (w : IsContent c) where

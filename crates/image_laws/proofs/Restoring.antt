@@ -1,15 +1,14 @@
 -- What an image starts is within the bounds, and can be saved.
 use Rattle.std.proofs.Common.{◌≡◌, ℕ, suc, ◌+◌, ◌≤◌, ◌<◌, Bool, true, false, cond, not, ◌&&◌, eqb, List, [], ◌∷◌, ◌++◌, length, map, refl, sym, ap, subst, ◌∙◌, append_assoc, length-append, arith}
-use Rattle.std.specs.Prelude.{filter, unwrap_or, nat_le}
+use Rattle.std.specs.Prelude.{filter, unwrap_or}
 use Rattle.std.specs.List.{list_all, AllByRecursion}
 use Rattle.std.specs.Ordering.{is_lt}
-use Rattle.std.proofs.lemmas.Bool.{and_parts, and_from, eqb-true}
-use Rattle.std.proofs.lemmas.Bool.Decides.{nat_tests}
+use Rattle.std.proofs.lemmas.Bool.{and_parts, and_from, eqb-true, not-true}
 use Rattle.std.proofs.lemmas.List.Folds.{list_all-append}
-use Rattle.pps_types.specs.Bytes.{is_empty, is_between, starts_with}
+use Rattle.pps_types.specs.Bytes.{is_empty}
 use Rattle.pps_types.specs.Text.{print_lines}
 use Rattle.pps_types.specs.Names.{Path, same_path, parent, last_name, path_cmp}
-use Rattle.pps_types.specs.OpenText.{is_path_name, are_names}
+use Rattle.pps_types.specs.OpenText.{are_names}
 use Rattle.pps_types.specs.History.{line_of}
 use Rattle.pps_types.specs.Content.{Object, Directory, Known, Content, subdirectories}
 use Rattle.pps_types.specs.WellFormed.{IsContent}
@@ -21,7 +20,8 @@ use Rattle.content_bounds.specs.Bounds.{IsBoundObject, crowd, IsBound}
 use Rattle.image_laws.specs.Images.{is_new, AreLines, IsSavedPath}
 use Rattle.image_laws.specs.Savable.{object_path, AreAttributes, AreSavable, CanBeSaved}
 use Rattle.image_laws.proofs.Good.{IsEntry, AreEntries, IsGood}
-use Rattle.image_laws.proofs.Places.{parent-push}
+use Rattle.pps_types.proofs.PathEnds.{parent-push}
+use Rattle.content_bounds.proofs.Paths.{last-short}
 use Rattle.image_laws.proofs.Paths.{names-of}
 use Rattle.image_laws.proofs.Entries.{MayFollow, follow-parts}
 use Rattle.image_laws.proofs.Printed.{count-push}
@@ -31,18 +31,6 @@ use Rattle.image_laws.proofs.Sorted.{lt-other}
 use Rattle.image_laws.proofs.Saving.{count-append, all-pass}
 
 -- ---- names and texts
-
-last-short : (path : Path) → list_all is_path_name path ≡ true → length (last_name path) ≤ 255
-last-short [] h = omega arith
-last-short (n ∷ []) h =
-    let named = (and_parts (is_path_name n) true h).0 in
-    let a = and_parts (not (is_empty n) && nat_le (length n) 255 && list_all (λ b. is_between 33 126 b && not (eqb b 47) && not (eqb b 63)) n) (not (starts_with 46 n)) named in
-    let b = and_parts (not (is_empty n) && nat_le (length n) 255) (list_all (λ b. is_between 33 126 b && not (eqb b 47) && not (eqb b 63)) n) a.0 in
-    within (length n) (and_parts (not (is_empty n)) (nat_le (length n) 255) b.0).1
-  where
-    within : (k : ℕ) → nat_le k 255 ≡ true → k ≤ 255
-    within k h = grind (arith, nat_tests)
-last-short (n ∷ m ∷ ms) h = last-short (m ∷ ms) (and_parts (is_path_name n) (list_all is_path_name (m ∷ ms)) h).1
 
 name-short : (path : Path) → are_names path ≡ true → length (last_name path) ≤ 255
 name-short path h = last-short path (names-of path h)
@@ -193,7 +181,7 @@ fine-directory d h before path fine e =
     let nonroot = count-push (λ (x : Directory). not (is_empty x.path)) h.directories added in
     let pushed : length (filter (λ (x : Directory). not (is_empty x.path)) (h.directories ++ added ∷ [])) ≡ length (filter (λ (x : Directory). not (is_empty x.path)) h.directories) + 1 = nonroot ∙ rw is_some refl in
     let longer = length-append h.directories (added ∷ []) in
-    let all_dirs = more-directories (same_sort entry) (λ x. not (is_empty x.path)) (λ x t. (refl, is-false (is_empty x.path) t)) h.directories in
+    let all_dirs = more-directories (same_sort entry) (λ x. not (is_empty x.path)) (λ x t. (refl, not-true (is_empty x.path) t)) h.directories in
     let total = count-saved c before (same_sort entry) fine.saves in
     let room = follows.all in
     let counted = fine.counted in
@@ -224,10 +212,6 @@ fine-directory d h before path fine e =
       counted = omega arith;
     }
   where
-    is-false : (t : Bool) → not t ≡ true → t ≡ false
-    is-false true h = absurd cc
-    is-false false h = refl
-
     branch : (p : Path) → length (subdirectories (content_of d (with_directory h path)) p) ≡ length (subdirectories (content_of d h) p) + cond (not (same_path path []) && same_path (parent path) p) 1 0 → length (subdirectories (content_of d (with_directory h path)) p) ≤ 256
     branch p is = by (not (same_path path []) && same_path (parent path) p) refl is
       where

@@ -13,13 +13,14 @@ use Rattle.pps_types.specs.WellFormed.{IsContent}
 use Rattle.pps_types.specs.Image.{SavedLine, Saved, SavedDirectory, SavedObject, path_of, as_line, saved_line, directory_path, is_kept, saved_object, saved, image, is_directory_entry, same_sort, has_parent, are_beside, read_image}
 use Rattle.pps_types.proofs.Lists.{append-nil}
 use Rattle.pps_types.proofs.Finds.{is-some}
+use Rattle.pps_types.proofs.PathEnds.{parent-push}
 use Rattle.pps_types.proofs.Trees.{same_path-is}
 use Rattle.content_bounds.specs.Bounds.{IsBoundObject, IsBound}
 use Rattle.content_bounds.proofs.Lists.{filter-push}
 use Rattle.image_laws.specs.Images.{is_new, AreLines, IsSavedPath}
 use Rattle.image_laws.specs.Savable.{object_path, AreAttributes, AreSavable, CanBeSaved}
 use Rattle.image_laws.proofs.Good.{IsGood}
-use Rattle.image_laws.proofs.Places.{any-found, parent-push, home, same-home, AreApart, ArePlaced, places}
+use Rattle.image_laws.proofs.Places.{any-found, home, same-home, AreApart, ArePlaced, places}
 use Rattle.image_laws.proofs.Printed.{image_text-read}
 use Rattle.image_laws.proofs.Sorted.{IsWell, sorted-entries}
 

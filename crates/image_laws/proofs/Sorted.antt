@@ -6,7 +6,7 @@ use Rattle.std.specs.Ordering.{is_lt, ordering_reverse}
 use Rattle.std.specs.declared.cmp.Ordering.{Ordering}
 use Rattle.std.specs.declared.cmp.Ordering.TheVariants.{Less, Equal, Greater}
 use Rattle.std.specs.FinMap.{IsAntisymmetric, nat_cmp-IsAntisymmetric, slice_cmp-IsAntisymmetric}
-use Rattle.std.proofs.lemmas.Bool.{and_parts, and_from}
+use Rattle.std.proofs.lemmas.Bool.{and_parts, and_from, not-true}
 use Rattle.std.proofs.lemmas.Bool.Decides.{nat_tests}
 use Rattle.std.proofs.lemmas.Cmp.{nat_list_cmp_total}
 use Rattle.std.proofs.lemmas.List.Folds.{list_all-append}
@@ -96,15 +96,11 @@ above-insert p e (x ∷ es) lt h =
 abbrev differs : Path → List Saved → Bool
 differs p es = list_all (λ x. not (same_path p (path_of x))) es
 
-is-false : (t : Bool) → not t ≡ true → t ≡ false
-is-false true h = absurd cc
-is-false false h = refl
-
 insert-rising : (e : Saved) (es : List Saved) → differs (path_of e) es ≡ true → AreRising es → AreRising (insert e es)
 insert-rising e [] apart r = (refl, tt)
 insert-rising e (x ∷ es) apart r =
     let parts = and_parts (not (same_path (path_of e) (path_of x))) (differs (path_of e) es) apart in
-    by (is_lt (path_cmp (path_of e) (path_of x))) refl (is-false _ parts.0) (insert-rising e es parts.1 r.1)
+    by (is_lt (path_cmp (path_of e) (path_of x))) refl (not-true _ parts.0) (insert-rising e es parts.1 r.1)
   where
     by : (b : Bool) → is_lt (path_cmp (path_of e) (path_of x)) ≡ b → same_path (path_of e) (path_of x) ≡ false → AreRising (insert e es) → AreRising (cond b (e ∷ x ∷ es) (x ∷ insert e es))
     by true lt other rest = (and_from _ _ lt (above-weaken (path_of e) (path_of x) es lt r.0), r)

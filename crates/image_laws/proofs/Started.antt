@@ -20,7 +20,7 @@ use Rattle.pps_types.proofs.Trees.{same_path-is}
 use Rattle.content_bounds.proofs.Lists.{filter-push}
 use Rattle.image_laws.specs.Images.{is_new, AreLines}
 use Rattle.image_laws.proofs.Good.{IsEntry, AreEntries}
-use Rattle.image_laws.proofs.Numbers.{same-sym}
+use Rattle.text_parts.proofs.Same.{same-sym}
 use Rattle.image_laws.proofs.Entries.{MayFollow, follow-parts}
 use Rattle.image_laws.proofs.Sorting.{paths_total, all-sorted, any-sorted, sorted-last}
 

@@ -11,7 +11,7 @@ use Rattle.pps_types.specs.History.{Attribute, put, persistent, text_length}
 use Rattle.object_state.specs.declared.content.Content.{Content}
 use Rattle.object_state.specs.Entries.{attribute_of, attributes_of, line_length}
 use Rattle.object_state.specs.Effect.{printed_length, of_named, length_at, bytes_of, AreDistinct}
-use Rattle.object_state.proofs.Names.{same-is, same-flips}
+use Rattle.text_parts.proofs.Same.{same-is, same-sym}
 use Rattle.object_state.proofs.Printing.{printed-content, text_length-cons}
 use Rattle.object_state.proofs.LineChanges.{cut, put-bytes, cut-bytes}
 
@@ -50,14 +50,14 @@ attributes-filter (e ∷ es) = by (attributes-filter es) e.1.n
 cut-none : (k : List ℕ) (es : List (List ℕ × Content)) → AllByRecursion (λ y. same k y ≡ false) (keys_of es) → cut k (attributes_of es) ≡ attributes_of es
 cut-none k [] none = refl
 cut-none k (e ∷ es) none =
-    ap (λ t. cond (not t) (attribute_of e ∷ cut k (attributes_of es)) (cut k (attributes_of es))) (same-flips e.0 k ∙ none.0)
+    ap (λ t. cond (not t) (attribute_of e ∷ cut k (attributes_of es)) (cut k (attributes_of es))) (same-sym e.0 k ∙ none.0)
     ∙ ap (λ rest. attribute_of e ∷ rest) (cut-none k es none.1)
 
 pub attributes-remove : (k : List ℕ) (es : List (List ℕ × Content)) → IsDistinct (pointwise nat_eq) (keys_of es) → attributes_of (remove_entry (pointwise nat_eq k) es) ≡ cut k (attributes_of es)
 attributes-remove k [] apart = refl
 attributes-remove k (e ∷ es) apart =
     by (attributes-remove k es (IsDistinct-tail (pointwise nat_eq) e.0 (keys_of es) apart)) (same k e.0) refl
-    ∙ ap (λ t. cond (not t) (attribute_of e ∷ cut k (attributes_of es)) (cut k (attributes_of es))) (same-flips k e.0)
+    ∙ ap (λ t. cond (not t) (attribute_of e ∷ cut k (attributes_of es)) (cut k (attributes_of es))) (same-sym k e.0)
   where
     by : attributes_of (remove_entry (pointwise nat_eq k) es) ≡ cut k (attributes_of es) → (s : Bool) → same k e.0 ≡ s
         → attributes_of (cond s es (e ∷ remove_entry (pointwise nat_eq k) es)) ≡ cond (not s) (attribute_of e ∷ cut k (attributes_of es)) (cut k (attributes_of es))

@@ -6,7 +6,7 @@ use Rattle.pps_types.specs.Text.{print_line}
 use Rattle.pps_types.specs.Bytes.{same}
 use Rattle.pps_types.specs.History.{Attribute, put, is_marked}
 use Rattle.object_state.specs.Effect.{printed_length, of_named, length_at, noted_or, count_of, bytes_of, Foretells, ForetellsMarks}
-use Rattle.object_state.proofs.Names.{same-flips}
+use Rattle.text_parts.proofs.Same.{same-sym}
 use Rattle.object_state.proofs.LineChanges.{cut, put-at, cut-at, put-distinct, cut-distinct, put-bytes, put-count, cut-bytes, cut-count}
 
 module _ (noted new : List ℕ → Option (Option ℕ)) (count text : ℕ) (before after : List Attribute) (told : Foretells noted count text before after) where
@@ -65,7 +65,7 @@ module _ (noted new : List ℕ → Option (Option ℕ)) (count text new_count ne
 
 pub marked-named : (q : List ℕ) (rest : List Attribute) → is_marked q rest ≡ unwrap_or (of_named (λ a. a.n) q rest) false
 marked-named q [] = refl
-marked-named q (a ∷ rest) = ap (λ t. cond t a.n (is_marked q rest)) (same-flips a.name q) ∙ by (marked-named q rest) (same q a.name)
+marked-named q (a ∷ rest) = ap (λ t. cond t a.n (is_marked q rest)) (same-sym a.name q) ∙ by (marked-named q rest) (same q a.name)
   where
     by : is_marked q rest ≡ unwrap_or (of_named (λ a. a.n) q rest) false → (s : Bool) → cond s a.n (is_marked q rest) ≡ unwrap_or (cond s (Some a.n) (of_named (λ a. a.n) q rest)) false
     by rec true = refl

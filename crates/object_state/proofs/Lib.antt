@@ -1,4 +1,3 @@
-pub mod Names
 pub mod Printing
 pub mod LineChanges
 pub mod Entries

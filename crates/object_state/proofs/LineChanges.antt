@@ -1,6 +1,7 @@
 -- What a line makes of attributes: of the one that it names, of their number and of their printed length.
 use Rattle.std.proofs.Common.{◌≡◌, ℕ, ◌+◌, ◌≤◌, Bool, true, false, cond, not, List, [], ◌∷◌, length, Some, None, refl, sym, ap, subst, ◌∙◌, arith, length-append}
-use Rattle.std.specs.Prelude.{filter, fold}
+use Rattle.std.specs.Prelude.{filter, fold, nat_lt, ◌||◌}
+use Rattle.std.proofs.lemmas.Bool.{or_parts}
 use Rattle.pps_types.specs.declared.line.Line.{Line}
 use Rattle.pps_types.specs.declared.line.Line.TheVariants.{Set, Del}
 use Rattle.pps_types.specs.Bytes.{same}
@@ -9,7 +10,7 @@ use Rattle.pps_types.specs.Text.{print_line, print_lines}
 use Rattle.object_state.specs.Effect.{printed_length, of_named, length_at, AreDistinct, count_of, bytes_of}
 use Rattle.std.proofs.lemmas.Bool.Decides.{nat_tests}
 use Rattle.object_state.specs.Limits.{is_past_limits}
-use Rattle.object_state.proofs.Names.{same-is, same-flips}
+use Rattle.text_parts.proofs.Same.{same-is, same-sym}
 use Rattle.object_state.proofs.Printing.{text_length-cons, filter-bytes_le, filter-count_le}
 
 -- the attributes without the one of that name
@@ -17,7 +18,7 @@ abbrev pub cut : List ℕ → List Attribute → List Attribute
 cut name rest = filter (λ a. not (same a.name name)) rest
 
 cut-cons : (name : List ℕ) (b : Attribute) (rest : List Attribute) → cut name (b ∷ rest) ≡ cond (same name b.name) (cut name rest) (b ∷ cut name rest)
-cut-cons name b rest = ap (λ t. cond (not t) (b ∷ cut name rest) (cut name rest)) (same-flips b.name name) ∙ by (same name b.name)
+cut-cons name b rest = ap (λ t. cond (not t) (b ∷ cut name rest) (cut name rest)) (same-sym b.name name) ∙ by (same name b.name)
   where
     by : (t : Bool) → cond (not t) (b ∷ cut name rest) (cut name rest) ≡ cond t (cut name rest) (b ∷ cut name rest)
     by true = refl
@@ -27,15 +28,15 @@ cut-cons name b rest = ap (λ t. cond (not t) (b ∷ cut name rest) (cut name re
 
 module _ {X : Type 0} (f : Attribute → X) where
   pub put-at : (a : Attribute) (q : List ℕ) (rest : List Attribute) → of_named f q (put rest a) ≡ cond (same a.name q) (Some (f a)) (of_named f q rest)
-  put-at a q [] = ap (λ t. cond t (Some (f a)) None) (same-flips q a.name)
+  put-at a q [] = ap (λ t. cond t (Some (f a)) None) (same-sym q a.name)
   put-at a q (b ∷ rest) = by (put-at a q rest) (same a.name b.name) refl (same a.name q) refl (same q b.name) refl
     where
       by : of_named f q (put rest a) ≡ cond (same a.name q) (Some (f a)) (of_named f q rest)
           → (s : Bool) → same a.name b.name ≡ s → (t : Bool) → same a.name q ≡ t → (u : Bool) → same q b.name ≡ u
           → of_named f q (cond s (a ∷ rest) (b ∷ put rest a)) ≡ cond t (Some (f a)) (cond u (Some (f b)) (of_named f q rest))
-      by rec true s true t u e = ap (λ t. cond t (Some (f a)) (of_named f q rest)) (same-flips q a.name ∙ t)
-      by rec true s false t true u = absurd (let g : same q b.name ≡ same a.name q = ap (same q) (sym (same-is a.name b.name s)) ∙ same-flips q a.name in cc)
-      by rec true s false t false u = ap (λ t. cond t (Some (f a)) (of_named f q rest)) (same-flips q a.name ∙ t)
+      by rec true s true t u e = ap (λ t. cond t (Some (f a)) (of_named f q rest)) (same-sym q a.name ∙ t)
+      by rec true s false t true u = absurd (let g : same q b.name ≡ same a.name q = ap (same q) (sym (same-is a.name b.name s)) ∙ same-sym q a.name in cc)
+      by rec true s false t false u = ap (λ t. cond t (Some (f a)) (of_named f q rest)) (same-sym q a.name ∙ t)
       by rec false s true t true u = absurd (let g : same a.name b.name ≡ same a.name q = ap (same a.name) (sym (same-is q b.name u)) in cc)
       by rec false s true t false u = ap (λ t. cond t (Some (f b)) (of_named f q (put rest a))) u ∙ rec ∙ ap (λ t. cond t (Some (f a)) (of_named f q rest)) t
       by rec false s false t true u = ap (λ t. cond t (Some (f b)) (of_named f q (put rest a))) u
@@ -141,5 +142,5 @@ lines-count_le rest [] = omega arith
 lines-count_le rest (l ∷ ls) = omega (arith, lines-count_le (apply_line rest l) ls, line-count_le rest l)
 
 -- few and short enough
-pub not_past : (rest : List Attribute) → length rest ≤ 1024 → text_length rest ≤ 65536 → false ≡ is_past_limits rest
-not_past rest few short = grind (arith, nat_tests)
+pub not_past : (rest : List Attribute) (count bytes : ℕ) → (nat_lt 1024 count || nat_lt 65536 bytes) ≡ false → length rest ≤ count → text_length rest ≤ bytes → false ≡ is_past_limits rest
+not_past rest count bytes within few short = let parts = or_parts (nat_lt 1024 count) (nat_lt 65536 bytes) within in grind (arith, nat_tests, parts.0, parts.1)

@@ -11,7 +11,7 @@ ghost use Rattle.object_state.specs.Limits.{is_past_limits};
 
 use crate::content::Attributes;
 use crate::name::Name;
-use attr_text::line_len;
+use attr_text::{line_len, passes_limits};
 use indexmap::IndexMap;
 use pps_types::Line;
 use std::alloc::{AllocError, Global};
@@ -120,5 +120,5 @@ pub(crate) fn would_pass_limits(
     'lines: for line in lines {
         effect.note_line(map, line)?;
     }
-    Ok(effect.count > 1024 || effect.text_len > 65536)
+    Ok(passes_limits(effect.count, effect.text_len))
 }

@@ -9,7 +9,7 @@ ghost use Rattle.object_state.specs.Entries.{attributes_of};
 use crate::content::Attributes;
 use crate::name::Name;
 use indexmap::IndexMap;
-use pps_types::{Line, Mark, WriteLine};
+use pps_types::{Line, WriteLine};
 use std::alloc::{AllocError, Global};
 
 // Whether an attribute of that name is there and nonpersistent.
@@ -32,16 +32,6 @@ fn is_marked(noted: &IndexMap<Name, bool>, map: &Attributes, name: &Name) -> boo
     }
 }
 
-fn marked_by(mark: Mark, before: bool) -> bool
-    ensures { result ≡ history.marked_by mark before }
-{
-    match mark {
-        Mark::Keep => before,
-        Mark::On => true,
-        Mark::Off => false,
-    }
-}
-
 // The line that a line of a write comes to.
 fn resolved(
     noted: &IndexMap<Name, bool>,
@@ -59,7 +49,7 @@ fn resolved(
             mark,
         } => {
             let name = Name::new(name.copy()?);
-            let n = marked_by(*mark, is_marked(noted, map, &name));
+            let n = mark.applied_to(is_marked(noted, map, &name));
             Ok(Line::Set {
                 name: name.into_bytes(),
                 enc: enc.copy()?,

@@ -17,6 +17,7 @@ use crate::lent::AttributeRef;
 use crate::lines::{copies_of, len_with};
 use crate::marks::resolve;
 use crate::print::{matching_len, printed_matching, push_matching};
+use attr_text::passes_limits;
 use indexmap::IndexMap;
 use pps_filter::Filter;
 use pps_types::{Line, Refusal, WriteLine};
@@ -178,7 +179,7 @@ impl Object {
         requires { whole_len ≡ text_length self.now.attributes + length (print_lines lines.now) }
         ensures { IfOk result (λ passes. passes ≡ is_past_limits (fold apply_line self.now.attributes lines.now)) }
     {
-        if lines.len() <= 1024 - self.map.len() && whole_len <= 65536 {
+        if !passes_limits(self.map.len() + lines.len(), whole_len) {
             return Ok(false);
         }
         let alloc: Global = *self.map.allocator();

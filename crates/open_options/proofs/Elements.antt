@@ -3,6 +3,7 @@ use Rattle.std.proofs.Common.{◌≡◌, ℕ, Bool, true, false, cond, List, [],
 use Rattle.std.specs.Prelude.{not, ◌&&◌, ◌||◌, nat_le, ◌==◌, if◌then◌else◌, option_map, option_and_then, is_some, codes}
 use Rattle.std.specs.Option.{option_copied}
 use Rattle.std.specs.List.{list_all}
+use Rattle.std.proofs.lemmas.Bool.{and_parts}
 use Rattle.std.proofs.lemmas.Bool.Decides.{nat_tests}
 use Rattle.std.proofs.lemmas.List.{append_assoc, append-nil, length-append}
 use Rattle.std.proofs.lemmas.List.Folds.{list_all-append}
@@ -16,14 +17,6 @@ use Rattle.open_options.specs.Refused.{IsPathRefusal}
 
 abbrev pub open_path_with : Path → Bool → OpenPath
 open_path_with names all = record { names = names; all = all }
-
-and_left : (a b : Bool) → (a && b) ≡ true → a ≡ true
-and_left true b h = refl
-and_left false b h = h
-
-and_right : (a b : Bool) → (a && b) ≡ true → b ≡ true
-and_right true b h = h
-and_right false b h = absurd (cc)
 
 -- what names that are read already and further elements say
 abbrev pub walked : Path → List Name → Option OpenPath
@@ -46,7 +39,7 @@ before_all-names (e ∷ []) h = by (same e (codes ".all")) refl
     by true is = let none : list_all is_path_name (e ∷ []) ≡ false = rw (all_is_no_name e is) in absurd (cc)
     by false is = rw is
 before_all-names (e ∷ f ∷ fs) h =
-    let rest : list_all is_path_name (f ∷ fs) ≡ true = and_right (is_path_name e) (list_all is_path_name (f ∷ fs)) h in
+    let rest : list_all is_path_name (f ∷ fs) ≡ true = (and_parts (is_path_name e) (list_all is_path_name (f ∷ fs)) h).1 in
     rw (before_all-names (f ∷ fs) rest)
 
 -- an element that does not end the path
@@ -98,8 +91,8 @@ refuses names e es h = rw list_all-append (by (is_path_name e) refl)
 accepts : (names : Path) (e : Name) → are_names names ≡ true → (length names == 32 || not (is_path_name e)) ≡ false → are_names (names ++ e ∷ []) ≡ true
 accepts names e h good =
     let room = or_none (length names == 32) (is_path_name e) good in
-    let few : nat_le (length names) 32 ≡ true = and_left (nat_le (length names) 32) (list_all is_path_name names) h in
-    let all : list_all is_path_name names ≡ true = and_right (nat_le (length names) 32) (list_all is_path_name names) h in
+    let few : nat_le (length names) 32 ≡ true = (and_parts (nat_le (length names) 32) (list_all is_path_name names) h).0 in
+    let all : list_all is_path_name names ≡ true = (and_parts (nat_le (length names) 32) (list_all is_path_name names) h).1 in
     let none : (length names == 32) ≡ false = room.0 in
     let name : is_path_name e ≡ true = room.1 in
     let fits : nat_le (length (names ++ e ∷ [])) 32 ≡ true = rw length-append (grind (arith, nat_tests)) in
@@ -122,7 +115,7 @@ bad-element names e es other bad =
 
 pub walked-is : (names : Path) (es : List Name) → are_names names ≡ true → walked names es ≡ path_of (names ++ es)
 walked-is names [] h =
-    let all : list_all is_path_name names ≡ true = and_right (nat_le (length names) 32) (list_all is_path_name names) h in
+    let all : list_all is_path_name names ≡ true = (and_parts (nat_le (length names) 32) (list_all is_path_name names) h).1 in
     rw (append-nil, before_all-names names all, h)
 walked-is names (e ∷ es) h = by (is_empty es && same e (codes ".all")) refl (walked-is (names ++ e ∷ []) es)
   where
@@ -199,17 +192,9 @@ pub elements_left-some : (o : Option (Bor (List ℕ))) → is_some o ≡ true �
 elements_left-some None h = absurd (cc)
 elements_left-some (Some rest) h = pieces-some 47 rest.now
 
-pub and_false : (a b : Bool) → b ≡ false → (a && b) ≡ false
-and_false true b h = h
-and_false false b h = refl
-
 -- an element that is no name, or is one too many
 pub walked-refused : (names : Path) (e : Name) (es : List Name) → (is_empty es && same e (codes ".all")) ≡ false → (length names == 32 || not (is_path_name e)) ≡ true → walked names (e ∷ es) ≡ None
 walked-refused names e es other bad = rw (other, bad)
-
-pub or_not : (a b : Bool) → b ≡ false → (a || not b) ≡ true
-or_not true b h = refl
-or_not false b h = rw h
 
 -- the path of an open that is refused is none alone
 pub path-refused : (text : List ℕ) (r : Refusal) → IsPathRefusal (open_path text) r → IsPathRefusal (path_text text) r

@@ -1,4 +1,2 @@
 pub mod Elements
-pub mod Limits
-pub mod Cuts
 pub mod Words

@@ -4,7 +4,6 @@
 mod open;
 mod options;
 mod path;
-mod split;
 mod word;
 
 pub use open::{OpenSpec, read_open};

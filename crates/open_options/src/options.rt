@@ -1,16 +1,16 @@
 //! The options of an open.
 ghost use Rattle.std.specs.Prelude.{◌≡◌, IfOk, IfErr, OnOk, false};
-ghost use Rattle.pps_types.specs.Bytes.{plain_pieces, number_up_to};
+ghost use Rattle.pps_types.specs.Bytes.{plain_pieces};
 ghost use Rattle.pps_types.specs.OpenText as meant;
 ghost use Rattle.pps_filter.specs.Refused.{IsOptionRefusal};
 ghost use Rattle.open_options.specs.Seen.{options_seen};
 ghost use Rattle.open_options.specs.Word.{with_word};
 
-use crate::split::after_prefix;
 use crate::word::{Word, read_word};
 use pps_filter::{Filter, first_plain_piece, read_parts};
 use pps_types::Refusal;
 use std::alloc::Global;
+use text_parts::{after_prefix, number_up_to};
 
 /// The most bytes of options.
 const OPTIONS_MAX: usize = 4_096;
@@ -88,7 +88,7 @@ impl Options {
         if self.limit.is_some() {
             return Err(Refusal::BadOption);
         }
-        let Some(limit) = read_limit(text) else {
+        let Some(limit) = number_up_to(LIMIT_DIGITS, LIMIT_MAX, text) else {
             return Err(Refusal::BadOption);
         };
         self.limit = Some(limit);
@@ -124,26 +124,6 @@ impl Options {
         (self.deltadir && (!all || self.delta || self.filter.is_some()))
             || (all && (self.server || self.critical))
     }
-}
-
-/// The number of a limit: 1 to 5 digits without a leading zero, at most 65,535.
-fn read_limit(digits: &[u8]) -> Option<u32>
-    ensures { result ≡ number_up_to 5 65535 digits.now }
-{
-    if digits.is_empty() || digits.len() > LIMIT_DIGITS || digits[0] == b'0' {
-        return None;
-    }
-    let mut number = 0u32;
-    for byte in digits {
-        if !byte.is_ascii_digit() {
-            return None;
-        }
-        number = 10 * number + u32::from(*byte - b'0');
-        if number > LIMIT_MAX {
-            return None;
-        }
-    }
-    Some(number)
 }
 
 /// Reads options with a plain comma between each two, in any combination.

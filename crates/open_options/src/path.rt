@@ -8,10 +8,10 @@ ghost use Rattle.open_options.specs.Elements.{elements_left, path_of};
 ghost use Rattle.open_options.specs.Refused.{IsPathRefusal};
 ghost use Rattle.open_options.specs.Seen.{path_seen};
 
-use crate::split::split_at_first;
 use pps_types::{Bytes, Refusal};
 use std::alloc::Global;
 use std::marker::Model;
+use text_parts::split_at_first;
 
 /// The most bytes of a path, `.all` included.
 const PATH_MAX: usize = 1_024;

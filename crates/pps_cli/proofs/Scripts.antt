@@ -7,7 +7,7 @@ use Rattle.std.specs.Io.KnownBytes.{Appends, Consumes, Keeps, IsAtEnd, ReadConsu
 use Rattle.pps_types.specs.Text.{without_empty_end}
 use Rattle.pps_types.proofs.KnownBytes.{Appends-none, Appends-then, Consumes-none, Consumes-then, Consumes-same, keeps_itself}
 use Rattle.memchr.specs.Find.{IsFirstByte, is_byte}
-use Rattle.open_options.proofs.Cuts.{split_at_first-is, pieces-first, pieces-one}
+use Rattle.text_parts.proofs.Cuts.{split_at_first-is, pieces-first, pieces-one}
 use Rattle.pps_cli.specs.Serving.{ServesAll, Runs, RunsWhole, RunsInput, IsPart}
 
 serves-then : (show : Bool) (a b c : Content) (lines more : List (List ℕ)) (text rest : List ℕ) → ServesAll show a lines text b → ServesAll show b more rest c

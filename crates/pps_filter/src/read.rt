@@ -6,11 +6,12 @@ ghost use Rattle.pps_filter.specs.Refused.{IsOptionRefusal};
 ghost use Rattle.pps_filter.specs.Seen.{condition_seen, part_seen, parts_seen};
 
 use crate::filter::{Condition, Filter, Part};
-use crate::name::{is_name, name_len};
+use crate::name::name_len;
 use crate::number::whole_number;
 use crate::pieces::{escapes, first_plain_piece};
 use pps_types::{Bytes, Refusal};
 use std::alloc::Global;
+use text_parts::is_attribute_name;
 
 /// Whether the last byte is a backslash that no byte is left for.
 fn ends_open(value: &[u8]) -> bool
@@ -69,7 +70,7 @@ fn read_part(alloc: Global, text: &[u8]) -> Result<Part, Refusal>
     ensures err { IfErr result (IsOptionRefusal (meant.part_of text.now)) }
 {
     let (name, rest) = text.split_at(name_len(text));
-    if !is_name(name) {
+    if !is_attribute_name(name) {
         return Err(Refusal::BadOption);
     }
     let condition = read_condition(alloc, rest)?;

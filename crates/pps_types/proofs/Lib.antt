@@ -1,5 +1,6 @@
 pub mod Lists
 pub mod Finds
+pub mod PathEnds
 pub mod Rising
 pub mod Fits
 pub mod Trees

@@ -18,6 +18,21 @@ pub enum Mark {
     Off,
 }
 
+impl Mark {
+    ghost use Rattle.pps_types.specs.History.{marked_by};
+
+    /// Whether an attribute is nonpersistent behind a line with this mark, by whether it was so before.
+    pub fn applied_to(self, before: bool) -> bool
+        ensures { result ≡ marked_by self before }
+    {
+        match self {
+            Mark::Keep => before,
+            Mark::On => true,
+            Mark::Off => false,
+        }
+    }
+}
+
 /// A line of a write.
 #[derive(Debug, PartialEq, Eq, Drop)]
 pub enum WriteLine {

@@ -1,5 +1,5 @@
 use pps_types::{
-    Bytes, Conn, DirId, Handle, Item, Line, Lines, ObjId, Outcome, Refusal, SharedBytes,
+    Bytes, Conn, DirId, Handle, Item, Line, Lines, Mark, ObjId, Outcome, Refusal, SharedBytes,
 };
 use std::test::Fail;
 
@@ -126,4 +126,16 @@ fn lines_are_kept(rt: HostRuntime) -> Result<(), Fail> {
     assert_eq!(rt; lines.as_slice().len(), 1);
     assert_eq!(rt; lines.into_vec().len(), 1);
     Ok(())
+}
+
+#[test]
+fn marks_are_applied(rt: HostRuntime) {
+    for (mark, before, wanted) in [
+        (Mark::Keep, false, false),
+        (Mark::Keep, true, true),
+        (Mark::On, false, true),
+        (Mark::Off, true, false),
+    ] {
+        assert_eq!(rt; mark.applied_to(before), wanted, "{mark:?} behind {before}");
+    }
 }

@@ -1,5 +1,4 @@
 pub mod Decimals
-pub mod Numbers
 pub mod Regroup
 pub mod Replies
 pub mod RoundTrip

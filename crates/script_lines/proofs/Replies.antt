@@ -15,7 +15,8 @@ use Rattle.pps_types.specs.Refusal.{number_of, name_of, argument_of}
 use Rattle.script_lines.specs.Answer.{argument_word, read_words, answer_words, answer_line, FitsBytes, FitsRefusal, FitsRead, FitsAnswer}
 use Rattle.script_lines.specs.Escapes.{escaped, unescaped}
 use Rattle.script_lines.specs.Script.{◌>>=◌, first_word, word_and_rest, field_of, code_of, conn_of}
-use Rattle.script_lines.proofs.Decimals.{decimal-digits, number-decimal}
+use Rattle.text_parts.proofs.Decimals.{decimal-digits}
+use Rattle.script_lines.proofs.Decimals.{number-decimal}
 use Rattle.script_lines.proofs.RoundTrip.{unescaped-escaped}
 use Rattle.script_lines.proofs.Spellings.{first_word-digits, first_word-decimal, field-decimal}
 

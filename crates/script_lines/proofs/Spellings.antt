@@ -17,7 +17,8 @@ use Rattle.script_lines.specs.declared.line.ScriptLine.TheVariants.{Command}
 use Rattle.script_lines.specs.Escapes.{escaped}
 use Rattle.script_lines.specs.Script.{field_of, code_of, action_of, conn_of, open_request, read_request, write_request, notify_request, request_of, command, line_of}
 use Rattle.script_lines.specs.Spelled.{letters, action_word, request_words, command_line, HasSpelling}
-use Rattle.script_lines.proofs.Decimals.{decimal-digits, number-decimal}
+use Rattle.text_parts.proofs.Decimals.{decimal-digits}
+use Rattle.script_lines.proofs.Decimals.{number-decimal}
 use Rattle.script_lines.proofs.RoundTrip.{unescaped-escaped}
 
 -- ---- words

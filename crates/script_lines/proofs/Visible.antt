@@ -14,7 +14,7 @@ use Rattle.pps_types.specs.Outcome.{Reply}
 use Rattle.pps_types.specs.Refusal.{number_of, name_of}
 use Rattle.script_lines.specs.Answer.{data_words, argument_word, refusal_words, read_words, answer_words, are_visible, FitsBytes, FitsRefusal, FitsRead, FitsAnswer}
 use Rattle.script_lines.specs.Escapes.{hex_digit, escaped_byte, escaped}
-use Rattle.script_lines.proofs.Decimals.{decimal-digits}
+use Rattle.text_parts.proofs.Decimals.{decimal-digits}
 
 append-visible : (xs ys : List ℕ) → are_visible xs ≡ true → are_visible ys ≡ true → are_visible (xs ++ ys) ≡ true
 append-visible [] ys first rest = rest

@@ -1,10 +1,9 @@
 //! The words of a line.
-ghost use Rattle.std.specs.Prelude.{◌≡◌, ◌<◌, ◌≤◌, ◌^◌, IfSome, option_map};
-ghost use Rattle.pps_types.specs.Bytes.{number_up_to};
+ghost use Rattle.std.specs.Prelude.{◌≡◌, ◌≤◌, IfSome, option_map};
 ghost use Rattle.script_lines.specs.Script as script;
 
-use memchr::memchr;
 use pps_types::{Action, Conn, Handle, Mode};
+use text_parts::{number_up_to, split_at_first};
 
 /// The most digits of a number.
 const DIGITS_MAX: usize = 10;
@@ -13,30 +12,7 @@ const DIGITS_MAX: usize = 10;
 pub(crate) fn first_word(text: &[u8]) -> Option<(&[u8], &[u8])>
     ensures { option_map (λ parts. (parts.0.now, parts.1.now)) result ≡ script.first_word text.now }
 {
-    let at = memchr(b' ', text)?;
-    Some((&text[..at], &text[at + 1..]))
-}
-
-// A number from 1 up to that size in decimal, without leading zeros.
-fn read_digits(most: u32, digits: &[u8]) -> Option<u32>
-    ensures value { result ≡ number_up_to 10 most digits.now }
-    ensures small { IfSome result (λ number. number ≤ most) }
-{
-    if digits.is_empty() || digits.len() > DIGITS_MAX || digits[0] == b'0' {
-        return None;
-    }
-    let top = u64::from(most);
-    let mut number = 0u64;
-    for byte in digits {
-        if !byte.is_ascii_digit() {
-            return None;
-        }
-        number = 10 * number + u64::from(*byte - b'0');
-        if number > top {
-            return None;
-        }
-    }
-    Some(number as u32)
+    split_at_first(b' ', text)
 }
 
 // A number up to that size in decimal, without leading zeros.
@@ -47,7 +23,7 @@ fn read_number(most: u32, word: &[u8]) -> Option<u32>
     if word == b"0".as_slice() {
         return Some(0);
     }
-    read_digits(most, word)
+    number_up_to(DIGITS_MAX, most, word)
 }
 
 /// The number of a connection.

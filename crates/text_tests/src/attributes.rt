@@ -1,6 +1,6 @@
 use attr_text::{
-    client_header_len, header_len, line_len, print_header, print_line, push_client_header,
-    push_header, push_line, push_set, read_write, set_len, show_value,
+    client_header_len, header_len, line_len, passes_limits, print_header, print_line,
+    push_client_header, push_header, push_line, push_set, read_write, set_len, show_value,
 };
 use pps_types::{Bytes, Handle, Line, Mark, Refusal, Shown, WriteLine};
 use std::alloc::{AllocError, Global};
@@ -237,4 +237,20 @@ fn shows_values(rt: HostRuntime) -> Result<(), Fail> {
         assert_eq!(rt; shown, wanted, "at {value:?}");
     }
     Ok(())
+}
+
+#[test]
+fn limits_are_told(rt: HostRuntime) {
+    for (count, text_len, wanted) in [
+        (0, 0, false),
+        (1_024, 65_536, false),
+        (1_025, 0, true),
+        (0, 65_537, true),
+    ] {
+        assert_eq!(rt;
+            passes_limits(count, text_len),
+            wanted,
+            "{count} attributes, {text_len} bytes"
+        );
+    }
 }

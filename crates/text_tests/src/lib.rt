@@ -10,4 +10,6 @@ mod filters;
 #[cfg(test)]
 mod opens;
 #[cfg(test)]
+mod parts;
+#[cfg(test)]
 mod scripts;

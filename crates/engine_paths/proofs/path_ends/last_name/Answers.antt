@@ -1,6 +1,6 @@
 use Rattle.std.proofs.Common.{sym, ap, ◌∙◌}
 use Rattle.pps_types.specs.Names as names
-use Rattle.engine_paths.proofs.Ends.{last_name-push}
+use Rattle.pps_types.proofs.PathEnds.{last_name-push}
 use Rattle.engine_paths.proofs.path_ends.last_name.Goals as goal
 
 pub returns-in-Some : goal.returns-in-Some

@@ -1,6 +1,6 @@
 use Rattle.std.proofs.Common.{sym, ap, ◌∙◌}
 use Rattle.pps_types.specs.Names as names
-use Rattle.engine_paths.proofs.Ends.{parent-push}
+use Rattle.pps_types.proofs.PathEnds.{parent-push}
 use Rattle.engine_paths.proofs.path_ends.parent.Goals as goal
 
 pub returns-in-Some : goal.returns-in-Some

@@ -1,4 +1,4 @@
-use Rattle.open_options.proofs.Cuts.{pieces-first, pieces-one, length-behind}
+use Rattle.text_parts.proofs.Cuts.{pieces-first, pieces-one, length-behind}
 use Rattle.open_options.proofs.path.first_element.Goals as goal
 
 pub returns-in-Some-clause-elements : goal.returns-in-Some-clause-elements

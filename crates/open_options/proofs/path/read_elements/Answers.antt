@@ -1,11 +1,12 @@
 use Rattle.std.proofs.Common.{◌≡◌, ◌∙◌, [], ap, sym, refl, inr, true, false, length, arith, rules}
 use Rattle.std.specs.Prelude.{◌&&◌, ◌||◌, ◌==◌, not, codes}
 use Rattle.std.specs.Option.{option_copied}
+use Rattle.std.proofs.lemmas.Bool.{and_right, or_right, not_from_false}
 use Rattle.std.proofs.lemmas.Bool.Decides.{nat_tests}
 use Rattle.pps_types.specs.Bytes.{same, is_empty, pieces}
 use Rattle.pps_types.specs.OpenText.{is_path_name}
 use Rattle.open_options.specs.Elements.{elements_left}
-use Rattle.open_options.proofs.Elements.{walked, walked-is, walked-refused, elements_left-some, and_false, or_not}
+use Rattle.open_options.proofs.Elements.{walked, walked-is, walked-refused, elements_left-some}
 use Rattle.open_options.proofs.path.read_elements.Goals as goal
 use Rattle.open_options.proofs.path.read_elements.Goals.{else-is_none-via-then-is_none+else-eq, else-is_none-via-else-is_none, then-len-eq-NAMES_MAX-via-then-len-eq-NAMES_MAX, then-len-eq-NAMES_MAX-via-else-len-eq-NAMES_MAX+then-not-is_name}
 
@@ -19,7 +20,7 @@ returns-then-len-eq-NAMES_MAX-clause-err c =
     let behind = c.first_element.result.1 in
     let more = elements_left (option_copied behind) in
     let other : (is_empty more && same element (codes ".all")) ≡ false = elim c.else-is_none.branch [
-      | else-is_none-via-then-is_none+else-eq w ↦ and_false (is_empty more) (same element (codes ".all")) (search rules)
+      | else-is_none-via-then-is_none+else-eq w ↦ and_right (is_empty more) (same element (codes ".all")) (search rules)
       | else-is_none-via-else-is_none w ↦ let follows = elements_left-some behind (search rules) in rw follows
     ] in
     let bad : (length names == 32 || not (is_path_name element)) ≡ true = elim c.then-len-eq-NAMES_MAX.branch [
@@ -27,7 +28,7 @@ returns-then-len-eq-NAMES_MAX-clause-err c =
           let count : length names ≡ 32 = omega (arith, c.loop-rest.names.ok.0) in
           let full : (length names == 32) ≡ true = grind (arith, nat_tests) in
           rw full
-      | then-len-eq-NAMES_MAX-via-else-len-eq-NAMES_MAX+then-not-is_name w ↦ or_not (length names == 32) (is_path_name element) (search rules)
+      | then-len-eq-NAMES_MAX-via-else-len-eq-NAMES_MAX+then-not-is_name w ↦ or_right (length names == 32) (not (is_path_name element)) (not_from_false (is_path_name element) (search rules))
     ] in
     let here = rw c.in-Some.is at c.loop-rest.invariant in
     inr (refl, sym here ∙ ap (walked names) (sym c.first_element.ensures.elements) ∙ walked-refused names element more other bad)

@@ -1,6 +1,6 @@
 use Rattle.std.proofs.Common.{arith, refl, sym, ◌∙◌}
 use Rattle.std.proofs.lemmas.List.{take_rest}
-use Rattle.open_options.proofs.Cuts.{length-behind}
+use Rattle.text_parts.proofs.Cuts.{length-behind}
 use Rattle.pps_cli.proofs.Scripts.{runs-start, runs-line, runs-end, found, missing}
 use Rattle.pps_cli.proofs.script.Session.run_lines.Goals as goal
 

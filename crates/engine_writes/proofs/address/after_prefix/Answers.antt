@@ -1,5 +1,0 @@
-use Rattle.engine_writes.proofs.Prefixes.{after_prefix-stripped}
-use Rattle.engine_writes.proofs.address.after_prefix.Goals as goal
-
-pub returns : goal.returns
-returns c = after_prefix-stripped c.args.prefix.now c.args.bytes.now c.strip_prefix.result c.strip_prefix.ensures.cases

@@ -1,0 +1,38 @@
+//! Whole numbers, as texts spell them in decimal.
+ghost use Rattle.std.specs.Prelude.{◌≡◌, ◌+◌, ◌≤◌, IfSome};
+ghost use Rattle.pps_types.specs.Bytes as words;
+ghost use Rattle.pps_types.specs.Filter.{digits_below};
+
+/// The number that the bytes spell, if they are digits alone and it is at most that large.
+pub fn digits_up_to(most: u64, digits: &[u8]) -> Option<u64>
+    ensures { result ≡ digits_below (most + 1) digits.now }
+{
+    if digits.is_empty() {
+        return None;
+    }
+    let mut number = 0u64;
+    for byte in digits {
+        if !byte.is_ascii_digit() {
+            return None;
+        }
+        let tens = number.checked_mul(10)?;
+        number = tens.checked_add(u64::from(*byte - b'0'))?;
+        if number > most {
+            return None;
+        }
+    }
+    Some(number)
+}
+
+/// The number that the bytes spell, if they are at most that many digits, without a leading zero, and it is at most
+/// that large. So it is at least 1.
+pub fn number_up_to(digits_max: usize, most: u32, digits: &[u8]) -> Option<u32>
+    ensures value { result ≡ words.number_up_to digits_max most digits.now }
+    ensures small { IfSome result (λ number. number ≤ most) }
+{
+    if digits.len() > digits_max || digits.starts_with(b"0") {
+        return None;
+    }
+    let number = digits_up_to(u64::from(most), digits)?;
+    Some(number as u32)
+}
