@@ -1,0 +1,4 @@
+pub mod Standing
+pub mod Entries
+pub mod Edits
+pub mod Told

@@ -1,0 +1,12 @@
+//! A table of values under numbers that rise: each is found by its number, and they leave in any order.
+#![tactic(auto)]
+
+mod iter;
+mod slots;
+mod table;
+
+pub use iter::Iter;
+pub use table::Table;
+
+#[cfg(test)]
+mod tests;
