@@ -1,0 +1,10 @@
+pub mod Offered
+pub mod Tallies
+pub mod Passing
+pub mod Edits
+pub mod Moves
+pub mod Kept
+pub mod Skips
+pub mod Puts
+pub mod Finds
+pub mod Fitting

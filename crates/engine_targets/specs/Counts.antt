@@ -1,0 +1,45 @@
+-- How many handles have their first owed record at each position.
+use Rattle.std.specs.Prelude.{◌≡◌, ℕ, zero, suc, ◌+◌, ◌-◌, ◌<◌, ◌≤◌, ◌==◌, if◌then◌else◌, List, [], ◌∷◌, length, slice_index, slice_set}
+use Rattle.std.specs.List.{sum_by}
+use Rattle.engine_targets.specs.declared.place.Place.{Place}
+use Rattle.engine_targets.specs.declared.place.Place.TheVariants.{At}
+use Rattle.engine_targets.specs.declared.reader.Reader.{Reader}
+
+-- whether the first record that is owed stands there, as a number
+abbrev pub stands : ℕ → Place → ℕ
+stands position (At first owed) = if first == position then 1 else 0
+stands position _ = 0
+
+-- how many handles stand at a position
+abbrev pub standing : List Reader → ℕ → ℕ
+standing readers position = sum_by (λ r. stands position r.place) readers
+
+abbrev pub IsCounted : ℕ → List Reader → List ℕ → Type 0
+IsCounted start readers counts = (i : ℕ) → i < length counts → slice_index counts i ≡ standing readers (start + i)
+
+-- a place between two positions
+abbrev pub IsWithin : ℕ → ℕ → Place → Type 0
+IsWithin start end (At first owed) = (start ≤ first) × (first < end)
+IsWithin start end _ = Unit {0}
+
+-- the counts once a handle leaves its place, and once it takes one
+abbrev pub uncounted : ℕ → Place → List ℕ → List ℕ
+uncounted start (At first owed) counts = slice_set counts (first - start) (slice_index counts (first - start) - 1)
+uncounted start _ counts = counts
+
+abbrev pub counted : ℕ → Place → List ℕ → List ℕ
+counted start (At first owed) counts = slice_set counts (first - start) (slice_index counts (first - start) + 1)
+counted start _ counts = counts
+
+abbrev pub recounted : ℕ → Place → Place → List ℕ → List ℕ
+recounted start from to counts = counted start to (uncounted start from counts)
+
+-- how many zeros are in front
+abbrev pub zeros : List ℕ → ℕ
+zeros [] = 0
+zeros (zero ∷ counts) = suc (zeros counts)
+zeros (suc n ∷ counts) = 0
+
+-- the first position is somebody's
+abbrev pub IsExact : List ℕ → Type 0
+IsExact counts = zeros counts ≡ 0

@@ -1,0 +1,5 @@
+pub mod Opened
+pub mod Places
+pub mod Counts
+pub mod Standing
+pub mod Blocks

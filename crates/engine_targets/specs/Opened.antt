@@ -1,0 +1,36 @@
+-- What an open fixes for a handle, and which target it is on, as the definitions have it.
+use Rattle.std.specs.Prelude.{ℕ, Bool, true, false, ◌||◌, List, Option, None, option_map, find, ◌==◌}
+use Rattle.pps_types.specs.declared.found.Found.{Found}
+use Rattle.pps_types.specs.declared.found.Found.TheVariants.{Object as FoundObject, Directory as FoundDirectory}
+use Rattle.pps_types.specs.declared.handle_kind.HandleKind.{HandleKind}
+use Rattle.pps_types.specs.Reading.{Open, reseen, style, is_full_style, is_delta_style}
+use Rattle.pps_types.specs.Rests.{Seen}
+use Rattle.engine_targets.specs.declared.opening.Opening.{Opening}
+use Rattle.engine_targets.specs.declared.opening.Pulse.{Pulse}
+
+abbrev pub is_directory : Found → Bool
+is_directory (FoundObject number) = false
+is_directory (FoundDirectory number) = true
+
+abbrev pub number_of : Found → ℕ
+number_of (FoundObject number) = number
+number_of (FoundDirectory number) = number
+
+-- a handle on the target of that number and name, before it has read
+abbrev pub opened : ℕ → List ℕ → Opening → Open (Unit {0})
+opened target name o = record { number = o.number; connection = o.connection; target = target; name = name; kind = o.kind; reads = o.reads; writes = o.writes; wait = o.wait; reflect = o.reflect; critical = o.critical; filter = o.filter; limit = o.limit; seen = tt; parked = None; armed = None }
+
+abbrev pub armed_pulse : Option Pulse → Option (ℕ × ℕ)
+armed_pulse armed = option_map (λ p. (p.code, p.value)) armed
+
+-- it reads an object or a directory, in full or in delta mode, and is no server's or client's
+abbrev pub is_reader : HandleKind → Bool
+is_reader kind = is_full_style (style kind) || is_delta_style (style kind)
+
+-- what its open fixed of a handle
+abbrev pub as_opened : Open Seen → Open (Unit {0})
+as_opened h = record (reseen (λ x. tt) h) { parked = None; armed = None }
+
+-- the handle of that number
+abbrev pub handle_at : ℕ → List (Open Seen) → Option (Open Seen)
+handle_at number handles = find (λ h. h.number == number) handles

@@ -1,0 +1,51 @@
+-- What stands of a target, and what is always so of its parts.
+use Rattle.std.specs.Prelude.{◌≡◌, ℕ, ◌+◌, ◌-◌, ◌<◌, ◌≤◌, ◌^◌, Bool, List, length, min}
+use Rattle.std.specs.List.{AllByRecursion}
+use Rattle.pps_types.specs.declared.found.Found.{Found}
+use Rattle.pps_types.specs.History.{Entry}
+use Rattle.pps_types.specs.Reading.{Open}
+use Rattle.pps_types.specs.Rests.{Seen}
+use Rattle.notify_box.specs.Rising.{IsRising}
+use Rattle.engine_targets.specs.Places.{IsReader}
+use Rattle.engine_targets.specs.Counts.{IsCounted, IsExact}
+use Rattle.engine_targets.specs.declared.reader.Reader.{Reader}
+
+-- of: the object or directory. name: an object's own. handles: those on it, in rising number, with what each has seen.
+-- kept: the records that it holds for them. room: for how many more records there is memory, and a position.
+-- places: for how many more handles there is memory.
+pub record Standing : Type 0 where
+  pub of : Found
+  pub name : List ℕ
+  pub handles : List (Open Seen)
+  pub kept : List Entry
+  pub room : ℕ
+  pub places : ℕ
+
+-- how many more records fit behind the end, with memory for so many of them and of their counts
+abbrev pub room_of : ℕ → ℕ → ℕ → ℕ
+room_of end records_room counts_room = min (2 ^ 64 - 1 - end) (min records_room counts_room)
+
+-- far more handles than have numbers
+abbrev pub most_handles : ℕ
+most_handles = 2 ^ 62
+
+-- for how many more handles there is memory, where so many are there
+abbrev pub places_of : ℕ → ℕ → ℕ
+places_of capacity count = min (capacity - count) (most_handles - count)
+
+-- the number of a handle
+abbrev pub number_in : Reader → ℕ
+number_in r = r.opening.number
+
+-- All but that nobody's records are dropped: each has its count, each handle is right where it stands, and they rise.
+pub record IsLoose (directory : Bool) (target : ℕ) (name : List ℕ) (start : ℕ) (entries : List Entry) (counts : List ℕ) (readers : List Reader) : Type 0 where
+  pub paired : length counts ≡ length entries
+  pub fits : start + length entries < 2 ^ 64
+  pub each : AllByRecursion (IsReader directory target name start entries) readers
+  pub agree : IsCounted start readers counts
+  pub rising : IsRising number_in readers
+  pub few : length readers ≤ most_handles
+
+pub record IsTarget (directory : Bool) (target : ℕ) (name : List ℕ) (start : ℕ) (entries : List Entry) (counts : List ℕ) (readers : List Reader) : Type 0 where
+  pub loose : IsLoose directory target name start entries counts readers
+  pub exact : IsExact counts

@@ -1,0 +1,20 @@
+//! An object or a directory with the handles that read it, and the list of records that they share.
+#![tactic(auto)]
+
+mod counts;
+mod cut;
+mod kinds;
+mod opening;
+mod owed;
+mod passed;
+mod place;
+mod questions;
+mod reader;
+mod target;
+
+pub use opening::{Opening, Pulse};
+pub use owed::Given;
+pub use target::Target;
+
+#[cfg(test)]
+mod tests;

@@ -1,0 +1,154 @@
+//! What a read gives of the records that a handle is owed.
+ghost use Rattle.std.specs.Prelude.{◌≡◌, ◌≢◌, ◌≤◌, ◌<◌, ◌+◌, ◌++◌, ◌^◌, ◌-◌, OnOk, Some, None, [], drop, length, is_some, IfOk, IfSome, IfErr};
+ghost use Rattle.pps_types.specs.Names.{refusal_of};
+ghost use Rattle.pps_types.specs.Reading as reading;
+ghost use Rattle.pps_types.specs.declared.refusal.Refusal.TheVariants.{OutOfMemory};
+ghost use Rattle.change_chain.specs.Span.{end_of};
+ghost use Rattle.engine_targets.specs.Opened.{opened};
+ghost use Rattle.engine_targets.specs.Blocks.{blocks_given, refused_for, first_len, needs, blocks_at};
+ghost use Rattle.engine_targets.specs.Places.{IsPlace};
+
+use crate::opening::Opening;
+use crate::place::Place;
+use crate::reader::{Reader, concerns, is_told};
+use change_chain::Chain;
+use pps_block::Block;
+use pps_types::Refusal;
+use server_queue::Entry;
+use std::alloc::Global;
+
+/// What a read gives: how many records, and their blocks.
+#[derive(Drop)]
+pub struct Given {
+    pub count: usize,
+    /// The blocks, one after the other.
+    pub text: Vec<u8>,
+}
+
+impl Given {
+    /// No records. It takes no memory.
+    pub(crate) fn nothing(alloc: Global) -> Given
+        ensures count { result.count ≡ 0 }
+        ensures text { result.text.items ≡ [] }
+    {
+        Given {
+            count: 0,
+            text: Vec::new(alloc),
+        }
+    }
+}
+
+// The block of a record, where the handle is given it.
+fn given_block<'a>(target: u64, opening: &'a Opening, entry: &'a Entry) -> Option<Block<'a>>
+    ensures visible { is_some result ≡ reading.visible (opened target [] opening.now) entry.now }
+    ensures block { IfSome result (λ b. reading.print_shown entry.now.name (Some b) ≡ reading.block (opened target [] opening.now) entry.now) }
+{
+    if !concerns(target, opening, entry) || !is_told(opening, entry.record()) {
+        return None;
+    }
+    Block::of(
+        opening.kind,
+        opening.number,
+        opening.filter.as_ref(),
+        &entry.record().kind,
+    )
+}
+
+// The refusal of a read that needs so many bytes, where that is a number.
+fn too_small(need: Option<usize>) -> Refusal
+    ensures some { IfSome need (λ n. result ≡ needs n) }
+    ensures none { need ≡ None → result ≡ OutOfMemory }
+{
+    let Some(need) = need else {
+        return Refusal::OutOfMemory;
+    };
+    match u32::try_from(need) {
+        Ok(need) => Refusal::TooSmall { need },
+        Err(_) => Refusal::OutOfMemory,
+    }
+}
+
+// How long a block is, where there is room for it, and else what refuses it.
+fn len_within(block: &Block<'_>, entry: &Entry, room: usize) -> Result<usize, Refusal>
+    ensures ok { IfOk result (λ len. (len ≡ length (reading.print_shown entry.now.name (Some block.now))) × (len ≤ room)) }
+    ensures err { IfErr result (λ r. (room < length (reading.print_shown entry.now.name (Some block.now))) × (r ≡ needs (length (reading.print_shown entry.now.name (Some block.now))))) }
+{
+    let len = block.print_len(entry.name());
+    match len {
+        Some(len) if len <= room => Ok(len),
+        _ => Err(too_small(len)),
+    }
+}
+
+// One block more.
+fn put(given: &mut Given, block: &Block<'_>, entry: &Entry, len: usize) -> Result<(), Refusal>
+    requires len { len ≡ length (reading.print_shown entry.now.name (Some block.now)) }
+    requires count { given.old.count + 1 < 2 ^ 64 }
+    ensures count { OnOk result (given.new.count ≡ given.old.count + 1) }
+    ensures text { OnOk result (given.new.text.items ≡ given.old.text.items ++ reading.print_shown entry.now.name (Some block.now)) }
+    ensures err { IfErr result (λ r. r ≡ OutOfMemory) }
+{
+    given.text.reserve(len)?;
+    block.push(&mut given.text, entry.name());
+    given.count += 1;
+    Ok(())
+}
+
+// The longest run of whole blocks that fits into so many bytes, of the records from a position on that the handle is
+// given. It is TooSmall, with the size, where the first does not fit, and then no memory was taken; else OutOfMemory is
+// the only error, and comes only where there is a block.
+fn give(
+    alloc: Global,
+    target: u64,
+    opening: &Opening,
+    records: &Chain<Entry>,
+    from: u64,
+    max: u32,
+) -> Result<Given, Refusal>
+    requires from_start { records.now.start ≤ from }
+    requires up_to_end { from ≤ end_of records.now }
+    ensures ok { IfOk result (λ g. (g.count, g.text.items) ≡ reading.fitting max (blocks_given (opened target [] opening.now) (drop (from - records.now.start) records.now.items))) }
+    ensures refusal { refusal_of result ≢ Some OutOfMemory → refusal_of result ≡ refused_for max (blocks_given (opened target [] opening.now) (drop (from - records.now.start) records.now.items)) }
+    ensures memory { refusal_of result ≡ Some OutOfMemory → first_len (blocks_given (opened target [] opening.now) (drop (from - records.now.start) records.now.items)) < 2 ^ 32
+        → refused_for max (blocks_given (opened target [] opening.now) (drop (from - records.now.start) records.now.items)) ≡ None }
+    ensures some { refusal_of result ≡ Some OutOfMemory → 0 < length (blocks_given (opened target [] opening.now) (drop (from - records.now.start) records.now.items)) }
+{
+    let mut given = Given::nothing(alloc);
+    'records: for position in from..records.end() {
+        let entry = records.at(position);
+        let Some(block) = given_block(target, opening, entry) else {
+            continue;
+        };
+        let room = max as usize - given.text.len();
+        let len = match len_within(&block, entry, room) {
+            Ok(len) => len,
+            Err(refusal) if given.count == 0 => return Err(refusal),
+            Err(_) => return Ok(given),
+        };
+        put(&mut given, &block, entry, len)?;
+    }
+    Ok(given)
+}
+
+/// What a read of at most `max` bytes gives a handle that stands at its place, as [`read_owed`] says.
+///
+/// [`read_owed`]: crate::Target::read_owed
+pub(crate) fn give_from(
+    alloc: Global,
+    target: u64,
+    reader: &Reader,
+    records: &Chain<Entry>,
+    max: u32,
+) -> Result<Given, Refusal>
+    requires { IsPlace (opened target [] reader.now.opening) records.now.start records.now.items reader.now.place }
+    ensures ok { IfOk result (λ g. (g.count, g.text.items) ≡ reading.fitting max (blocks_at target records.now.start records.now.items reader.now)) }
+    ensures refusal { refusal_of result ≢ Some OutOfMemory → refusal_of result ≡ refused_for max (blocks_at target records.now.start records.now.items reader.now) }
+    ensures memory { refusal_of result ≡ Some OutOfMemory → first_len (blocks_at target records.now.start records.now.items reader.now) < 2 ^ 32
+        → refused_for max (blocks_at target records.now.start records.now.items reader.now) ≡ None }
+    ensures some { refusal_of result ≡ Some OutOfMemory → 0 < length (blocks_at target records.now.start records.now.items reader.now) }
+{
+    match reader.place {
+        Place::At { first, .. } => give(alloc, target, &reader.opening, records, first, max),
+        _ => Ok(Given::nothing(alloc)),
+    }
+}

@@ -1,0 +1,50 @@
+//! What is asked of one handle.
+ghost use Rattle.std.specs.Prelude.{◌≡◌, ◌==◌, ℕ, List, find};
+ghost use Rattle.std.specs.Option.{option_copied};
+ghost use Rattle.pps_types.specs.History as history;
+ghost use Rattle.pps_types.specs.Content.{news};
+ghost use Rattle.pps_types.specs.Owed.{owed_in_seen};
+ghost use Rattle.notify_box.specs.Rising.{IsRising};
+ghost use Rattle.engine_targets.specs.Opened.{opened};
+ghost use Rattle.engine_targets.specs.Places.{handle_of, IsPlace};
+ghost use Rattle.engine_targets.specs.Standing.{number_in};
+
+use crate::place::Place;
+use crate::reader::{Reader, search};
+
+/// The handle of a number, if it is there.
+pub(crate) fn find_reader(readers: &[Reader], number: u32) -> Option<&Reader>
+    requires { IsRising number_in readers.now }
+    ensures { option_copied result ≡ find (λ r. number_in r == number) readers.now }
+{
+    match search(readers, number) {
+        Ok(index) => Some(&readers[index]),
+        Err(_) => None,
+    }
+}
+
+/// Whether a read of it would give something new.
+pub(crate) fn has_news(reader: &Reader) -> bool
+    ensures { (target : ℕ) (name : List ℕ) (start : ℕ) (entries : List history.Entry) → IsPlace (opened target name reader.now.opening) start entries reader.now.place
+        → result ≡ news (handle_of target name start entries reader.now) }
+{
+    match reader.place {
+        Place::News(news) => news,
+        Place::Fresh => reader.opening.reads,
+        Place::Over => true,
+        Place::Idle => false,
+        Place::At { .. } => true,
+    }
+}
+
+/// How many records it is owed: none is told in full mode, before the first read and past the limit.
+pub(crate) fn owed_count(reader: &Reader) -> Option<u32>
+    ensures { (target : ℕ) (name : List ℕ) (start : ℕ) (entries : List history.Entry) → IsPlace (opened target name reader.now.opening) start entries reader.now.place
+        → result ≡ owed_in_seen (handle_of target name start entries reader.now) (handle_of target name start entries reader.now).seen }
+{
+    match reader.place {
+        Place::Idle => Some(0),
+        Place::At { owed, .. } => Some(owed),
+        _ => None,
+    }
+}

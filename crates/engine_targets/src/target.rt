@@ -1,0 +1,367 @@
+//! One object or one directory with the handles on it, and the records that it holds for them.
+ghost use Rattle.std.specs.Prelude.{◌≡◌, ◌≢◌, ◌^◌, Some, None, IfOk, ◌↔◌, IsTrue, true, ℕ, List, [], ◌∷◌, ◌++◌, ◌+◌, ◌<◌, ◌≤◌, map, length, false, option_map, option_and_then, OnOk, OnErr};
+ghost use Rattle.std.specs.Option.{option_copied, option_map_or};
+ghost use Rattle.std.specs.List.{AllByRecursion};
+ghost use Rattle.pps_types.specs.declared.found.Found.TheVariants.{Object as FoundObject, Directory as FoundDirectory};
+ghost use Rattle.pps_types.specs.Reading as reading;
+ghost use Rattle.pps_types.specs.Rests as rests;
+ghost use Rattle.pps_types.specs.Plan as planning;
+ghost use Rattle.pps_types.specs.Owed as owing;
+ghost use Rattle.pps_types.specs.Content as content;
+ghost use Rattle.pps_types.specs.Names.{refusal_of};
+ghost use Rattle.pps_types.specs.declared.refusal.Refusal.TheVariants.{OutOfMemory};
+ghost use Rattle.engine_targets.specs.Blocks.{owed_blocks, refused_for, first_len};
+ghost use Rattle.engine_targets.specs.Opened.{opened, as_opened, armed_pulse, handle_at, is_directory, number_of, is_reader};
+
+use crate::counts::{leave, offer_each, put};
+use crate::cut::cut;
+use crate::kinds::{is_in_chain, number_of};
+use crate::opening::{Opening, Pulse};
+use crate::owed::{Given, give_from};
+use crate::passed::passed;
+use crate::place::{at_first, caught};
+use crate::questions::{find_reader, has_news, owed_count};
+use crate::reader::{Reader, search};
+use change_chain::Chain;
+use pps_types::{Bytes, DirId, Found, Handle, ObjId, Refusal};
+use server_queue::Entry;
+use std::alloc::{AllocError, Global};
+use std::collections::VecDeque;
+use std::marker::Model;
+
+/// Far more handles than have numbers, so that a count of them always fits.
+const MOST_HANDLES: usize = 1 << 62;
+
+/// An object or a directory: the handles that read it, and the records that one of them is still owed.
+///
+/// A record that nobody is owed is dropped at once, and each other one stands once for all handles. A handle knows where
+/// in this list the first record stands that it is owed. Handles of servers and their clients are not for here.
+#[derive(Drop)]
+pub struct Target {
+    of: Found,
+    name: Bytes,
+    records: Chain<Entry>,
+    counts: VecDeque<usize>,
+    readers: Vec<Reader>,
+}
+
+impl Model for Target {
+    ghost use Rattle.std.specs.Prelude.{◌-◌, map, length, vec_len, vec_capacity};
+    ghost use Rattle.std.specs.VecDeque.{deque_capacity};
+    ghost use Rattle.change_chain.specs.Span.{end_of};
+    ghost use Rattle.pps_types.specs.Names.{refusal_of};
+    ghost use Rattle.pps_types.specs.declared.refusal.Refusal.TheVariants.{OutOfMemory};
+    ghost use Rattle.engine_targets.specs.Blocks.{owed_blocks, refused_for, first_len};
+    ghost use Rattle.engine_targets.specs.Opened.{is_directory, number_of};
+    ghost use Rattle.engine_targets.specs.Places.{handle_of};
+    ghost use Rattle.engine_targets.specs.Standing.{Standing, room_of, places_of, IsTarget};
+
+    ghost Value = { Standing };
+
+    ghost view = { λ t. record {
+      of = t.of;
+      name = t.name;
+      handles = map (handle_of (number_of t.of) t.name t.records.start t.records.items) t.readers.items;
+      kept = t.records.items;
+      room = room_of (end_of t.records) t.records.room (deque_capacity t.counts - length t.counts.items);
+      places = places_of (vec_capacity t.readers) (vec_len t.readers);
+    } };
+
+    ghost invariant = { λ t. IsTarget (is_directory t.of) (number_of t.of) t.name t.records.start t.records.items t.counts.items t.readers.items };
+}
+
+impl Target {
+    /// An object without handles. It takes no memory.
+    pub fn object(alloc: Global, object: ObjId, name: Bytes) -> Target
+        ensures of { result.of ≡ FoundObject object }
+        ensures name { result.name ≡ name }
+        ensures handles { result.handles ≡ [] }
+        ensures kept { result.kept ≡ [] }
+    {
+        Target {
+            of: Found::Object(object),
+            name,
+            records: Chain::new(alloc, 0),
+            counts: VecDeque::new(alloc),
+            readers: Vec::new(alloc),
+        }
+    }
+
+    /// A directory without handles. It takes no memory.
+    pub fn directory(alloc: Global, directory: DirId) -> Target
+        ensures of { result.of ≡ FoundDirectory directory }
+        ensures name { result.name ≡ [] }
+        ensures handles { result.handles ≡ [] }
+        ensures kept { result.kept ≡ [] }
+    {
+        Target {
+            of: Found::Directory(directory),
+            name: Bytes::new(Vec::new(alloc)),
+            records: Chain::new(alloc, 0),
+            counts: VecDeque::new(alloc),
+            readers: Vec::new(alloc),
+        }
+    }
+
+    /// Whether it has no handle.
+    pub fn is_empty(&self) -> bool
+        ensures { IsTrue result ↔ (self.now.handles ≡ []) }
+    {
+        self.readers.is_empty()
+    }
+
+    /// Makes room for so many more records. What stands stays, and so does room that was made before.
+    ///
+    /// AllocError comes only where there was not as much room.
+    pub fn reserve(&mut self, count: usize) -> Result<(), AllocError>
+        ensures same { self.new ≡ record self.old { room = self.new.room } }
+        ensures room { OnOk result (count ≤ self.new.room) }
+        ensures kept { self.old.room ≤ self.new.room }
+        ensures lacking { OnErr result (self.old.room < count) }
+    {
+        if u64::MAX - self.records.end() < count as u64 {
+            return Err(AllocError);
+        }
+        self.records.reserve(count)?;
+        self.counts.reserve(count)?;
+        Ok(())
+    }
+
+    /// Offers its handles a record, for which there is room: each that sees it is owed it from then on, or has news, or is
+    /// past its limit. It takes no memory, and looks at each handle once.
+    pub fn offer(&mut self, entry: Entry)
+        requires room { 0 < self.old.room }
+        ensures of { self.new.of ≡ self.old.of }
+        ensures name { self.new.name ≡ self.old.name }
+        ensures handles { self.new.handles ≡ map (planning.offer entry) self.old.handles }
+        ensures room { self.old.room ≤ self.new.room + 1 }
+        ensures places { self.new.places ≡ self.old.places }
+    {
+        if !is_in_chain(self.of, &entry) {
+            return;
+        }
+        let target = number_of(self.of);
+        let position = self.records.end();
+        let start = self.records.start();
+        self.counts.push_back_reserved(0);
+        offer_each(
+            target,
+            &mut self.readers,
+            &mut self.counts,
+            start,
+            position,
+            &entry,
+        );
+        self.records.push_reserved(entry);
+        cut(&mut self.records, &mut self.counts);
+    }
+
+    /// Makes room for one more handle. AllocError comes only where there was none. What stands stays.
+    pub fn reserve_handle(&mut self) -> Result<(), AllocError>
+        ensures same { self.new ≡ record self.old { places = self.new.places } }
+        ensures places { OnOk result (0 < self.new.places) }
+        ensures kept { self.old.places ≤ self.new.places }
+        ensures lacking { OnErr result (self.old.places ≡ 0) }
+    {
+        if self.readers.len() >= MOST_HANDLES {
+            return Err(AllocError);
+        }
+        self.readers.reserve(1)
+    }
+
+    /// Opens a handle, for which there is room. Its number is above those of all others. It takes no memory.
+    pub fn open_reserved(&mut self, opening: Opening)
+        requires places { 0 < self.old.places }
+        requires reader { is_reader opening.kind ≡ true }
+        requires flag { owing.same_flag (reading.is_directory_kind opening.kind) (is_directory self.old.of) ≡ true }
+        requires above { AllByRecursion (λ (h : reading.Open rests.Seen). h.number < opening.number) self.old.handles }
+        ensures of { self.new.of ≡ self.old.of }
+        ensures name { self.new.name ≡ self.old.name }
+        ensures handles { self.new.handles ≡ self.old.handles ++ reading.reseen (λ h. planning.first_seen h (reading.style h.kind)) (opened (number_of self.old.of) self.old.name opening) ∷ [] }
+        ensures kept { self.new.kept ≡ self.old.kept }
+        ensures room { self.new.room ≡ self.old.room }
+        ensures places { self.new.places + 1 ≡ self.old.places }
+    {
+        let place = at_first(opening.kind, opening.reads);
+        self.readers.push_reserved(Reader {
+            opening,
+            place,
+            parked: None,
+            armed: None,
+        });
+    }
+
+    /// A handle has read everything. It takes no memory.
+    pub fn catch_up(&mut self, number: Handle)
+        ensures of { self.new.of ≡ self.old.of }
+        ensures name { self.new.name ≡ self.old.name }
+        ensures handles { self.new.handles ≡ planning.on_numbered number (reading.reseen planning.caught_up) self.old.handles }
+        ensures room { self.old.room ≤ self.new.room }
+        ensures places { self.new.places ≡ self.old.places }
+    {
+        let Ok(index) = search(&self.readers, number.number()) else {
+            return;
+        };
+        let place = caught(self.readers[index].opening.kind);
+        let start = self.records.start();
+        put(&mut self.readers, &mut self.counts, start, index, place);
+        cut(&mut self.records, &mut self.counts);
+    }
+
+    /// A handle was given so many of the records that it is owed. It takes no memory.
+    pub fn pass(&mut self, number: Handle, count: usize)
+        ensures of { self.new.of ≡ self.old.of }
+        ensures name { self.new.name ≡ self.old.name }
+        ensures handles { self.new.handles ≡ planning.on_numbered number (reading.reseen (λ h. planning.left h count h.seen)) self.old.handles }
+        ensures room { self.old.room ≤ self.new.room }
+        ensures places { self.new.places ≡ self.old.places }
+    {
+        let Ok(index) = search(&self.readers, number.number()) else {
+            return;
+        };
+        let reader = &self.readers[index];
+        let place = passed(
+            number_of(self.of),
+            &reader.opening,
+            &self.records,
+            reader.place,
+            count,
+        );
+        let start = self.records.start();
+        put(&mut self.readers, &mut self.counts, start, index, place);
+        cut(&mut self.records, &mut self.counts);
+    }
+
+    /// A read of that size waits on a handle, or none any more. It takes no memory.
+    pub fn park(&mut self, number: Handle, size: Option<u32>)
+        ensures of { self.new.of ≡ self.old.of }
+        ensures name { self.new.name ≡ self.old.name }
+        ensures handles { self.new.handles ≡ planning.on_numbered number (λ h. record h { parked = size }) self.old.handles }
+        ensures kept { self.new.kept ≡ self.old.kept }
+        ensures room { self.new.room ≡ self.old.room }
+        ensures places { self.new.places ≡ self.old.places }
+    {
+        let Ok(index) = search(&self.readers, number.number()) else {
+            return;
+        };
+        let reader = &mut self.readers[index];
+        reader.parked = size;
+    }
+
+    /// A pulse waits on a handle, or none any more. It takes no memory.
+    pub fn arm(&mut self, number: Handle, pulse: Option<Pulse>)
+        ensures of { self.new.of ≡ self.old.of }
+        ensures name { self.new.name ≡ self.old.name }
+        ensures handles { self.new.handles ≡ planning.on_numbered number (λ h. record h { armed = armed_pulse pulse }) self.old.handles }
+        ensures kept { self.new.kept ≡ self.old.kept }
+        ensures room { self.new.room ≡ self.old.room }
+        ensures places { self.new.places ≡ self.old.places }
+    {
+        let Ok(index) = search(&self.readers, number.number()) else {
+            return;
+        };
+        let reader = &mut self.readers[index];
+        reader.armed = pulse;
+    }
+
+    /// Closes a handle. It takes no memory.
+    pub fn close(&mut self, number: Handle)
+        ensures of { self.new.of ≡ self.old.of }
+        ensures name { self.new.name ≡ self.old.name }
+        ensures handles { self.new.handles ≡ planning.without_number number self.old.handles }
+        ensures room { self.old.room ≤ self.new.room }
+        ensures places { self.old.places ≤ self.new.places }
+    {
+        let Ok(index) = search(&self.readers, number.number()) else {
+            return;
+        };
+        let reader = self.readers.remove(index);
+        let start = self.records.start();
+        leave(&mut self.counts, start, reader.place);
+        cut(&mut self.records, &mut self.counts);
+    }
+
+    /// What the open of a handle fixed, where it is here.
+    pub fn opening(&self, number: Handle) -> Option<&Opening>
+        ensures { option_map (opened (number_of self.now.of) self.now.name) (option_copied result) ≡ option_map as_opened (handle_at number self.now.handles) }
+    {
+        match find_reader(&self.readers, number.number()) {
+            None => None,
+            Some(reader) => Some(&reader.opening),
+        }
+    }
+
+    /// The size of the read that waits on a handle, if one does.
+    pub fn parked(&self, number: Handle) -> Option<u32>
+        ensures { result ≡ option_and_then (λ (h : reading.Open rests.Seen). h.parked) (handle_at number self.now.handles) }
+    {
+        match find_reader(&self.readers, number.number()) {
+            None => None,
+            Some(reader) => reader.parked,
+        }
+    }
+
+    /// The pulse that is armed on a handle, if one is.
+    pub fn armed(&self, number: Handle) -> Option<Pulse>
+        ensures { armed_pulse result ≡ option_and_then (λ (h : reading.Open rests.Seen). h.armed) (handle_at number self.now.handles) }
+    {
+        match find_reader(&self.readers, number.number()) {
+            None => None,
+            Some(reader) => reader.armed,
+        }
+    }
+
+    /// Whether a handle is here that a read would give something new.
+    pub fn has_news(&self, number: Handle) -> bool
+        ensures { result ≡ option_map_or content.news (handle_at number self.now.handles) false }
+    {
+        match find_reader(&self.readers, number.number()) {
+            None => false,
+            Some(reader) => has_news(reader),
+        }
+    }
+
+    /// How many records a handle is owed: none is told where it is not here, in full mode, before the first read and past
+    /// the limit.
+    pub fn owed(&self, number: Handle) -> Option<u32>
+        ensures { result ≡ option_and_then (λ (h : reading.Open rests.Seen). owing.owed_in_seen h h.seen) (handle_at number self.now.handles) }
+    {
+        match find_reader(&self.readers, number.number()) {
+            None => None,
+            Some(reader) => owed_count(reader),
+        }
+    }
+
+    /// What a read of at most `max` bytes gives a handle of the records that it is owed: the longest run of whole blocks
+    /// that fits. Nothing moves.
+    ///
+    /// It is TooSmall, with the size, where the first block does not fit, before any memory is taken; else OutOfMemory is
+    /// the only error, where something is owed.
+    pub fn read_owed(&self, alloc: Global, number: Handle, max: u32) -> Result<Given, Refusal>
+        ensures ok { IfOk result (λ g. (g.count, g.text.items) ≡ reading.fitting max (owed_blocks (handle_at number self.now.handles))) }
+        ensures refusal { refusal_of result ≢ Some OutOfMemory → refusal_of result ≡ refused_for max (owed_blocks (handle_at number self.now.handles)) }
+        ensures memory { refusal_of result ≡ Some OutOfMemory → first_len (owed_blocks (handle_at number self.now.handles)) < 2 ^ 32
+            → refused_for max (owed_blocks (handle_at number self.now.handles)) ≡ None }
+        ensures some { refusal_of result ≡ Some OutOfMemory → 0 < length (owed_blocks (handle_at number self.now.handles)) }
+    {
+        let Some(reader) = find_reader(&self.readers, number.number()) else {
+            return Ok(Given::nothing(alloc));
+        };
+        give_from(alloc, number_of(self.of), reader, &self.records, max)
+    }
+
+    /// How many records are held.
+    pub fn kept(&self) -> u64
+        ensures { result ≡ length self.now.kept }
+    {
+        self.records.end() - self.records.start()
+    }
+
+    /// Just those records are held that have to be kept: the longest rest that a handle is owed. Does nothing. Its contract
+    /// is the law that says so.
+    pub fn is_exact(&self)
+        ensures { self.now.kept ≡ owing.longest_rest (is_directory self.now.of) (number_of self.now.of) self.now.handles }
+    {
+        let _held = self.records.start();
+    }
+}
