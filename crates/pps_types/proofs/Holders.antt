@@ -248,7 +248,7 @@ pub told-both : (c : Content) → Told c → AllTold c
 told-both c p = all-imp (λ (h : Open Seen). (fits (style h.kind) h.seen ≡ true) × (IsWhole h h.seen × HasFirst h h.seen)) IsTold (λ h q. (q.0, q.1.0, q.1.1)) c.handles
     (all-both (λ (h : Open Seen). fits (style h.kind) h.seen ≡ true) (λ h. IsWhole h h.seen × HasFirst h h.seen) c.handles p.0 (all-both (λ (h : Open Seen). IsWhole h h.seen) (λ h. HasFirst h h.seen) c.handles p.1 p.2))
 
-told-kept : (x : Move) (c : Content) → AllTold c → AllTold (apply_seen x c)
+pub told-kept : (x : Move) (c : Content) → AllTold c → AllTold (apply_seen x c)
 told-kept (Attaches conn) c p = p
 told-kept (Leaves conn) c p = p
 told-kept (Creates o) c p = all-offered IsTold (creation o) (λ h. offered-tells h (creation o) h.seen) c.handles p

@@ -162,7 +162,7 @@ closings-not c (h ∷ hs) = all-append NotOpens (closing c h) (closings (apply_a
 writing-not : (c : Content) (h : Open Seen) (text : WriteText) → AllByRecursion NotOpens (writing c h text)
 writing-not c h text = all-cond NotOpens (is_empty text.lines) [] _ tt (on_target-not c h (written_kind c h h.kind text) (Some h.number))
 
-preparing-not : (c : Content) (mode : Mode) (spec : OpenSpec) (found : Option Known) → AllByRecursion NotOpens (preparing c mode spec found)
+pub preparing-not : (c : Content) (mode : Mode) (spec : OpenSpec) (found : Option Known) → AllByRecursion NotOpens (preparing c mode spec found)
 preparing-not c mode spec None = all-cond NotOpens spec.all [] _ tt (tt, tt)
 preparing-not c mode spec (Some o) = all-cond NotOpens spec.server _ _ (tt, (tt, tt)) (all-cond NotOpens (is_some o.object.server) _ _ (tt, tt) (all-cond NotOpens mode.t _ [] (tt, tt) tt))
 
@@ -194,7 +194,7 @@ module _ (P : List Move → Type 0) where
   unlinking-of not-opens None (Some d) = not-opens (_ ∷ []) (tt, tt)
   unlinking-of not-opens None None = not-opens [] tt
 
-  effect-of : (c : Content) (conn : ℕ) → ((xs : List Move) → AllByRecursion NotOpens xs → P xs)
+  pub effect-of : (c : Content) (conn : ℕ) → ((xs : List Move) → AllByRecursion NotOpens xs → P xs)
       → ((mode : Mode) (spec : OpenSpec) → P (opening c conn mode spec (found_object c spec))) → (request : Request) → P (effect c conn request).1
   unfolding effect
   effect-of c conn not-opens opens Attach = not-opens (Attaches conn ∷ []) (tt, tt)

@@ -1,0 +1,16 @@
+pub mod Lists
+pub mod Handles
+pub mod Sight
+pub mod Untouched
+pub mod Settling
+pub mod Replies
+pub mod Objects
+pub mod Members
+pub mod Targets
+pub mod Events
+pub mod Few
+pub mod Plans
+pub mod Closes
+pub mod Steps
+pub mod Queues
+pub mod Lookups

@@ -1,0 +1,19 @@
+use Rattle.settling_laws.proofs.Steps.{answer-stays, in-turn, others-left}
+use Rattle.settling_laws.proofs.Queues.{queue-after, follows-keeps, follows-counts, follows-elsewhere}
+use Rattle.settling_laws.proofs.Lookups.{woken-among, concerned-merged, one-record, two-records}
+use Rattle.settling_laws.proofs.laws.steps_are_free.Goals as goal
+
+pub returns : goal.returns
+returns c = record {
+  answers = answer-stays;
+  in_turn = in-turn;
+  others = others-left;
+  queues = queue-after;
+  keeps = follows-keeps;
+  counts = follows-counts;
+  elsewhere = follows-elsewhere;
+  among = woken-among;
+  looked_up = λ es c r. concerned-merged es 0 c.next_handle c.handles r;
+  one_record = one-record;
+  two_records = two-records;
+}
