@@ -11,6 +11,3 @@ mod tree;
 
 pub use listed::{Member, Standing};
 pub use tree::Tree;
-
-#[cfg(test)]
-mod tests;

@@ -8,6 +8,3 @@ mod rising;
 mod room;
 
 pub use outbox::Outbox;
-
-#[cfg(test)]
-mod tests;

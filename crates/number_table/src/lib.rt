@@ -7,6 +7,3 @@ mod table;
 
 pub use iter::Iter;
 pub use table::Table;
-
-#[cfg(test)]
-mod tests;

@@ -13,6 +13,3 @@ mod print;
 
 pub use lent::AttributeRef;
 pub use object::Object;
-
-#[cfg(test)]
-mod tests;

@@ -14,6 +14,3 @@ pub use entry::Entry;
 pub use plan::Plan;
 pub use queue::Queue;
 pub use sender::Sender;
-
-#[cfg(test)]
-mod tests;

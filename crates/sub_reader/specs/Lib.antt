@@ -3,4 +3,3 @@ pub mod Follow
 pub mod Target
 pub mod Owed
 pub mod Answered
-pub mod Tests

@@ -14,6 +14,3 @@ pub use lent::Lent;
 pub use plan::{Output, Plan};
 pub use settings::{Settings, Subject};
 pub use sub::Sub;
-
-#[cfg(test)]
-mod tests;

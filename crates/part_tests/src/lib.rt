@@ -1,0 +1,38 @@
+//! Tests of the parts that the service is made of, or will be, by their public calls: with ample memory, what they answer
+//! at the edges, beside plain lists, and devices whose calls fail.
+#![tactic(auto)]
+
+#[cfg(test)]
+mod attributes;
+#[cfg(test)]
+mod blocks;
+#[cfg(test)]
+mod boxes;
+#[cfg(test)]
+mod chains;
+#[cfg(test)]
+mod chance;
+#[cfg(test)]
+mod devices;
+#[cfg(test)]
+mod filters;
+#[cfg(test)]
+mod objects;
+#[cfg(test)]
+mod opens;
+#[cfg(test)]
+mod queues;
+#[cfg(test)]
+mod samples;
+#[cfg(test)]
+mod scripts;
+#[cfg(test)]
+mod subscribers;
+#[cfg(test)]
+mod tables;
+#[cfg(test)]
+mod texts;
+#[cfg(test)]
+mod trees;
+#[cfg(test)]
+mod values;

@@ -1,0 +1,59 @@
+//! What tests of all parts are made from.
+
+use pps_types::{Bytes, Handle, Kind, Line, Lines, ObjId, Record, SharedBytes};
+use std::alloc::{AllocError, Global};
+
+pub(crate) fn bytes(alloc: Global, content: &[u8]) -> Result<Bytes, AllocError> {
+    Bytes::from_slice(alloc, content)
+}
+
+pub(crate) fn shared(alloc: Global, content: &[u8]) -> Result<SharedBytes, AllocError> {
+    SharedBytes::new(alloc, content.to_vec(alloc)?)
+}
+
+/// The path of these names.
+pub(crate) fn path(alloc: Global, names: &[&[u8]]) -> Result<Vec<Bytes>, AllocError> {
+    let mut path = Vec::new(alloc);
+    for name in names {
+        path.push(bytes(alloc, name)?)?;
+    }
+    Ok(path)
+}
+
+/// A line that sets an attribute, nonpersistent where so.
+pub(crate) fn set_line(
+    alloc: Global,
+    name: &[u8],
+    enc: &[u8],
+    value: &[u8],
+    n: bool,
+) -> Result<Line, AllocError> {
+    Ok(Line::Set {
+        name: bytes(alloc, name)?,
+        enc: bytes(alloc, enc)?,
+        value: bytes(alloc, value)?,
+        n,
+    })
+}
+
+/// A line that deletes an attribute.
+pub(crate) fn deletion(alloc: Global, name: &[u8]) -> Result<Line, AllocError> {
+    Ok(Line::Del {
+        name: bytes(alloc, name)?,
+    })
+}
+
+pub(crate) fn one_line(alloc: Global, line: Line) -> Result<Lines, AllocError> {
+    let mut lines = Vec::new(alloc);
+    lines.push(line)?;
+    Ok(Lines::new(lines))
+}
+
+/// A record of an object, by the handle of that number or by none.
+pub(crate) fn record_of(object: u64, kind: Kind, writer: Option<u32>) -> Record {
+    Record {
+        object: ObjId::new(object),
+        kind,
+        writer: writer.map(Handle::new),
+    }
+}
