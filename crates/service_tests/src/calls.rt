@@ -1,8 +1,9 @@
+//! The engine's calls.
+
+use crate::scripts::{data, shared};
 use open_options::read_path;
 use pps_engine::Engine;
-use pps_types::{
-    Action, Bytes, Conn, Event, Handle, Item, Mode, Outcome, Refusal, Request, SharedBytes,
-};
+use pps_types::{Action, Bytes, Conn, Event, Handle, Item, Mode, Outcome, Refusal, Request};
 use std::alloc::{AllocError, Global};
 use std::test::Fail;
 
@@ -39,25 +40,6 @@ fn read(conn: u16, handle: u32, size: u32) -> Event {
     asked(conn, Request::Read { handle, size })
 }
 
-fn data(alloc: Global, bytes: &[u8]) -> Result<Outcome, AllocError> {
-    let bytes = bytes.to_vec(alloc)?;
-    Ok(Outcome::Data(SharedBytes::new(alloc, bytes)?))
-}
-
-fn is_answered(engine: &mut Engine, event: &Event, wanted: &Outcome) -> bool {
-    match engine.step(event) {
-        Err(_) => false,
-        Ok(outcome) => outcome == *wanted,
-    }
-}
-
-fn is_refused(engine: &mut Engine, event: &Event, wanted: Refusal) -> bool {
-    let Err(refusal) = engine.step(event) else {
-        return false;
-    };
-    refusal == wanted
-}
-
 /// One connection has created `/gps` and written to it, and another has opened it in delta mode.
 fn published(alloc: Global) -> Result<Engine, Refusal> {
     let mut engine = Engine::new(alloc)?;
@@ -74,29 +56,23 @@ fn what_is_written_is_read(rt: HostRuntime) -> Result<(), Fail> {
     let alloc = rt.alloc();
     let mut engine = published(alloc)?;
     let everything = data(alloc, b"@gps\nspeed:n:65\n")?;
-    assert!(rt; is_answered(&mut engine, &read(SUBSCRIBER, 2, 4_096), &everything));
-    assert!(rt; is_answered(&mut engine, &read(SUBSCRIBER, 2, 4_096), &Outcome::Parked));
-    assert!(rt;
-        is_answered(
-            &mut engine,
-            &write(alloc, PUBLISHER, 1, b"speed:n:66\n")?,
-            &Outcome::Wrote(11)
-        )
+    assert_eq!(rt; engine.step(&read(SUBSCRIBER, 2, 4_096)), Ok(everything));
+    assert_eq!(rt;
+        engine.step(&read(SUBSCRIBER, 2, 4_096)),
+        Ok(Outcome::Parked)
     );
-    let Outcome::Data(bytes) = data(alloc, b"@gps\nspeed:n:66\n")? else {
-        panic!(rt; "no data");
-    };
+    assert_eq!(rt;
+        engine.step(&write(alloc, PUBLISHER, 1, b"speed:n:66\n")?),
+        Ok(Outcome::Wrote(11))
+    );
     let late = Outcome::Item(Item::ReadDone {
         handle: Handle::new(2),
-        result: Ok(bytes),
+        result: Ok(shared(alloc, b"@gps\nspeed:n:66\n")?),
     });
-    assert!(rt; is_answered(&mut engine, &asked(SUBSCRIBER, Request::Receive), &late));
-    assert!(rt;
-        is_answered(
-            &mut engine,
-            &asked(SUBSCRIBER, Request::Receive),
-            &Outcome::Empty
-        )
+    assert_eq!(rt; engine.step(&asked(SUBSCRIBER, Request::Receive)), Ok(late));
+    assert_eq!(rt;
+        engine.step(&asked(SUBSCRIBER, Request::Receive)),
+        Ok(Outcome::Empty)
     );
     Ok(())
 }
@@ -106,29 +82,20 @@ fn requests_of_all_kinds_are_answered(rt: HostRuntime) -> Result<(), Fail> {
     let alloc = rt.alloc();
     let mut engine = published(alloc)?;
     let path = Bytes::from_slice(alloc, b"/maps")?;
-    assert!(rt;
-        is_answered(
-            &mut engine,
-            &asked(PUBLISHER, Request::Mkdir { path }),
-            &Outcome::Done
-        )
+    assert_eq!(rt;
+        engine.step(&asked(PUBLISHER, Request::Mkdir { path })),
+        Ok(Outcome::Done)
     );
     let path = Bytes::from_slice(alloc, b"/")?;
     let names = data(alloc, b"gps\nmaps/\n")?;
-    assert!(rt;
-        is_answered(
-            &mut engine,
-            &asked(PUBLISHER, Request::List { path }),
-            &names
-        )
+    assert_eq!(rt;
+        engine.step(&asked(PUBLISHER, Request::List { path })),
+        Ok(names)
     );
     let path = Bytes::from_slice(alloc, b"/maps")?;
-    assert!(rt;
-        is_answered(
-            &mut engine,
-            &asked(PUBLISHER, Request::Unlink { path }),
-            &Outcome::Done
-        )
+    assert_eq!(rt;
+        engine.step(&asked(PUBLISHER, Request::Unlink { path })),
+        Ok(Outcome::Done)
     );
     let notify = Request::Notify {
         handle: Handle::new(2),
@@ -136,30 +103,21 @@ fn requests_of_all_kinds_are_answered(rt: HostRuntime) -> Result<(), Fail> {
         code: 1,
         value: 2,
     };
-    assert!(rt;
-        is_answered(
-            &mut engine,
-            &asked(SUBSCRIBER, notify),
-            &Outcome::Input(true)
-        )
+    assert_eq!(rt;
+        engine.step(&asked(SUBSCRIBER, notify)),
+        Ok(Outcome::Input(true))
     );
     let close = Request::Close {
         handle: Handle::new(2),
     };
-    assert!(rt; is_answered(&mut engine, &asked(SUBSCRIBER, close), &Outcome::Done));
-    assert!(rt;
-        is_answered(
-            &mut engine,
-            &asked(SUBSCRIBER, Request::Detach),
-            &Outcome::Done
-        )
+    assert_eq!(rt; engine.step(&asked(SUBSCRIBER, close)), Ok(Outcome::Done));
+    assert_eq!(rt;
+        engine.step(&asked(SUBSCRIBER, Request::Detach)),
+        Ok(Outcome::Done)
     );
-    assert!(rt;
-        is_refused(
-            &mut engine,
-            &asked(SUBSCRIBER, Request::Receive),
-            Refusal::NotAttached
-        )
+    assert_eq!(rt;
+        engine.step(&asked(SUBSCRIBER, Request::Receive)),
+        Err(Refusal::NotAttached)
     );
     Ok(())
 }
@@ -172,11 +130,14 @@ fn what_is_planned_is_carried_out(rt: HostRuntime) -> Result<(), Fail> {
     let plan = engine.plan(&read(SUBSCRIBER, 2, 4_096))?;
     assert!(rt; engine.same(&before));
     let everything = data(alloc, b"@gps\nspeed:n:65\n")?;
-    assert!(rt; *plan.reply() == everything);
-    assert!(rt; engine.commit(plan) == everything);
+    assert_eq!(rt; *plan.reply(), everything);
+    assert_eq!(rt; engine.commit(plan), everything);
     assert!(rt; !engine.same(&before));
     let after = engine.copy()?;
-    assert!(rt; is_refused(&mut engine, &read(SUBSCRIBER, 9, 4_096), Refusal::BadHandle));
+    assert_eq!(rt;
+        engine.step(&read(SUBSCRIBER, 9, 4_096)),
+        Err(Refusal::BadHandle)
+    );
     assert!(rt; engine.same(&after));
     Ok(())
 }
@@ -186,11 +147,11 @@ fn debts_are_told(rt: HostRuntime) -> Result<(), Fail> {
     let alloc = rt.alloc();
     let mut engine = published(alloc)?;
     let path = read_path(alloc, b"/gps")?;
-    assert!(rt; engine.owed(Handle::new(2)).is_none());
+    assert_eq!(rt; engine.owed(Handle::new(2)), None);
     engine.step(&read(SUBSCRIBER, 2, 4_096))?;
     engine.step(&write(alloc, PUBLISHER, 1, b"speed:n:66\n")?)?;
-    assert!(rt; matches!(engine.owed(Handle::new(2)), Some(1)));
-    assert!(rt; matches!(engine.kept(&path), Some(1)));
+    assert_eq!(rt; engine.owed(Handle::new(2)), Some(1));
+    assert_eq!(rt; engine.kept(&path), Some(1));
     engine.holds_what_is_owed();
     Ok(())
 }
@@ -205,14 +166,11 @@ fn engines_begin_as_asked(rt: HostRuntime) -> Result<(), Fail> {
     let mut last = Engine::new_at(alloc, Handle::new(4_294_967_295))?;
     last.step(&asked(PUBLISHER, Request::Attach))?;
     let event = open(alloc, PUBLISHER, "rwc", b"/a")?;
-    assert!(rt;
-        is_answered(
-            &mut last,
-            &event,
-            &Outcome::Opened(Handle::new(4_294_967_295))
-        )
+    assert_eq!(rt;
+        last.step(&event),
+        Ok(Outcome::Opened(Handle::new(4_294_967_295)))
     );
-    assert!(rt; is_refused(&mut last, &event, Refusal::TableFull));
+    assert_eq!(rt; last.step(&event), Err(Refusal::TableFull));
     Ok(())
 }
 
@@ -226,13 +184,11 @@ fn lists_of_events_are_run(rt: HostRuntime) -> Result<(), Fail> {
         asked(PUBLISHER, Request::Receive),
     ];
     let replies = engine.run_list(&events)?;
-    let [
+    let wanted = [
         Ok(Outcome::Done),
         Err(Refusal::AlreadyAttached),
         Ok(Outcome::Empty),
-    ] = replies.as_slice()
-    else {
-        panic!(rt; "other replies");
-    };
+    ];
+    assert_eq!(rt; replies.as_slice(), wanted.as_slice());
     Ok(())
 }

@@ -50,10 +50,10 @@ fn what_a_filter_hides_is_kept_between_others(rt: HostRuntime) -> Result<(), Fai
     let alloc = rt.alloc();
     let mut engine = Engine::new(alloc)?;
     run(alloc, &mut engine, &FILTERED_DELTAS)?;
-    assert!(rt; matches!(engine.owed(Handle::new(2)), Some(1)));
-    assert!(rt; matches!(kept(alloc, &engine, b"/gps")?, Some(2)));
+    assert_eq!(rt; engine.owed(Handle::new(2)), Some(1));
+    assert_eq!(rt; kept(alloc, &engine, b"/gps")?, Some(2));
     run(alloc, &mut engine, &[b"2 read 2 99"])?;
-    assert!(rt; matches!(kept(alloc, &engine, b"/gps")?, Some(0)));
+    assert_eq!(rt; kept(alloc, &engine, b"/gps")?, Some(0));
     Ok(())
 }
 
@@ -62,19 +62,19 @@ fn just_what_is_owed_is_kept(rt: HostRuntime) -> Result<(), Fail> {
     let alloc = rt.alloc();
     let mut engine = Engine::new(alloc)?;
     run(alloc, &mut engine, &EXACT_CUT)?;
-    assert!(rt; matches!(kept(alloc, &engine, b"/gps")?, Some(3)));
-    assert!(rt; matches!(kept(alloc, &engine, b"/")?, Some(3)));
-    assert!(rt; engine.owed(Handle::new(4)).is_none());
+    assert_eq!(rt; kept(alloc, &engine, b"/gps")?, Some(3));
+    assert_eq!(rt; kept(alloc, &engine, b"/")?, Some(3));
+    assert_eq!(rt; engine.owed(Handle::new(4)), None);
     run(alloc, &mut engine, &[b"2 read 2 99"])?;
-    assert!(rt; matches!(kept(alloc, &engine, b"/gps")?, Some(3)));
+    assert_eq!(rt; kept(alloc, &engine, b"/gps")?, Some(3));
     run(alloc, &mut engine, &[b"3 read 3 10"])?;
-    assert!(rt; matches!(kept(alloc, &engine, b"/gps")?, Some(2)));
+    assert_eq!(rt; kept(alloc, &engine, b"/gps")?, Some(2));
     run(alloc, &mut engine, &[b"3 close 3"])?;
-    assert!(rt; matches!(kept(alloc, &engine, b"/gps")?, Some(0)));
-    assert!(rt; matches!(kept(alloc, &engine, b"/")?, Some(3)));
+    assert_eq!(rt; kept(alloc, &engine, b"/gps")?, Some(0));
+    assert_eq!(rt; kept(alloc, &engine, b"/")?, Some(3));
     run(alloc, &mut engine, &[b"4 read 4 99", b"5 close 5"])?;
-    assert!(rt; matches!(kept(alloc, &engine, b"/")?, Some(0)));
-    assert!(rt; kept(alloc, &engine, b"/none")?.is_none());
+    assert_eq!(rt; kept(alloc, &engine, b"/")?, Some(0));
+    assert_eq!(rt; kept(alloc, &engine, b"/none")?, None);
     Ok(())
 }
 
@@ -84,8 +84,8 @@ fn the_slowest_decides(rt: HostRuntime) -> Result<(), Fail> {
     let mut engine = Engine::new(alloc)?;
     run(alloc, &mut engine, &EXACT_CUT)?;
     run(alloc, &mut engine, &[b"3 read 3 10"])?;
-    assert!(rt; matches!(kept(alloc, &engine, b"/gps")?, Some(3)));
+    assert_eq!(rt; kept(alloc, &engine, b"/gps")?, Some(3));
     run(alloc, &mut engine, &[b"2 read 2 20"])?;
-    assert!(rt; matches!(kept(alloc, &engine, b"/gps")?, Some(2)));
+    assert_eq!(rt; kept(alloc, &engine, b"/gps")?, Some(2));
     Ok(())
 }

@@ -3,7 +3,7 @@
 use super::{FRAMES, event, stream};
 use pps_frame::{Decoder, FeedFault};
 use pps_types::Event;
-use std::alloc::Global;
+use std::alloc::{AllocError, Global};
 use std::test::Fail;
 
 /// What a stream gives in pieces of that size: its events, and whether a malformed frame follows.
@@ -20,30 +20,24 @@ fn fed_by(alloc: Global, stream: &[u8], size: usize) -> Result<(Vec<Event>, bool
     Ok((events, false))
 }
 
-/// Whether these are the events of the first frames, as many as there are.
-fn are_first(alloc: Global, events: &[Event]) -> Result<bool, FeedFault> {
-    for (number, given) in events.iter().enumerate() {
-        if *given != event(alloc, number)? {
-            return Ok(false);
-        }
+/// The event of each of the frames.
+fn all_events(alloc: Global) -> Result<Vec<Event>, AllocError> {
+    let mut events = Vec::new(alloc);
+    for number in 0..FRAMES.len() {
+        events.push(event(alloc, number)?)?;
     }
-    Ok(true)
+    Ok(events)
 }
 
 #[test]
 fn a_stream_gives_its_events_in_pieces_of_each_size(rt: HostRuntime) -> Result<(), Fail> {
     let alloc = rt.alloc();
     let stream = stream(alloc)?;
+    let wanted = all_events(alloc)?;
     for size in 1..=stream.len() {
         let (events, bad) = fed_by(alloc, stream.as_slice(), size).ok().ok_or("fed")?;
         assert!(rt; !bad);
-        assert_eq!(rt; events.len(), FRAMES.len(), "{size}");
-        assert!(rt;
-            are_first(alloc, events.as_slice())
-                .ok()
-                .ok_or("the events")?,
-            "{size}"
-        );
+        assert_eq!(rt; events.as_slice(), wanted.as_slice(), "{size}");
     }
     Ok(())
 }
