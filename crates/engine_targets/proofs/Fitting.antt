@@ -1,5 +1,5 @@
 -- Blocks that fit, one by one.
-use Rattle.std.proofs.Common.{◌≡◌, ℕ, zero, suc, ◌+◌, ◌-◌, ◌<◌, ◌≤◌, ◌^◌, Bool, true, false, cond, leb, Option, Some, None, List, [], ◌∷◌, ◌++◌, length, drop, filter, map, refl, sym, ap, subst, ◌∙◌, arith, append_assoc, length-append, add-zero}
+use Rattle.std.proofs.Common.{◌≡◌, ℕ, zero, suc, ◌+◌, ◌-◌, ◌<◌, ◌≤◌, ◌^◌, Bool, true, false, cond, Some, None, List, [], ◌∷◌, ◌++◌, length, drop, filter, map, refl, sym, ap, ◌∙◌, arith, append_assoc, length-append, add-zero}
 use Rattle.std.specs.Prelude.{slice_get, nat_lt, ◌≢◌}
 use Rattle.std.proofs.lemmas.Bool.Decides.{nat_tests}
 use Rattle.std.proofs.lemmas.Bool.{le-leb, lt-leb}
@@ -9,7 +9,7 @@ use Rattle.pps_types.proofs.Lists.{append-nil}
 use Rattle.pps_types.specs.declared.refusal.Refusal.{Refusal}
 use Rattle.pps_types.specs.declared.refusal.Refusal.TheVariants.{TooSmall, OutOfMemory}
 use Rattle.server_queue.specs.Reads.{needed}
-use Rattle.engine_targets.specs.Blocks.{blocks_given, refused_for, first_len, needs}
+use Rattle.engine_targets.specs.Blocks.{blocks_given, refused_for, needs}
 use Rattle.engine_targets.proofs.Skips.{here}
 
 module _ (max : ℕ) (all : List (List ℕ)) where

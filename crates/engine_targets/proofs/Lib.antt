@@ -8,3 +8,4 @@ pub mod Skips
 pub mod Puts
 pub mod Finds
 pub mod Fitting
+pub mod Waking

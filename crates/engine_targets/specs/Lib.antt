@@ -3,3 +3,4 @@ pub mod Places
 pub mod Counts
 pub mod Standing
 pub mod Blocks
+pub mod Woken

@@ -11,6 +11,7 @@ mod place;
 mod questions;
 mod reader;
 mod target;
+mod woken;
 
 pub use opening::{Opening, Pulse};
 pub use owed::Given;

@@ -3,11 +3,13 @@ ghost use Rattle.std.specs.Prelude.{◌≡◌, ◌==◌, ℕ, List, find};
 ghost use Rattle.std.specs.Option.{option_copied};
 ghost use Rattle.pps_types.specs.History as history;
 ghost use Rattle.pps_types.specs.Content.{news};
+ghost use Rattle.pps_types.specs.Rests as rests;
 ghost use Rattle.pps_types.specs.Owed.{owed_in_seen};
 ghost use Rattle.notify_box.specs.Rising.{IsRising};
 ghost use Rattle.engine_targets.specs.Opened.{opened};
-ghost use Rattle.engine_targets.specs.Places.{handle_of, IsPlace};
+ghost use Rattle.engine_targets.specs.Places.{handle_of, seen_at, IsPlace};
 ghost use Rattle.engine_targets.specs.Standing.{number_in};
+ghost use Rattle.engine_targets.specs.Woken.{news_at};
 
 use crate::place::Place;
 use crate::reader::{Reader, search};
@@ -25,7 +27,8 @@ pub(crate) fn find_reader(readers: &[Reader], number: u32) -> Option<&Reader>
 
 /// Whether a read of it would give something new.
 pub(crate) fn has_news(reader: &Reader) -> bool
-    ensures { (target : ℕ) (name : List ℕ) (start : ℕ) (entries : List history.Entry) → IsPlace (opened target name reader.now.opening) start entries reader.now.place
+    ensures at { result ≡ news_at reader.now.opening.reads reader.now.place }
+    ensures news { (target : ℕ) (name : List ℕ) (start : ℕ) (entries : List history.Entry) → IsPlace (opened target name reader.now.opening) start entries reader.now.place
         → result ≡ news (handle_of target name start entries reader.now) }
 {
     match reader.place {
@@ -47,4 +50,11 @@ pub(crate) fn owed_count(reader: &Reader) -> Option<u32>
         Place::At { owed, .. } => Some(owed),
         _ => None,
     }
+}
+
+/// Whether it is owed more than its limit.
+pub(crate) fn is_over(reader: &Reader) -> bool
+    ensures { (start : ℕ) (entries : List history.Entry) → result ≡ rests.is_over (seen_at start entries reader.now.place) }
+{
+    matches!(reader.place, Place::Over)
 }

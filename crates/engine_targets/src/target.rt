@@ -12,6 +12,7 @@ ghost use Rattle.pps_types.specs.Names.{refusal_of};
 ghost use Rattle.pps_types.specs.declared.refusal.Refusal.TheVariants.{OutOfMemory};
 ghost use Rattle.engine_targets.specs.Blocks.{owed_blocks, refused_for, first_len};
 ghost use Rattle.engine_targets.specs.Opened.{opened, as_opened, armed_pulse, handle_at, is_directory, number_of, is_reader};
+ghost use Rattle.engine_targets.specs.Woken as waking;
 
 use crate::counts::{leave, offer_each, put};
 use crate::cut::cut;
@@ -20,8 +21,9 @@ use crate::opening::{Opening, Pulse};
 use crate::owed::{Given, give_from};
 use crate::passed::passed;
 use crate::place::{at_first, caught};
-use crate::questions::{find_reader, has_news, owed_count};
+use crate::questions::{find_reader, has_news, is_over, owed_count};
 use crate::reader::{Reader, search};
+use crate::woken::find_woken;
 use change_chain::Chain;
 use pps_types::{Bytes, DirId, Found, Handle, ObjId, Refusal};
 use server_queue::Entry;
@@ -319,6 +321,26 @@ impl Target {
             None => false,
             Some(reader) => has_news(reader),
         }
+    }
+
+    /// Whether a handle is here that is owed more records than its limit, so that it is given everything anew.
+    pub fn is_over(&self, number: Handle) -> bool
+        ensures { result ≡ option_map_or (λ (h : reading.Open rests.Seen). rests.is_over h.seen) (handle_at number self.now.handles) false }
+    {
+        let Some(reader) = find_reader(&self.readers, number.number()) else {
+            return false;
+        };
+        is_over(reader)
+    }
+
+    /// The handles that these records wake, in rising number: a read or a pulse waits on each, and it has had no news until
+    /// one of them, which it sees. It looks at each handle once, and changes nothing.
+    ///
+    /// AllocError comes only where memory is wanting.
+    pub fn woken_by(&self, alloc: Global, entries: &[Entry]) -> Result<Vec<Handle>, AllocError>
+        ensures { IfOk result (λ woken. woken.items ≡ waking.woken_by entries.now self.now.handles) }
+    {
+        find_woken(alloc, number_of(self.of), &self.readers, entries)
     }
 
     /// How many records a handle is owed: none is told where it is not here, in full mode, before the first read and past

@@ -273,3 +273,31 @@ fn nothing_owed_gives_nothing(rt: HostRuntime) -> Result<(), Fail> {
     assert_eq!(rt; nobodys.text.as_slice(), b"".as_slice());
     Ok(())
 }
+
+#[test]
+fn a_record_wakes_those_that_wait_without_news(rt: HostRuntime) -> Result<(), Fail> {
+    let alloc = rt.alloc();
+    let mut target = read_by_two(alloc)?;
+    let made = [entry(alloc, 1, change(alloc)?, None)?];
+    assert_eq!(rt; target.woken_by(alloc, &made)?.len(), 0);
+    target.park(Handle::new(9), Some(100));
+    let woken = target.woken_by(alloc, &made)?;
+    assert_eq!(rt; woken.len(), 1);
+    assert!(rt; woken.first() == Some(&Handle::new(9)));
+    offer_changes(alloc, &mut target, 1)?;
+    assert_eq!(rt; target.woken_by(alloc, &made)?.len(), 0);
+    Ok(())
+}
+
+#[test]
+fn a_handle_is_over_past_its_limit(rt: HostRuntime) -> Result<(), Fail> {
+    let alloc = rt.alloc();
+    let mut target = read_by_two(alloc)?;
+    offer_changes(alloc, &mut target, 2)?;
+    assert!(rt; !target.is_over(Handle::new(4)));
+    offer_changes(alloc, &mut target, 1)?;
+    assert!(rt; target.is_over(Handle::new(4)));
+    assert!(rt; !target.is_over(Handle::new(9)));
+    assert!(rt; !target.is_over(Handle::new(5)));
+    Ok(())
+}

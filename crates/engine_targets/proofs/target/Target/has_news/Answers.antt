@@ -15,5 +15,5 @@ returns-in-None c =
 pub returns-in-Some : goal.returns-in-Some
 returns-in-Some c =
     let t = c.self.inside in
-    c.has_news.ensures (number_of t.of) t.name t.records.start t.records.items (found-right (number_of t.of) t.name t.records.start t.records.items t.readers.items c.deref.result.now c.args.number c.number.result c.deref.ensures.value c.number.ensures.same (is_directory t.of) c.in-Some.reader.now c.self.invariant.loose.each c.in-Some.ensures)
+    c.has_news.ensures.news (number_of t.of) t.name t.records.start t.records.items (found-right (number_of t.of) t.name t.records.start t.records.items t.readers.items c.deref.result.now c.args.number c.number.result c.deref.ensures.value c.number.ensures.same (is_directory t.of) c.in-Some.reader.now c.self.invariant.loose.each c.in-Some.ensures)
     ∙ ap ((λ (o : Option (Open Seen)). option_map_or news o false)) (found-handle (number_of t.of) t.name t.records.start t.records.items t.readers.items c.deref.result.now c.args.number c.number.result c.deref.ensures.value c.number.ensures.same (Some c.in-Some.reader.now) c.in-Some.ensures ∙ ap (λ v. handle_at c.args.number v.handles) c.self.view_is)

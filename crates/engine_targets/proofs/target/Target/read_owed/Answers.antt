@@ -1,4 +1,4 @@
-use Rattle.std.proofs.Common.{◌≡◌, ◌≢◌, ◌<◌, ◌^◌, [], List, length, sym, ap, subst, ◌∙◌, Some, None}
+use Rattle.std.proofs.Common.{◌≡◌, ◌≢◌, ◌<◌, ◌^◌, [], length, sym, ap, subst, ◌∙◌, Some, None}
 use Rattle.std.specs.Prelude.{IfOk}
 use Rattle.pps_types.specs.Names.{refusal_of}
 use Rattle.pps_types.specs.declared.refusal.Refusal.TheVariants.{OutOfMemory}
