@@ -158,6 +158,17 @@ impl Queue {
         }
     }
 
+    /// So many of the records in front are no longer owed: none is left where there are not as many. It takes no memory.
+    pub fn pass(&mut self, count: usize)
+        ensures limit { self.new.limit ≡ self.old.limit }
+        ensures owed { self.new.owed ≡ drop count self.old.owed }
+    {
+        let passed = count.min(self.owed_count());
+        'passed: for _ in 0..passed {
+            self.drop_first();
+        }
+    }
+
     // One more share of a record is put behind all others.
     fn push_share(&mut self, entry: &Entry) -> Result<(), Refusal>
         ensures limit { self.new.limit ≡ self.old.limit }

@@ -1,0 +1,5 @@
+pub mod Moves
+pub mod Seen
+pub mod Offering
+pub mod Roomed
+pub mod Given

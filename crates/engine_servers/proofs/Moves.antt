@@ -1,0 +1,93 @@
+-- What a move makes of the handles of a server object.
+use Rattle.std.proofs.Common.{◌≡◌, ℕ, zero, suc, ◌<◌, eqb, List, [], ◌∷◌, ◌++◌, length, map, set, get_or, refl, sym, ap, subst, ◌∙◌}
+use Rattle.std.specs.List.{AllByRecursion, remove}
+use Rattle.std.proofs.lemmas.List.{map-set, get_or-map}
+use Rattle.pps_types.specs.History.{Entry}
+use Rattle.pps_types.specs.Reading.{Open}
+use Rattle.pps_types.specs.Rests.{Seen}
+use Rattle.pps_types.specs.Plan.{on_numbered, without_number}
+use Rattle.pps_types.proofs.Lists.{all-push, map-without_first}
+use Rattle.notify_box.specs.Rising.{IsPlaceOf, IsGapFor}
+use Rattle.notify_box.proofs.Edits.{rising_remove}
+use Rattle.engine_targets.proofs.Edits.{change_gap, without_gap, change_place, without_place, rising_set, rising_push, place_map, gap_map}
+use Rattle.engine_targets.proofs.Tallies.{all-at, all-set}
+use Rattle.engine_servers.specs.declared.holder.Holder.{Holder}
+use Rattle.engine_servers.specs.Holders.{handle_of, number_in, IsHolder, IsService}
+use Rattle.engine_servers.specs.Standing.{spare_of, HaveRoom}
+
+-- ---- what a search says, of the list and the number that were meant
+
+pub place-at : (xs ys : List Holder) (n m k : ℕ) → ys ≡ xs → m ≡ n → IsPlaceOf number_in ys m k → IsPlaceOf number_in xs n k
+place-at xs ys n m k list number place = subst (λ l. IsPlaceOf number_in l n k) list (subst (λ i. IsPlaceOf number_in ys i k) number place)
+
+pub gap-at : (xs ys : List Holder) (n m k : ℕ) → ys ≡ xs → m ≡ n → IsGapFor number_in ys m k → IsGapFor number_in xs n k
+gap-at xs ys n m k list number gap = subst (λ l. IsGapFor number_in l n k) list (subst (λ i. IsGapFor number_in ys i k) number gap)
+
+all-remove : {X : Type 0} (P : X → Type 0) (xs : List X) (k : ℕ) → AllByRecursion P xs → AllByRecursion P (remove xs k)
+all-remove P [] zero all = tt
+all-remove P [] (suc k) all = tt
+all-remove P (x ∷ xs) zero all = all.1
+all-remove P (x ∷ xs) (suc k) all = (all.0, all-remove P xs k all.1)
+
+module _ (object : ℕ) (name : List ℕ) (holders : List Holder) where
+  abbrev see : Holder → Open Seen
+  see = handle_of object name
+
+  -- ---- one handle changes
+
+  pub set-seen : (number k : ℕ) (change : Open Seen → Open Seen) (x d : Holder) → IsPlaceOf number_in holders number k → k < length holders → see x ≡ change (see (get_or holders k d))
+      → map see (set holders k x) ≡ on_numbered number change (map see holders)
+  set-seen number k change x d place lt same =
+      map-set see holders k x
+      ∙ ap (set (map see holders) k) (same ∙ ap change (sym (get_or-map see holders k d (see d) lt)))
+      ∙ sym (change_place (λ (h : Open Seen). h.number) change number (map see holders) k (see d) (place_map number_in (λ (h : Open Seen). h.number) see (λ x. refl) number holders k place))
+
+  pub same-nowhere : (number k : ℕ) (change : Open Seen → Open Seen) → IsGapFor number_in holders number k → map see holders ≡ on_numbered number change (map see holders)
+  same-nowhere number k change gap = sym (change_gap (λ (h : Open Seen). h.number) change number (map see holders) k (gap_map number_in (λ (h : Open Seen). h.number) see (λ x. refl) number holders k gap))
+
+  -- ---- one handle leaves
+
+  pub gone-seen : (number k : ℕ) → IsPlaceOf number_in holders number k → map see (remove holders k) ≡ without_number number (map see holders)
+  gone-seen number k place =
+      ap (map see) (sym (without_place number_in number holders k place))
+      ∙ map-without_first see (λ (x : Holder). eqb x.opening.number number) (λ (h : Open Seen). eqb h.number number) (λ x. refl) holders
+
+  pub gone-nowhere : (number k : ℕ) → IsGapFor number_in holders number k → map see holders ≡ without_number number (map see holders)
+  gone-nowhere number k gap = sym (without_gap (λ (h : Open Seen). h.number) number (map see holders) k (gap_map number_in (λ (h : Open Seen). h.number) see (λ x. refl) number holders k gap))
+
+-- ---- what is always so
+
+module _ (object : ℕ) (holders : List Holder) (is : IsService object holders) where
+  pub set-is : (k : ℕ) (x d : Holder) → k < length holders → x.opening.number ≡ (get_or holders k d).opening.number → IsHolder object x → IsService object (set holders k x)
+  set-is k x d lt number right = record {
+    each = all-set (IsHolder object) holders k x is.each right;
+    rising = rising_set number_in x d holders k is.rising number lt;
+  }
+
+  pub holder-at : (k : ℕ) (d : Holder) → k < length holders → IsHolder object (get_or holders k d)
+  holder-at k d lt = all-at (IsHolder object) holders k d is.each lt
+
+  pub gone-is : (k : ℕ) → IsService object (remove holders k)
+  gone-is k = record { each = all-remove (IsHolder object) holders k is.each; rising = rising_remove number_in holders k is.rising }
+
+  pub push-is : (x : Holder) → AllByRecursion (λ y. y.opening.number < x.opening.number) holders → IsHolder object x → IsService object (holders ++ x ∷ [])
+  push-is x above right = record { each = all-push (IsHolder object) holders x is.each right; rising = rising_push number_in holders x is.rising above }
+
+pub above-holders : (object : ℕ) (name : List ℕ) (holders : List Holder) (number : ℕ) → AllByRecursion (λ (h : Open Seen). h.number < number) (map (handle_of object name) holders)
+    → AllByRecursion (λ (x : Holder). x.opening.number < number) holders
+above-holders object name [] number all = tt
+above-holders object name (x ∷ xs) number all = (all.0, above-holders object name xs number all.1)
+
+-- ---- the room
+
+pub room-gone : (object : ℕ) (name : List ℕ) (entries : List Entry) (holders : List Holder) (k : ℕ) → HaveRoom entries (map (handle_of object name) holders) (map spare_of holders)
+    → HaveRoom entries (map (handle_of object name) (remove holders k)) (map spare_of (remove holders k))
+room-gone object name entries [] zero room = tt
+room-gone object name entries [] (suc k) room = tt
+room-gone object name entries (x ∷ xs) zero room = room.1
+room-gone object name entries (x ∷ xs) (suc k) room = (room.0, room-gone object name entries xs k room.1)
+
+pub spares-set : (holders : List Holder) (k : ℕ) (x d : Holder) → spare_of x ≡ spare_of (get_or holders k d) → map spare_of (set holders k x) ≡ map spare_of holders
+spares-set [] k x d same = refl
+spares-set (y ∷ ys) zero x d same = ap (λ s. s ∷ map spare_of ys) same
+spares-set (y ∷ ys) (suc k) x d same = ap (λ ss. spare_of y ∷ ss) (spares-set ys k x d same)

@@ -1,0 +1,47 @@
+use Rattle.std.proofs.Common.{◌∙◌, [], ◌∷◌, length, map, sym, ap, subst, arith}
+use Rattle.std.specs.Prelude.{filter}
+use Rattle.pps_types.specs.Reading.{Open, visible}
+use Rattle.pps_types.specs.Rests.{Seen}
+use Rattle.pps_types.specs.Plan.{offer}
+use Rattle.engine_servers.specs.Holders.{sees}
+use Rattle.engine_servers.specs.Standing.{IsReady}
+use Rattle.engine_servers.specs.Offers.{RoomInEach, AreOffered}
+use Rattle.engine_servers.proofs.Offering.{count-handles, offers-is, offers-seen, room-each, room-all, room-after}
+use Rattle.engine_servers.proofs.service.Service.offer.Goals as goal
+
+pub offer_each-requires-clause-room : goal.offer_each-requires-clause-room
+offer_each-requires-clause-room c =
+    let s = c.self.inside in
+    let e = c.args.shares.entry in
+    subst (λ n. RoomInEach n (e ∷ []) s.holders.items) (sym c.number-object.ensures.same) (room-each s.object s.name (e ∷ []) s.holders.items (subst (IsReady (e ∷ [])) (sym c.self.view_is) c.requires.room))
+
+pub offer_each-requires-clause-enough : goal.offer_each-requires-clause-enough
+offer_each-requires-clause-enough c =
+    let s = c.self.inside in
+    let e = c.args.shares.entry in
+    let same = ap (λ n. length (filter (sees n e) s.holders.items)) c.number-object.ensures.same ∙ count-handles s.object s.name e s.holders.items ∙ ap (λ v. length (filter (λ (h : Open Seen). visible h e) v.handles)) c.self.view_is in
+    omega (arith, same, c.requires.enough)
+
+pub invariant_of-self : goal.invariant_of-self
+invariant_of-self c =
+    let s = c.self.inside in
+    let e = c.args.shares.entry in
+    let new = c.offer_each.new.holders.items in
+    let all : AreOffered s.object e s.holders.items new = subst (λ n. AreOffered n e s.holders.items new) c.number-object.ensures.same c.offer_each.ensures.holders in
+    offers-is s.object e s.holders.items new c.self.invariant all
+
+pub returns-clause-handles : goal.returns-clause-handles
+returns-clause-handles c =
+    let s = c.self.inside in
+    let e = c.args.shares.entry in
+    let new = c.offer_each.new.holders.items in
+    let all : AreOffered s.object e s.holders.items new = subst (λ n. AreOffered n e s.holders.items new) c.number-object.ensures.same c.offer_each.ensures.holders in
+    offers-seen s.object s.name e s.holders.items new c.self.invariant.each all ∙ ap (λ v. map (offer e) v.handles) c.self.view_is
+
+pub returns-clause-ready : goal.returns-clause-ready
+returns-clause-ready c entries ready =
+    let s = c.self.inside in
+    let e = c.args.shares.entry in
+    let new = c.offer_each.new.holders.items in
+    let all : AreOffered s.object e s.holders.items new = subst (λ n. AreOffered n e s.holders.items new) c.number-object.ensures.same c.offer_each.ensures.holders in
+    room-all s.object s.name entries new (room-after s.object e entries s.holders.items new all (room-each s.object s.name (e ∷ entries) s.holders.items (subst (IsReady (e ∷ entries)) (sym c.self.view_is) ready)))

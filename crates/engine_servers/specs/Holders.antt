@@ -1,0 +1,64 @@
+-- The handles of a server object, as the definitions have them.
+use Rattle.std.specs.Prelude.{◌≡◌, ℕ, Bool, List, [], true, not, ◌&&◌, nat_lt}
+use Rattle.std.specs.List.{AllByRecursion}
+use Rattle.pps_types.specs.History.{Entry}
+use Rattle.pps_types.specs.Reading.{Open, Queue, reseen, style, visible}
+use Rattle.pps_types.specs.Rests.{Seen, Owed}
+use Rattle.pps_types.specs.Checks.{is_client}
+use Rattle.server_queue.specs.Messages.{message_count}
+use Rattle.server_queue.specs.declared.sender.Sender.TheVariants.{Server}
+use Rattle.notify_box.specs.Rising.{IsRising}
+use Rattle.engine_targets.specs.declared.opening.Opening.{Opening}
+use Rattle.engine_targets.specs.declared.opening.Pulse.{Pulse}
+use Rattle.engine_targets.specs.Opened.{opened, armed_pulse}
+use Rattle.engine_servers.specs.declared.holder.Holder.{Holder}
+use Rattle.std.specs.Prelude.{Option}
+
+-- with what waits on it
+abbrev pub waiting : Holder → Open Seen → Open Seen
+waiting x h = record h { parked = x.parked; armed = armed_pulse x.armed }
+
+-- a handle on the object of that number and name, which is owed these
+abbrev pub owed_as : ℕ → List ℕ → Holder → List Entry → Open Seen
+owed_as object name x owed = waiting x (reseen (λ h. Owed owed) (opened object name x.opening))
+
+-- it is owed what its queue holds
+abbrev pub handle_of : ℕ → List ℕ → Holder → Open Seen
+handle_of object name x = owed_as object name x x.queue.owed
+
+-- the number of a handle
+abbrev pub number_in : Holder → ℕ
+number_in x = x.opening.number
+
+abbrev pub parked_with : Option ℕ → Holder → Holder
+parked_with size x = record x { parked = size }
+
+abbrev pub armed_with : Option Pulse → Holder → Holder
+armed_with pulse x = record x { armed = pulse }
+
+-- it is a server's or a client's
+abbrev pub IsQueued : Holder → Type 0
+IsQueued x = style x.opening.kind ≡ Queue
+
+-- it is given a record, on the object of that number
+abbrev pub sees : ℕ → Entry → Holder → Bool
+sees object e x = visible (opened object [] x.opening) e
+
+-- it is a client's, which is owed as many messages of its server as it takes
+abbrev pub is_full_client : Holder → Bool
+is_full_client x = is_client x.opening.kind && not (nat_lt (message_count Server x.queue.owed) x.queue.limit)
+
+-- each of these is for the handle
+abbrev pub IsFor : ℕ → Opening → List Entry → Type 0
+IsFor object o owed = AllByRecursion (λ e. visible (opened object [] o) e ≡ true) owed
+
+-- a server's or client's handle on the object, whose queue has its limit and holds what is for it
+pub record IsHolder (object : ℕ) (x : Holder) : Type 0 where
+  pub kind : style x.opening.kind ≡ Queue
+  pub limit : x.queue.limit ≡ x.opening.limit
+  pub owed : IsFor object x.opening x.queue.owed
+
+-- the handles of the object, in rising number
+pub record IsService (object : ℕ) (holders : List Holder) : Type 0 where
+  pub each : AllByRecursion (IsHolder object) holders
+  pub rising : IsRising number_in holders

@@ -1,0 +1,5 @@
+pub mod Holders
+pub mod Shared
+pub mod Standing
+pub mod Offers
+pub mod Rooms

@@ -1,0 +1,61 @@
+//! One handle of a server object.
+ghost use Rattle.std.specs.Prelude.{◌≡◌, ◌==◌, ◌<◌, ◌≤◌, find, length, option_map, IfOk, IfErr};
+ghost use Rattle.std.specs.Option.{option_copied};
+ghost use Rattle.notify_box.specs.Rising.{IsRising, IsPlaceOf, IsGapFor};
+ghost use Rattle.engine_servers.specs.Holders.{number_in, is_full_client};
+
+use engine_targets::{Opening, Pulse};
+use pps_types::{Handle, HandleKind};
+use server_queue::{Queue, Sender};
+
+/// A handle of the server or of a client: what its open fixed, what it is owed, and what waits on it.
+#[derive(Drop)]
+pub(crate) struct Holder {
+    pub(crate) opening: Opening,
+    pub(crate) queue: Queue,
+    /// The size of a read that waits.
+    pub(crate) parked: Option<u32>,
+    /// The pulse that waits.
+    pub(crate) armed: Option<Pulse>,
+}
+
+/// Where the handle of a number stands, or else where it would go.
+pub(crate) fn search(holders: &[Holder], number: u32) -> Result<usize, usize>
+    requires { IsRising number_in holders.now }
+    ensures found { IfOk result (IsPlaceOf number_in holders.now number) }
+    ensures absent { IfErr result (IsGapFor number_in holders.now number) }
+    ensures place { IfOk result (λ i. i < length holders.now) }
+    ensures gap { IfErr result (λ i. i ≤ length holders.now) }
+{
+    holders.binary_search_by_key(&number, |holder| holder.opening.number.number())
+}
+
+/// The handle of a number, if it is there.
+pub(crate) fn find_holder(holders: &[Holder], number: u32) -> Option<&Holder>
+    requires { IsRising number_in holders.now }
+    ensures { option_copied result ≡ find (λ h. number_in h == number) holders.now }
+{
+    match search(holders, number) {
+        Ok(index) => Some(&holders[index]),
+        Err(_) => None,
+    }
+}
+
+// Whether it is a client's, and is owed as many messages of its server as it takes.
+fn is_full_client(holder: &Holder) -> bool
+    ensures { result ≡ is_full_client holder.now }
+{
+    matches!(holder.opening.kind, HandleKind::Client) && !holder.queue.can_take(Sender::Server)
+}
+
+/// The first client that is owed as many messages of its server as it takes.
+pub(crate) fn find_full(holders: &[Holder]) -> Option<Handle>
+    ensures { result ≡ option_map number_in (find is_full_client holders.now) }
+{
+    'holders: for holder in holders.iter() {
+        if is_full_client(holder) {
+            return Some(holder.opening.number);
+        }
+    }
+    None
+}

@@ -1,0 +1,15 @@
+//! A server object's handles: those of its server and of its clients, each with the queue of what it is owed.
+#![tactic(auto)]
+
+mod holder;
+mod offers;
+mod rooms;
+mod service;
+mod shares;
+mod sight;
+
+pub use service::Service;
+pub use shares::Shares;
+
+#[cfg(test)]
+mod tests;

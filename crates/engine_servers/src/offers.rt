@@ -1,0 +1,55 @@
+//! Records that are offered to handles.
+ghost use Rattle.std.specs.Prelude.{◌≡◌, ◌+◌, ◌<◌, ◌≤◌, length, filter, [], ◌∷◌, true, vec_len, vec_capacity};
+ghost use Rattle.std.specs.List.{AllByRecursion};
+ghost use Rattle.engine_servers.specs.Holders.{IsQueued, sees};
+ghost use Rattle.engine_servers.specs.Offers.{IsOffered, AreOffered, RoomIn, RoomInEach};
+
+use crate::holder::Holder;
+use crate::shares::Shares;
+use crate::sight::is_visible;
+use server_queue::Entry;
+
+/// How many of the handles are given a record.
+pub(crate) fn count_seers(object: u64, holders: &[Holder], entry: &Entry) -> usize
+    requires { AllByRecursion IsQueued holders.now }
+    ensures { result ≡ length (filter (sees object entry.now) holders.now) }
+{
+    let mut count = 0;
+    'holders: for holder in holders.iter() {
+        if is_visible(object, &holder.opening, entry) {
+            count += 1;
+        }
+    }
+    count
+}
+
+// A handle that is given the record gets a share of it into its queue.
+fn offer_one(object: u64, holder: &mut Holder, shares: &mut Shares)
+    requires queue { IsQueued holder.old }
+    requires room { RoomIn object (shares.old.entry ∷ []) holder.old }
+    requires share { sees object shares.old.entry holder.old ≡ true → 0 < shares.old.count }
+    ensures holder { IsOffered object shares.old.entry holder.old holder.new }
+    ensures entry { shares.new.entry ≡ shares.old.entry }
+    ensures count { shares.new.count + length (filter (sees object shares.old.entry) (holder.old ∷ [])) ≡ shares.old.count }
+{
+    if !is_visible(object, &holder.opening, shares.entry()) {
+        return;
+    }
+    if let Some(share) = shares.take() {
+        holder.queue.push_reserved(share);
+    }
+}
+
+/// Each handle that is given the record gets a share of it into its queue, for which there is room. It takes no memory.
+pub(crate) fn offer_each(object: u64, holders: &mut Vec<Holder>, shares: &mut Shares)
+    requires queue { AllByRecursion IsQueued holders.old.items }
+    requires room { RoomInEach object (shares.old.entry ∷ []) holders.old.items }
+    requires enough { length (filter (sees object shares.old.entry) holders.old.items) ≤ shares.old.count }
+    ensures holders { AreOffered object shares.old.entry holders.old.items holders.new.items }
+    ensures places { vec_capacity holders.new ≡ vec_capacity holders.old }
+    ensures len { vec_len holders.new ≡ vec_len holders.old }
+{
+    'holders: for holder in holders.iter_mut() {
+        offer_one(object, holder, shares);
+    }
+}

@@ -1,0 +1,326 @@
+//! One server object with its server's and its clients' handles.
+ghost use Rattle.std.specs.Prelude.{◌≡◌, ◌≢◌, ◌^◌, Some, None, nat_le, find, ◌&&◌, ◌∷◌, ◌++◌, ◌+◌, ◌<◌, ◌≤◌, ◌↔◌, [], IsTrue, false, List, length, map, filter, IfOk, IsOk, option_map, option_and_then, OnOk, OnErr};
+ghost use Rattle.std.specs.Option.{option_copied, option_map_or};
+ghost use Rattle.std.specs.List.{AllByRecursion};
+ghost use Rattle.pps_types.specs.Reading as reading;
+ghost use Rattle.pps_types.specs.Rests as rests;
+ghost use Rattle.pps_types.specs.Plan as planning;
+ghost use Rattle.pps_types.specs.History as history;
+ghost use Rattle.pps_types.specs.Owed as owing;
+ghost use Rattle.pps_types.specs.Content as content;
+ghost use Rattle.pps_types.specs.Checks as checking;
+ghost use Rattle.pps_types.specs.Names.{refusal_of};
+ghost use Rattle.pps_types.specs.declared.refusal.Refusal.TheVariants.{OutOfMemory};
+ghost use Rattle.engine_targets.specs.Blocks.{owed_blocks, refused_for, first_len};
+ghost use Rattle.engine_targets.specs.Opened.{opened, as_opened, armed_pulse, handle_at};
+ghost use Rattle.engine_servers.specs.Standing.{IsReady};
+
+use crate::holder::{Holder, find_full, find_holder, search};
+use crate::offers::{count_seers, offer_each};
+use crate::rooms::reserve_each;
+use crate::shares::Shares;
+use engine_targets::{Opening, Pulse};
+use pps_types::{Bytes, Handle, ObjId, Refusal};
+use server_queue::{Entry, Plan, Queue, Sender};
+use std::alloc::{AllocError, Global};
+use std::marker::Model;
+
+/// A server object: the handles of its server and of its clients, each with the queue of what it is owed.
+#[derive(Drop)]
+pub struct Service {
+    object: ObjId,
+    name: Bytes,
+    holders: Vec<Holder>,
+}
+
+impl Model for Service {
+    ghost use Rattle.std.specs.Prelude.{◌-◌, map, vec_len, vec_capacity};
+    ghost use Rattle.engine_servers.specs.Holders.{handle_of, IsService};
+    ghost use Rattle.engine_servers.specs.Standing.{Standing, spare_of};
+
+    ghost Value = { Standing };
+
+    ghost view = { λ s. record {
+      object = s.object;
+      name = s.name;
+      handles = map (handle_of s.object s.name) s.holders.items;
+      spares = map spare_of s.holders.items;
+      places = vec_capacity s.holders - vec_len s.holders;
+    } };
+
+    ghost invariant = { λ s. IsService s.object s.holders.items };
+}
+
+impl Service {
+    /// A server object without handles. It takes no memory.
+    pub fn new(alloc: Global, object: ObjId, name: Bytes) -> Service
+        ensures object { result.object ≡ object }
+        ensures name { result.name ≡ name }
+        ensures handles { result.handles ≡ [] }
+    {
+        Service {
+            object,
+            name,
+            holders: Vec::new(alloc),
+        }
+    }
+
+    /// Whether it has no handle.
+    pub fn is_empty(&self) -> bool
+        ensures { IsTrue result ↔ (self.now.handles ≡ []) }
+    {
+        self.holders.is_empty()
+    }
+
+    /// How many handles it has.
+    pub fn len(&self) -> usize
+        ensures { result ≡ length self.now.handles }
+    {
+        self.holders.len()
+    }
+
+    /// Makes room for one more handle. What stands stays, and so does room that was made before.
+    ///
+    /// AllocError comes only where there was none.
+    pub fn reserve_handle(&mut self) -> Result<(), AllocError>
+        ensures same { self.new ≡ record self.old { places = self.new.places } }
+        ensures places { OnOk result (0 < self.new.places) }
+        ensures kept { self.old.places ≤ self.new.places }
+        ensures lacking { OnErr result (self.old.places ≡ 0) }
+    {
+        self.holders.reserve(1)
+    }
+
+    /// Opens a handle of the server or of a client, for which there is room. Its number is above those of all others, and
+    /// its queue begins empty. It takes no memory.
+    pub fn open_reserved(&mut self, opening: Opening)
+        requires places { 0 < self.old.places }
+        requires queue { reading.style opening.kind ≡ reading.Queue }
+        requires above { AllByRecursion (λ (h : reading.Open rests.Seen). h.number < opening.number) self.old.handles }
+        ensures object { self.new.object ≡ self.old.object }
+        ensures name { self.new.name ≡ self.old.name }
+        ensures handles { self.new.handles ≡ self.old.handles ++ reading.reseen (λ h. planning.first_seen h (reading.style h.kind)) (opened self.old.object self.old.name opening) ∷ [] }
+        ensures places { self.new.places + 1 ≡ self.old.places }
+    {
+        let queue = Queue::new(*self.holders.allocator(), opening.limit);
+        self.holders.push_reserved(Holder {
+            opening,
+            queue,
+            parked: None,
+            armed: None,
+        });
+    }
+
+    /// Makes room in the queues for a few records: in each for those that are for its handle. What stands stays, and so does
+    /// room that was made before.
+    ///
+    /// AllocError comes only where there was not as much room.
+    pub fn reserve(&mut self, entries: &[Entry]) -> Result<(), AllocError>
+        ensures object { self.new.object ≡ self.old.object }
+        ensures name { self.new.name ≡ self.old.name }
+        ensures handles { self.new.handles ≡ self.old.handles }
+        ensures places { self.new.places ≡ self.old.places }
+        ensures ready { OnOk result (IsReady entries.now self.new) }
+        ensures kept { (others : List history.Entry) → IsReady others self.old → IsReady others self.new }
+        ensures succeeds { IsReady entries.now self.old → IsOk result }
+    {
+        let object = self.object.number();
+        reserve_each(object, &mut self.holders, entries)
+    }
+
+    /// Shares of a record, one for each handle that is given it.
+    ///
+    /// AllocError comes only where memory is wanting.
+    pub fn shares(&self, alloc: Global, entry: Entry) -> Result<Shares, AllocError>
+        ensures { IfOk result (λ shares. shares ≡ record { entry = entry; count = length (filter (λ (h : reading.Open rests.Seen). reading.visible h entry) self.now.handles) }) }
+    {
+        let count = count_seers(self.object.number(), &self.holders, &entry);
+        Shares::new(alloc, entry, count)
+    }
+
+    /// Offers the handles a record, of which there are shares and for which there is room: it is owed to each that is given
+    /// it. It takes no memory.
+    pub fn offer(&mut self, mut shares: Shares)
+        requires room { IsReady (shares.entry ∷ []) self.old }
+        requires enough { length (filter (λ (h : reading.Open rests.Seen). reading.visible h shares.entry) self.old.handles) ≤ shares.count }
+        ensures object { self.new.object ≡ self.old.object }
+        ensures name { self.new.name ≡ self.old.name }
+        ensures handles { self.new.handles ≡ map (planning.offer shares.entry) self.old.handles }
+        ensures ready { (entries : List history.Entry) → IsReady (shares.entry ∷ entries) self.old → IsReady entries self.new }
+        ensures places { self.new.places ≡ self.old.places }
+    {
+        let object = self.object.number();
+        offer_each(object, &mut self.holders, &mut shares);
+    }
+
+    /// A read of that size waits on a handle, or none any more. It takes no memory.
+    pub fn park(&mut self, number: Handle, size: Option<u32>)
+        ensures object { self.new.object ≡ self.old.object }
+        ensures name { self.new.name ≡ self.old.name }
+        ensures handles { self.new.handles ≡ planning.on_numbered number (λ h. record h { parked = size }) self.old.handles }
+        ensures spares { self.new.spares ≡ self.old.spares }
+        ensures places { self.new.places ≡ self.old.places }
+    {
+        let Ok(index) = search(&self.holders, number.number()) else {
+            return;
+        };
+        let holder = &mut self.holders[index];
+        holder.parked = size;
+    }
+
+    /// A pulse waits on a handle, or none any more. It takes no memory.
+    pub fn arm(&mut self, number: Handle, pulse: Option<Pulse>)
+        ensures object { self.new.object ≡ self.old.object }
+        ensures name { self.new.name ≡ self.old.name }
+        ensures handles { self.new.handles ≡ planning.on_numbered number (λ h. record h { armed = armed_pulse pulse }) self.old.handles }
+        ensures spares { self.new.spares ≡ self.old.spares }
+        ensures places { self.new.places ≡ self.old.places }
+    {
+        let Ok(index) = search(&self.holders, number.number()) else {
+            return;
+        };
+        let holder = &mut self.holders[index];
+        holder.armed = pulse;
+    }
+
+    /// Closes a handle. It takes no memory.
+    pub fn close(&mut self, number: Handle)
+        ensures object { self.new.object ≡ self.old.object }
+        ensures name { self.new.name ≡ self.old.name }
+        ensures handles { self.new.handles ≡ planning.without_number number self.old.handles }
+        ensures ready { (entries : List history.Entry) → IsReady entries self.old → IsReady entries self.new }
+        ensures places { self.old.places ≤ self.new.places }
+    {
+        let Ok(index) = search(&self.holders, number.number()) else {
+            return;
+        };
+        let _ = self.holders.remove(index);
+    }
+
+    /// A handle has read everything. It takes no memory.
+    pub fn catch_up(&mut self, number: Handle)
+        ensures object { self.new.object ≡ self.old.object }
+        ensures name { self.new.name ≡ self.old.name }
+        ensures handles { self.new.handles ≡ planning.on_numbered number (reading.reseen planning.caught_up) self.old.handles }
+        ensures places { self.new.places ≡ self.old.places }
+    {
+        let Ok(index) = search(&self.holders, number.number()) else {
+            return;
+        };
+        let holder = &mut self.holders[index];
+        let count = holder.queue.owed_count();
+        holder.queue.pass(count);
+    }
+
+    /// A handle was given so many of the records that it is owed. It takes no memory.
+    pub fn pass(&mut self, number: Handle, count: usize)
+        ensures object { self.new.object ≡ self.old.object }
+        ensures name { self.new.name ≡ self.old.name }
+        ensures handles { self.new.handles ≡ planning.on_numbered number (reading.reseen (λ h. planning.left h count h.seen)) self.old.handles }
+        ensures places { self.new.places ≡ self.old.places }
+    {
+        let Ok(index) = search(&self.holders, number.number()) else {
+            return;
+        };
+        let holder = &mut self.holders[index];
+        holder.queue.pass(count);
+    }
+
+    /// What the open of a handle fixed, where it is here.
+    pub fn opening(&self, number: Handle) -> Option<&Opening>
+        ensures { option_map (opened self.now.object self.now.name) (option_copied result) ≡ option_map as_opened (handle_at number self.now.handles) }
+    {
+        match find_holder(&self.holders, number.number()) {
+            None => None,
+            Some(holder) => Some(&holder.opening),
+        }
+    }
+
+    /// The size of the read that waits on a handle, if one does.
+    pub fn parked(&self, number: Handle) -> Option<u32>
+        ensures { result ≡ option_and_then (λ (h : reading.Open rests.Seen). h.parked) (handle_at number self.now.handles) }
+    {
+        match find_holder(&self.holders, number.number()) {
+            None => None,
+            Some(holder) => holder.parked,
+        }
+    }
+
+    /// The pulse that is armed on a handle, if one is.
+    pub fn armed(&self, number: Handle) -> Option<Pulse>
+        ensures { armed_pulse result ≡ option_and_then (λ (h : reading.Open rests.Seen). h.armed) (handle_at number self.now.handles) }
+    {
+        match find_holder(&self.holders, number.number()) {
+            None => None,
+            Some(holder) => holder.armed,
+        }
+    }
+
+    /// Whether a handle is here that a read would give something.
+    pub fn has_news(&self, number: Handle) -> bool
+        ensures { result ≡ option_map_or content.news (handle_at number self.now.handles) false }
+    {
+        match find_holder(&self.holders, number.number()) {
+            None => false,
+            Some(holder) => holder.queue.news(),
+        }
+    }
+
+    /// How many records a handle is owed, where it is here.
+    pub fn owed(&self, number: Handle) -> Option<usize>
+        ensures { result ≡ option_and_then (λ (h : reading.Open rests.Seen). owing.owed_in_seen h h.seen) (handle_at number self.now.handles) }
+    {
+        match find_holder(&self.holders, number.number()) {
+            None => None,
+            Some(holder) => Some(holder.queue.owed_count()),
+        }
+    }
+
+    /// What a read of at most `max` bytes gives a handle of the records that it is owed: the longest run of whole blocks
+    /// that fits. Nothing moves.
+    ///
+    /// It is TooSmall, with the size, where the first block does not fit, before any memory is taken; else OutOfMemory is
+    /// the only error, where something is owed.
+    pub fn read_owed(&self, alloc: Global, number: Handle, max: u32) -> Result<Plan, Refusal>
+        ensures ok { IfOk result (λ p. (p.count, p.text.items) ≡ reading.fitting max (owed_blocks (handle_at number self.now.handles))) }
+        ensures refusal { refusal_of result ≢ Some OutOfMemory → refusal_of result ≡ refused_for max (owed_blocks (handle_at number self.now.handles)) }
+        ensures memory { refusal_of result ≡ Some OutOfMemory → first_len (owed_blocks (handle_at number self.now.handles)) < 2 ^ 32
+            → refused_for max (owed_blocks (handle_at number self.now.handles)) ≡ None }
+        ensures some { refusal_of result ≡ Some OutOfMemory → 0 < length (owed_blocks (handle_at number self.now.handles)) }
+    {
+        let Some(holder) = find_holder(&self.holders, number.number()) else {
+            return Ok(Plan {
+                count: 0,
+                text: Vec::new(alloc),
+            });
+        };
+        holder.queue.read_plan(&[], max)
+    }
+
+    /// Whether the server's handle, if it is here, is owed as many messages of a client as its limit.
+    pub fn is_server_full(&self, server: Handle, client: Handle) -> bool
+        ensures { result ≡ option_map_or (λ (s : reading.Open rests.Seen). nat_le s.limit (checking.count_owed (checking.is_message_of client) s)) (handle_at server self.now.handles) false }
+    {
+        match find_holder(&self.holders, server.number()) {
+            None => false,
+            Some(holder) => !holder.queue.can_take(Sender::Client(client)),
+        }
+    }
+
+    /// Whether a client's handle, if it is here, is owed as many messages of its server as its limit.
+    pub fn is_client_full(&self, client: Handle) -> bool
+        ensures { result ≡ option_map_or (λ (h : reading.Open rests.Seen). nat_le h.limit (checking.count_owed checking.is_server_message h)) (handle_at client self.now.handles) false }
+    {
+        match find_holder(&self.holders, client.number()) {
+            None => false,
+            Some(holder) => !holder.queue.can_take(Sender::Server),
+        }
+    }
+
+    /// The first client, in rising number, that is owed as many messages of its server as its limit.
+    pub fn full_client(&self) -> Option<Handle>
+        ensures { result ≡ option_map (λ (h : reading.Open rests.Seen). h.number) (find (λ (h : reading.Open rests.Seen). checking.is_client h.kind && nat_le h.limit (checking.count_owed checking.is_server_message h)) self.now.handles) }
+    {
+        find_full(&self.holders)
+    }
+}
