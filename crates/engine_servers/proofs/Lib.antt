@@ -3,3 +3,4 @@ pub mod Seen
 pub mod Offering
 pub mod Roomed
 pub mod Given
+pub mod Waking

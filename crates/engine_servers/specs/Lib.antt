@@ -3,3 +3,4 @@ pub mod Shared
 pub mod Standing
 pub mod Offers
 pub mod Rooms
+pub mod Woken

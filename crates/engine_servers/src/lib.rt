@@ -7,6 +7,7 @@ mod rooms;
 mod service;
 mod shares;
 mod sight;
+mod woken;
 
 pub use service::Service;
 pub use shares::Shares;

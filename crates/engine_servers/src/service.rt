@@ -14,11 +14,13 @@ ghost use Rattle.pps_types.specs.declared.refusal.Refusal.TheVariants.{OutOfMemo
 ghost use Rattle.engine_targets.specs.Blocks.{owed_blocks, refused_for, first_len};
 ghost use Rattle.engine_targets.specs.Opened.{opened, as_opened, armed_pulse, handle_at};
 ghost use Rattle.engine_servers.specs.Standing.{IsReady};
+ghost use Rattle.engine_targets.specs.Woken as waking;
 
 use crate::holder::{Holder, find_full, find_holder, search};
 use crate::offers::{count_seers, offer_each};
 use crate::rooms::reserve_each;
 use crate::shares::Shares;
+use crate::woken::find_woken;
 use engine_targets::{Opening, Pulse};
 use pps_types::{Bytes, Handle, ObjId, Refusal};
 use server_queue::{Entry, Plan, Queue, Sender};
@@ -264,6 +266,16 @@ impl Service {
             None => false,
             Some(holder) => holder.queue.news(),
         }
+    }
+
+    /// The handles that these records wake, in rising number: a read or a pulse waits on each, and it has been owed nothing
+    /// until one of them, which it is given. It looks at each handle once, and changes nothing.
+    ///
+    /// AllocError comes only where memory is wanting.
+    pub fn woken_by(&self, alloc: Global, entries: &[Entry]) -> Result<Vec<Handle>, AllocError>
+        ensures { IfOk result (λ woken. woken.items ≡ waking.woken_by entries.now self.now.handles) }
+    {
+        find_woken(alloc, self.object.number(), &self.holders, entries)
     }
 
     /// How many records a handle is owed, where it is here.

@@ -199,3 +199,21 @@ fn reads_wait_and_pulses_are_armed(rt: HostRuntime) -> Result<(), Fail> {
     assert_eq!(rt; service.armed(Handle::new(4)), None);
     Ok(())
 }
+
+#[test]
+fn a_message_wakes_who_waits_for_it(rt: HostRuntime) -> Result<(), Fail> {
+    let alloc = rt.alloc();
+    let mut service = served(alloc)?;
+    let said = Kind::ToAll(line(alloc)?);
+    let made = [entry(alloc, said, Some(Handle::new(3)))?];
+    assert_eq!(rt; service.woken_by(alloc, &made)?.len(), 0);
+    service.park(Handle::new(9), Some(100));
+    service.park(Handle::new(3), Some(100));
+    let woken = service.woken_by(alloc, &made)?;
+    assert_eq!(rt; woken.len(), 1);
+    assert!(rt; woken.first() == Some(&Handle::new(9)));
+    let again = Kind::ToAll(line(alloc)?);
+    tell(alloc, &mut service, again, Some(Handle::new(3)))?;
+    assert_eq!(rt; service.woken_by(alloc, &made)?.len(), 0);
+    Ok(())
+}

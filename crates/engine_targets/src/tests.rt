@@ -301,3 +301,13 @@ fn a_handle_is_over_past_its_limit(rt: HostRuntime) -> Result<(), Fail> {
     assert!(rt; !target.is_over(Handle::new(5)));
     Ok(())
 }
+
+#[test]
+fn an_opening_is_copied(rt: HostRuntime) -> Result<(), Fail> {
+    let first = opening(4, HandleKind::Names, 2);
+    let copy = first.copy()?;
+    assert!(rt; copy.same(&first));
+    let other = opening(4, HandleKind::Names, 3);
+    assert!(rt; !copy.same(&other));
+    Ok(())
+}

@@ -1,0 +1,8 @@
+use Rattle.std.proofs.Common.{◌≡◌, take}
+use Rattle.std.specs.Prelude.{filter, map}
+use Rattle.engine_servers.specs.Holders.{number_in}
+use Rattle.engine_servers.specs.Woken.{wakes_at}
+use Rattle.engine_servers.proofs.woken.find_woken.Given as goal
+
+abbrev pub invariant-holders : goal.invariant-holders
+invariant-holders l = l.woken.items ≡ map number_in (filter (wakes_at l.object l.entries) (take l.holder-index l.holders))

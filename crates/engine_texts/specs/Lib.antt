@@ -1,0 +1,4 @@
+pub mod After
+pub mod Whole
+pub mod Answered
+pub mod Listed

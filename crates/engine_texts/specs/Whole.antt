@@ -1,0 +1,56 @@
+-- Everything of a target: what it is read from, and its text.
+use Rattle.std.specs.Prelude.{ℕ, List, [], Bool, true, false, not, ◌&&◌, Option, codes, map}
+use Rattle.std.specs.Option.{option_map_or}
+use Rattle.std.specs.List.{concat}
+use Rattle.pps_types.specs.declared.handle_kind.HandleKind.{HandleKind}
+use Rattle.pps_types.specs.declared.handle_kind.HandleKind.TheVariants.{Object as ObjectHandle, Directory as DirectoryHandle, Names as NamesHandle, Server as ServerHandle, Client as ClientHandle}
+use Rattle.pps_types.specs.declared.line.Line.{Line}
+use Rattle.pps_types.specs.Filter.{Part}
+use Rattle.pps_types.specs.History.{line_of}
+use Rattle.pps_types.specs.Text.{print_header}
+use Rattle.pps_types.specs.Reading.{Open, Member, print_member, overflow_mark, overflow_line, everything_of, is_directory_kind}
+use Rattle.pps_types.specs.Rests.{Seen, is_over}
+use Rattle.pps_types.specs.Content.{Content, target_members, target_is_dead}
+use Rattle.object_state.specs.Held.{Held}
+
+-- what everything is read from: the handle's kind and filter, whether it is owed more than its limit, and its target
+pub record Source : Type 0 where
+  pub kind : HandleKind
+  pub parts : Option (List Part)
+  pub over : Bool
+  pub alive : Bool
+  pub members : List Member
+
+-- the text of it
+abbrev pub everything : Source → List ℕ
+everything w = everything_of w.kind w.parts w.over w.alive w.members
+
+-- it is an object's, which is deleted
+abbrev pub is_dead : Source → Bool
+is_dead w = not (is_directory_kind w.kind) && not w.alive
+
+-- a member's part of everything
+abbrev pub print_one : HandleKind → Option (List Part) → Bool → Bool → Member → List ℕ
+print_one (ObjectHandle delta) parts over false m = print_header (codes "-") m.name
+print_one (ObjectHandle delta) parts over true m = print_member (overflow_mark over) parts m
+print_one (DirectoryHandle delta) parts over alive m = print_member [] parts m
+print_one NamesHandle parts over alive m = print_header [] m.name
+print_one ServerHandle parts over alive m = []
+print_one ClientHandle parts over alive m = []
+
+-- what stands before the members
+abbrev pub print_opening : HandleKind → Bool → List ℕ
+print_opening (DirectoryHandle delta) over = overflow_line over
+print_opening NamesHandle over = overflow_line over
+print_opening kind over = []
+
+abbrev pub print_all : HandleKind → Option (List Part) → Bool → Bool → List Member → List ℕ
+print_all kind parts over alive members = concat (map (print_one kind parts over alive) members)
+
+-- an object's attributes as lines, or none
+abbrev pub lines_of : Option Held → List Line
+lines_of held = option_map_or (λ o. map line_of o.attributes) held []
+
+-- what everything of a handle's target is read from
+abbrev pub source_of : Content → Open Seen → Source
+source_of c h = record { kind = h.kind; parts = h.filter; over = is_over h.seen; alive = not (target_is_dead c h); members = target_members c h }
