@@ -4,3 +4,4 @@ pub mod Offering
 pub mod Roomed
 pub mod Given
 pub mod Waking
+pub mod Copying

@@ -4,3 +4,4 @@ pub mod Standing
 pub mod Offers
 pub mod Rooms
 pub mod Woken
+pub mod Held

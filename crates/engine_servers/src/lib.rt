@@ -1,6 +1,7 @@
 //! A server object's handles: those of its server and of its clients, each with the queue of what it is owed.
 #![tactic(auto)]
 
+mod copies;
 mod holder;
 mod offers;
 mod rooms;

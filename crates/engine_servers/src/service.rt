@@ -1,5 +1,5 @@
 //! One server object with its server's and its clients' handles.
-ghost use Rattle.std.specs.Prelude.{◌≡◌, ◌≢◌, ◌^◌, Some, None, nat_le, find, ◌&&◌, ◌∷◌, ◌++◌, ◌+◌, ◌<◌, ◌≤◌, ◌↔◌, [], IsTrue, false, List, length, map, filter, IfOk, IsOk, option_map, option_and_then, OnOk, OnErr};
+ghost use Rattle.std.specs.Prelude.{◌≡◌, ◌≢◌, ◌^◌, Some, None, nat_le, find, ◌&&◌, ◌∷◌, ◌++◌, ◌+◌, ◌<◌, ◌≤◌, ◌↔◌, [], IsTrue, false, List, length, map, filter, IfOk, IfErr, IsOk, option_map, option_and_then, OnOk, OnErr};
 ghost use Rattle.std.specs.Option.{option_copied, option_map_or};
 ghost use Rattle.std.specs.List.{AllByRecursion};
 ghost use Rattle.pps_types.specs.Reading as reading;
@@ -16,6 +16,7 @@ ghost use Rattle.engine_targets.specs.Opened.{opened, as_opened, armed_pulse, ha
 ghost use Rattle.engine_servers.specs.Standing.{IsReady};
 ghost use Rattle.engine_targets.specs.Woken as waking;
 
+use crate::copies::{copy_all, same_all};
 use crate::holder::{Holder, find_full, find_holder, search};
 use crate::offers::{count_seers, offer_each};
 use crate::rooms::reserve_each;
@@ -51,6 +52,13 @@ impl Model for Service {
     } };
 
     ghost invariant = { λ s. IsService s.object s.holders.items };
+}
+
+// Whether both are of the same number and name.
+fn is_of_same(one: &Service, other: &Service) -> bool
+    ensures { IsTrue result ↔ ((one.now.object ≡ other.now.object) × (one.now.name ≡ other.now.name)) }
+{
+    one.object == other.object && one.name == other.name
 }
 
 impl Service {
@@ -334,5 +342,31 @@ impl Service {
         ensures { result ≡ option_map (λ (h : reading.Open rests.Seen). h.number) (find (λ (h : reading.Open rests.Seen). checking.is_client h.kind && nat_le h.limit (checking.count_owed checking.is_server_message h)) self.now.handles) }
     {
         find_full(&self.holders)
+    }
+
+    /// A server object of the same number and name, with the same handles, without room.
+    ///
+    /// OutOfMemory is the only error.
+    pub fn copy(&self) -> Result<Service, Refusal>
+        ensures object { IfOk result (λ copy. copy.object ≡ self.now.object) }
+        ensures name { IfOk result (λ copy. copy.name ≡ self.now.name) }
+        ensures handles { IfOk result (λ copy. copy.handles ≡ self.now.handles) }
+        ensures err { IfErr result (λ r. r ≡ OutOfMemory) }
+    {
+        let name = self.name.copy()?;
+        let holders = copy_all(*self.holders.allocator(), &self.holders)?;
+        Ok(Service {
+            object: self.object,
+            name,
+            holders,
+        })
+    }
+
+    /// Whether both are of the same number and name and have the same handles, which are owed the same. It takes no
+    /// memory.
+    pub fn same(&self, other: &Service) -> bool
+        ensures { IsTrue result ↔ ((self.now.object ≡ other.now.object) × (self.now.name ≡ other.now.name) × (self.now.handles ≡ other.now.handles)) }
+    {
+        is_of_same(self, other) && same_all(&self.holders, &other.holders)
     }
 }

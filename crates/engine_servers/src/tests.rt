@@ -217,3 +217,14 @@ fn a_message_wakes_who_waits_for_it(rt: HostRuntime) -> Result<(), Fail> {
     assert_eq!(rt; service.woken_by(alloc, &made)?.len(), 0);
     Ok(())
 }
+
+#[test]
+fn a_copy_is_the_same(rt: HostRuntime) -> Result<(), Fail> {
+    let alloc = rt.alloc();
+    let mut service = served(alloc)?;
+    let copy = service.copy()?;
+    assert!(rt; copy.same(&service));
+    service.park(Handle::new(4), Some(8));
+    assert!(rt; !copy.same(&service));
+    Ok(())
+}

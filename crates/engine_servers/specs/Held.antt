@@ -1,0 +1,16 @@
+-- What stands of a handle, beside the room in its queue.
+use Rattle.std.specs.Prelude.{ℕ, List, Option}
+use Rattle.pps_types.specs.History.{Entry}
+use Rattle.engine_targets.specs.declared.opening.Opening.{Opening}
+use Rattle.engine_targets.specs.declared.opening.Pulse.{Pulse}
+use Rattle.engine_servers.specs.declared.holder.Holder.{Holder}
+
+pub record Held : Type 0 where
+  pub opening : Opening
+  pub limit : ℕ
+  pub owed : List Entry
+  pub parked : Option ℕ
+  pub armed : Option Pulse
+
+abbrev pub held_of : Holder → Held
+held_of x = record { opening = x.opening; limit = x.queue.limit; owed = x.queue.owed; parked = x.parked; armed = x.armed }
