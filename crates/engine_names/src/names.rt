@@ -1,0 +1,242 @@
+//! Names, and the objects and directories that they lead to.
+ghost use Rattle.std.specs.Prelude.{◌≡◌, ◌≢◌, ◌+◌, ◌<◌, ◌^◌, Some, None, Ok, IfOk, IfErr, IfSome, IsSome, fold, OnOk, OnErr, option_map, find, ◌==◌, [], ◌∷◌};
+ghost use Rattle.std.specs.Option.{option_copied};
+ghost use Rattle.pps_types.specs.Names as paths;
+ghost use Rattle.pps_types.specs.Content.{at, object_numbered};
+ghost use Rattle.pps_types.specs.Checks.{first_refusal, limit_checks};
+ghost use Rattle.pps_types.specs.History.{apply_line};
+ghost use Rattle.pps_types.specs.WellFormed.{directory_numbered};
+ghost use Rattle.pps_types.specs.Plan.{Creates, MakesDirectory};
+ghost use Rattle.pps_types.specs.declared.record.Kind.TheVariants.{Change, Truncated, Dropped};
+ghost use Rattle.pps_types.specs.declared.found.Found.TheVariants.{Directory as FoundDirectory};
+ghost use Rattle.pps_types.specs.declared.refusal.Refusal.TheVariants.{OutOfMemory};
+ghost use Rattle.engine_names.specs.Standing.{standing_of, content_of, after, first_standing, happened, known_of, placed_at, lines_ready, AreSame, IsReadyToCreate, IsReadyToMake};
+
+use crate::named::{NamedDirectory, NamedObject};
+use alloc_tree::Tree;
+use number_table::Table;
+use object_state::Object;
+use pps_types::{Bytes, DirId, Found, Handle, Line, ObjId, Refusal};
+use std::alloc::{AllocError, Global};
+use std::marker::Model;
+
+/// The names of a service, with the objects and the directories that they lead to.
+///
+/// Objects and directories stand under numbers that rise and never come again. A path is its names from the root on,
+/// and the root has none. A call that adds something has a call beside it that takes the memory ahead and changes
+/// nothing else, and then takes none and cannot fail.
+#[derive(Drop)]
+pub struct Names {
+    tree: Tree<Global>,
+    objects: Table<NamedObject>,
+    directories: Table<NamedDirectory>,
+}
+
+impl Model for Names {
+    ghost use Rattle.engine_names.specs.Standing.{Named};
+    ghost use Rattle.engine_names.specs.Agrees.{IsNamed};
+    ghost use Rattle.std.specs.Coded.{codes};
+    ghost use Rattle.alloc_tree.specs.Held.{coded_held};
+
+    ghost Value = { Named };
+
+    ghost coded = { Prim.hlevel (codes, coded_held) };
+
+    ghost view = { λ n. record { tree = n.tree; objects = n.objects; directories = n.directories } };
+
+    ghost invariant = { λ n. IsNamed n.tree.map n.objects.entries n.objects.next n.directories.entries n.directories.next };
+}
+
+impl Names {
+    /// The root alone, which has the number 0.
+    pub fn new(alloc: Global) -> Result<Names, AllocError>
+        ensures { IfOk result (λ names. standing_of names ≡ first_standing) }
+    {
+        let mut directories = Table::new(alloc, 0);
+        directories.reserve(1)?;
+        let root = NamedDirectory {
+            number: DirId::new(0),
+            path: Vec::new(alloc),
+        };
+        directories.push_reserved(0, root);
+        Ok(Names {
+            tree: Tree::new(alloc),
+            objects: Table::new(alloc, 0),
+            directories,
+        })
+    }
+
+    /// What stands at a path.
+    ///
+    /// The first name on the way that shows a reason decides: NotFound where it stands for nothing,
+    /// NotDirectory where it stands for an object and is not the last.
+    pub fn find(&self, path: &[Bytes]) -> Result<Found, Refusal>
+        ensures { result ≡ paths.find_at (at (content_of (standing_of self.now))) path.now }
+    {
+        self.tree.find(path)
+    }
+
+    /// The number that the next object gets.
+    pub fn next_object(&self) -> u64
+        ensures { result ≡ self.now.objects.next }
+    {
+        self.objects.next()
+    }
+
+    /// The number that the next directory gets.
+    pub fn next_directory(&self) -> u64
+        ensures { result ≡ self.now.directories.next }
+    {
+        self.directories.next()
+    }
+
+    /// The alive object of a number, if there is one.
+    pub fn object(&self, object: ObjId) -> Option<&NamedObject>
+        ensures known { option_map known_of (option_copied result) ≡ object_numbered (content_of (standing_of self.now)) object }
+        ensures placed { option_copied result ≡ placed_at object self.now }
+    {
+        self.objects.get(object.number())
+    }
+
+    /// The directory of a number, if there is one.
+    pub fn directory(&self, directory: DirId) -> Option<&NamedDirectory>
+        ensures { option_copied result ≡ directory_numbered (content_of (standing_of self.now)) directory }
+    {
+        self.directories.get(directory.number())
+    }
+
+    /// Takes the memory for a new object at a path, and changes nothing else. Whatever was ready before is not any more.
+    ///
+    /// It is refused as a new object in a tree of names is, and else OutOfMemory is the only error.
+    pub fn create_ready(&mut self, path: &[Bytes]) -> Result<(), Refusal>
+        ensures refusal { paths.refusal_of result ≢ Some OutOfMemory → paths.refusal_of result ≡ paths.add_refusal self.old.tree.map path.now }
+        ensures ok { OnOk result (IsReadyToCreate self.new path.now) }
+        ensures map { self.new.tree.map ≡ self.old.tree.map }
+        ensures standing { standing_of self.new ≡ standing_of self.old }
+    {
+        self.tree.add_ready(path)?;
+        let Ok(()) = self.objects.reserve(1) else {
+            return Err(Refusal::OutOfMemory);
+        };
+        Ok(())
+    }
+
+    /// Creates the object that was made ready at this path, without attributes, and gives its number.
+    ///
+    /// The directory is the one that is found at the path without its last name. A server object is owned by its server's handle. It
+    /// takes no memory.
+    pub fn create(
+        &mut self,
+        path: Vec<Bytes>,
+        directory: DirId,
+        nopersist: bool,
+        server: Option<Handle>,
+    ) -> ObjId
+        requires ready { IsReadyToCreate self.old path.items }
+        requires above { paths.find_at (at (content_of (standing_of self.old))) (paths.parent path.items) ≡ Ok (FoundDirectory directory) }
+        requires last { self.old.objects.next + 1 < 2 ^ 64 }
+        ensures number { result ≡ self.old.objects.next }
+        ensures standing { standing_of self.new ≡ after (Creates (record {
+          number = self.old.objects.next;
+          directory = directory;
+          name = paths.last_name path.items;
+          nopersist = nopersist;
+          server = server;
+        })) (standing_of self.old) }
+    {
+        let number = self.objects.next();
+        self.tree.add_commit(&path, ObjId::new(number));
+        let attributes = Object::new(*path.allocator());
+        let object = NamedObject {
+            number: ObjId::new(number),
+            path,
+            directory,
+            nopersist,
+            server,
+            attributes,
+        };
+        self.objects.push_reserved(number, object);
+        ObjId::new(number)
+    }
+
+    /// Takes the memory for a new directory at a path, and changes nothing else. Whatever was ready before is not any more.
+    ///
+    /// It is refused as a new directory in a tree of names is, and else OutOfMemory is the only error.
+    pub fn make_directory_ready(&mut self, path: &[Bytes]) -> Result<(), Refusal>
+        ensures refusal { paths.refusal_of result ≢ Some OutOfMemory → paths.refusal_of result ≡ paths.mkdir_refusal self.old.tree.map path.now }
+        ensures ok { OnOk result (IsReadyToMake self.new path.now) }
+        ensures map { self.new.tree.map ≡ self.old.tree.map }
+        ensures standing { standing_of self.new ≡ standing_of self.old }
+    {
+        self.tree.mkdir_ready(path)?;
+        let Ok(()) = self.directories.reserve(1) else {
+            return Err(Refusal::OutOfMemory);
+        };
+        Ok(())
+    }
+
+    /// Makes the directory that was made ready at this path, with nothing in it, and gives its number. It takes no memory.
+    pub fn make_directory(&mut self, path: Vec<Bytes>) -> DirId
+        requires ready { IsReadyToMake self.old path.items }
+        requires last { self.old.directories.next + 1 < 2 ^ 64 }
+        ensures number { result ≡ self.old.directories.next }
+        ensures standing { standing_of self.new ≡ after (MakesDirectory path.items) (standing_of self.old) }
+    {
+        let number = self.directories.next();
+        self.tree.mkdir_commit(&path, DirId::new(number));
+        let directory = NamedDirectory {
+            number: DirId::new(number),
+            path,
+        };
+        self.directories.push_reserved(number, directory);
+        DirId::new(number)
+    }
+
+    /// Deletes all attributes of an object, if it is alive. It takes no memory.
+    pub fn truncate(&mut self, object: ObjId)
+        ensures standing { standing_of self.new ≡ happened object Truncated (standing_of self.old) }
+    {
+        let Some(known) = self.objects.get_mut(object.number()) else {
+            return;
+        };
+        known.attributes.truncate();
+    }
+
+    /// Deletes the nonpersistent attributes of an object, if it is alive. It takes no memory.
+    pub fn drop_nonpersistent(&mut self, object: ObjId)
+        ensures standing { standing_of self.new ≡ happened object Dropped (standing_of self.old) }
+    {
+        let Some(known) = self.objects.get_mut(object.number()) else {
+            return;
+        };
+        known.attributes.drop_nonpersistent();
+    }
+
+    /// Takes all memory that lines can want which change an object, and changes nothing else. Whatever was ready for it
+    /// before is not any more.
+    ///
+    /// It is TooLarge exactly where the object would pass a limit of objects after all of these lines. Else OutOfMemory
+    /// is the only error. Where there is no such object, nothing is wanted.
+    pub fn change_ready(&mut self, object: ObjId, lines: &[Line]) -> Result<(), Refusal>
+        ensures refusal { IfSome (placed_at object self.old) (λ x. paths.refusal_of result ≢ Some OutOfMemory
+            → paths.refusal_of result ≡ first_refusal (limit_checks (fold apply_line x.held.attributes lines.now))) }
+        ensures ok { OnOk result (IfSome (placed_at object self.new) (λ x. x.held.ready ≡ Some lines.now)) }
+        ensures same { AreSame self.old self.new }
+    {
+        let Some(known) = self.objects.get_mut(object.number()) else {
+            return Ok(());
+        };
+        known.attributes.apply_ready(lines)
+    }
+
+    /// Changes an object by the lines that were made ready for it. It takes no memory.
+    pub fn change(&mut self, object: ObjId)
+        requires { IsSome (lines_ready object self.old) }
+        ensures standing { IfSome (lines_ready object self.old) (λ lines. standing_of self.new ≡ happened object (Change lines) (standing_of self.old)) }
+    {
+        let Some(known) = self.objects.get_mut(object.number()) else {
+            return;
+        };
+        known.attributes.apply_commit();
+    }
+}
