@@ -6,3 +6,11 @@ pub mod Created
 pub mod Made
 pub mod Happened
 pub mod Changed
+pub mod Deleted
+pub mod Sorting
+pub mod Listed
+pub mod Removed
+pub mod Numbers
+pub mod Copied
+pub mod Ends
+pub mod Alongside

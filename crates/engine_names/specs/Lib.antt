@@ -1,3 +1,4 @@
 pub mod Standing
 pub mod Agrees
 pub mod Laws
+pub mod Listed

@@ -111,3 +111,9 @@ pub record IsReadyToCreate (n : Named) (path : Path) : Type 0 where
 pub record IsReadyToMake (n : Named) (path : Path) : Type 0 where
   pub tree : IsReady n.tree ADirectory path
   pub room : 0 < n.directories.room
+
+-- the same object stands at the same path, and nothing is ready for it
+pub record IsCopy (old copy : Placed) : Type 0 where
+  pub known : known_of copy ≡ known_of old
+  pub path : copy.path ≡ old.path
+  pub bare : copy.held.ready ≡ None

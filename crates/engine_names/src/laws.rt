@@ -1,8 +1,14 @@
-//! Laws of what stands of names. The function does nothing: its contract is the law.
+//! Laws of what stands of names. The functions do nothing: the contract of each is its law.
 ghost use Rattle.engine_names.specs.Laws.{MovesAreTold};
+ghost use Rattle.engine_names.specs.Listed.{MembersAreListed};
 
 /// Does nothing. Its contract is the law that the moves of names are those of the same name of a whole service, whatever
 /// else stands there.
 pub fn moves_are_told()
     ensures { MovesAreTold }
+{}
+
+/// Does nothing. Its contract is the law that a listing of a directory has its members, a directory's name with `/` behind it.
+pub fn members_are_listed()
+    ensures { MembersAreListed }
 {}

@@ -1,11 +1,14 @@
 //! The names of a service, with the objects and the directories that they lead to.
 #![tactic(auto)]
 
+mod compared;
+mod copies;
 mod laws;
+mod members;
 mod named;
 mod names;
 
-pub use laws::moves_are_told;
+pub use laws::{members_are_listed, moves_are_told};
 pub use named::{NamedDirectory, NamedObject};
 pub use names::Names;
 

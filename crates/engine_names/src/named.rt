@@ -45,6 +45,16 @@ impl NamedObject {
         self.path.as_slice()
     }
 
+    /// The name of the object in its directory.
+    pub fn name(&self) -> &[u8]
+        ensures { result.now ≡ self.now.object.name }
+    {
+        match self.path.last() {
+            Some(name) => name.as_slice(),
+            None => &[],
+        }
+    }
+
     /// The directory that the object stands in.
     pub fn directory(&self) -> DirId
         ensures { result ≡ self.now.object.directory }

@@ -1,19 +1,24 @@
 //! Names, and the objects and directories that they lead to.
-ghost use Rattle.std.specs.Prelude.{◌≡◌, ◌≢◌, ◌+◌, ◌<◌, ◌^◌, Some, None, Ok, IfOk, IfErr, IfSome, IsSome, fold, OnOk, OnErr, option_map, find, ◌==◌, [], ◌∷◌};
+ghost use Rattle.std.specs.Prelude.{◌≡◌, ◌≢◌, ◌+◌, ◌<◌, ◌≤◌, ◌^◌, if◌then◌else◌, is_some, length, map, ◌↔◌, IsTrue, IsOkUnless, Some, None, Ok, IfOk, IfErr, IfSome, IsSome, fold, OnOk, OnErr, option_map, find, ◌==◌, [], ◌∷◌};
 ghost use Rattle.std.specs.Option.{option_copied};
 ghost use Rattle.pps_types.specs.Names as paths;
-ghost use Rattle.pps_types.specs.Content.{at, object_numbered};
-ghost use Rattle.pps_types.specs.Checks.{first_refusal, limit_checks};
+ghost use Rattle.pps_types.specs.Content.{at, object_numbered, members, subdirectories};
+ghost use Rattle.pps_types.specs.Checks.{first_refusal, limit_checks, list_checks};
 ghost use Rattle.pps_types.specs.History.{apply_line};
 ghost use Rattle.pps_types.specs.WellFormed.{directory_numbered};
-ghost use Rattle.pps_types.specs.Plan.{Creates, MakesDirectory};
-ghost use Rattle.pps_types.specs.declared.record.Kind.TheVariants.{Change, Truncated, Dropped};
+ghost use Rattle.pps_types.specs.Plan.{Creates, MakesDirectory, RemovesDirectory};
+ghost use Rattle.pps_types.specs.declared.record.Kind.TheVariants.{Change, Truncated, Dropped, Deleted};
 ghost use Rattle.pps_types.specs.declared.found.Found.TheVariants.{Directory as FoundDirectory};
 ghost use Rattle.pps_types.specs.declared.refusal.Refusal.TheVariants.{OutOfMemory};
-ghost use Rattle.engine_names.specs.Standing.{standing_of, content_of, after, first_standing, happened, known_of, placed_at, lines_ready, AreSame, IsReadyToCreate, IsReadyToMake};
+ghost use Rattle.number_table.specs.Numbered.{without_first, has_number, IsCloneEntry};
+ghost use Rattle.std.specs.List.{AllZip};
+ghost use Rattle.engine_names.specs.Listed.{objects_at, members_at, IsBare};
+ghost use Rattle.engine_names.specs.Standing.{standing_of, content_of, after, first_standing, happened, known_of, placed_at, lines_ready, AreSame, IsCopy, IsReadyToCreate, IsReadyToMake};
 
+use crate::compared::{same_directories, same_objects};
+use crate::members::object_numbers;
 use crate::named::{NamedDirectory, NamedObject};
-use alloc_tree::Tree;
+use alloc_tree::{Member, Tree};
 use number_table::Table;
 use object_state::Object;
 use pps_types::{Bytes, DirId, Found, Handle, Line, ObjId, Refusal};
@@ -238,5 +243,151 @@ impl Names {
             return;
         };
         known.attributes.apply_commit();
+    }
+
+    /// Deletes an object with its name and its attributes, if it is alive. It takes no memory.
+    ///
+    /// What is ready for attributes of others stays, and so does the room for more objects and directories. A name that was
+    /// ready is not any more, where there was such an object.
+    pub fn delete(&mut self, object: ObjId)
+        ensures standing { standing_of self.new ≡ happened object Deleted (standing_of self.old) }
+        ensures others { self.new.objects.entries ≡ without_first (has_number object) self.old.objects.entries }
+        ensures room { self.old.objects.room ≤ self.new.objects.room }
+        ensures directories { self.new.directories ≡ self.old.directories }
+        ensures ready { self.new.tree.ready ≡ (if is_some (placed_at object self.old) then None else self.old.tree.ready) }
+    {
+        let Some(known) = self.objects.remove(object.number()) else {
+            return;
+        };
+        let Ok(()) = self.tree.remove(&known.path) else {
+            unreachable!();
+        };
+    }
+
+    /// Whether nothing stands in a directory, and it is not the root: so also where there is no such directory. It takes no
+    /// memory.
+    pub fn is_bare(&self, directory: DirId) -> bool
+        ensures { IsTrue result ↔ IfSome (directory_numbered (content_of (standing_of self.now)) directory) (λ d. IsBare (content_of (standing_of self.now)) d) }
+    {
+        let number = directory.number();
+        let Some(known) = self.directories.get(number) else {
+            return true;
+        };
+        let path = known.path();
+        if path.is_empty() {
+            return false;
+        }
+        if self.tree.objects_in(path) != 0 {
+            return false;
+        }
+        self.tree.directories_in(path) == 0
+    }
+
+    /// Removes a directory in which nothing stands, if there is one of this number, as [`is_bare`](Names::is_bare) tells.
+    /// The root stays. It takes no memory.
+    ///
+    /// What is ready for attributes stays, and so does the room for more objects and directories. A name that was ready is
+    /// not any more, where there was such a directory.
+    pub fn remove_directory(&mut self, directory: DirId)
+        requires { IfSome (directory_numbered (content_of (standing_of self.old)) directory) (λ d. IsBare (content_of (standing_of self.old)) d) }
+        ensures standing { standing_of self.new ≡ after (RemovesDirectory directory) (standing_of self.old) }
+        ensures objects { self.new.objects ≡ self.old.objects }
+        ensures room { self.old.directories.room ≤ self.new.directories.room }
+        ensures ready { self.new.tree.ready ≡ (if is_some (directory_numbered (content_of (standing_of self.old)) directory) then None else self.old.tree.ready) }
+    {
+        let Some(known) = self.directories.remove(directory.number()) else {
+            return;
+        };
+        let Ok(()) = self.tree.rmdir(&known.path) else {
+            unreachable!();
+        };
+    }
+
+    /// How many objects stand directly in the directory at a path. Elsewhere there are none. It takes no memory.
+    pub fn objects_in(&self, path: &[Bytes]) -> usize
+        ensures { result ≡ length (objects_at (content_of (standing_of self.now)) path.now) }
+    {
+        self.tree.objects_in(path)
+    }
+
+    /// How many directories stand directly in the directory at a path. Elsewhere there are none. It takes no memory.
+    pub fn directories_in(&self, path: &[Bytes]) -> usize
+        ensures { result ≡ length (subdirectories (content_of (standing_of self.now)) path.now) }
+    {
+        self.tree.directories_in(path)
+    }
+
+    /// How many objects are alive. It is kept, so it costs nothing.
+    pub fn object_count(&self) -> usize
+        ensures { result ≡ length (standing_of self.now).objects }
+    {
+        self.objects.len()
+    }
+
+    /// How many directories there are, with the root. It is kept, so it costs nothing.
+    pub fn directory_count(&self) -> usize
+        ensures { result ≡ length (standing_of self.now).directories }
+    {
+        self.directories.len()
+    }
+
+    /// What stands directly in the directory at a path, in byte order of names.
+    ///
+    /// It is NotFound or NotDirectory as [`find`](Names::find) is, NotDirectory also where an object stands there, and else
+    /// OutOfMemory is the only error.
+    pub fn members(&self, path: &[Bytes]) -> Result<Vec<Member<Global>>, Refusal>
+        ensures refusal { paths.refusal_of result ≢ Some OutOfMemory → paths.refusal_of result ≡ first_refusal (list_checks (content_of (standing_of self.now)) path.now) }
+        ensures ok { IfOk result (λ listed. listed.items ≡ members_at (content_of (standing_of self.now)) path.now) }
+    {
+        self.tree.list(path)
+    }
+
+    /// The numbers of the objects directly in a directory, in byte order of names. Where there is no such directory there
+    /// are none. OutOfMemory is the only error.
+    pub fn objects_of(&self, alloc: Global, directory: DirId) -> Result<Vec<ObjId>, Refusal>
+        ensures ok { IfOk result (λ numbers. numbers.items ≡ map (λ o. o.object.number) (members (content_of (standing_of self.now)) directory)) }
+        ensures err { IsOkUnless result OutOfMemory }
+    {
+        let number = directory.number();
+        let Some(known) = self.directories.get(number) else {
+            return Ok(Vec::new(alloc));
+        };
+        let Ok(listed) = self.tree.list(&known.path) else {
+            return Err(Refusal::OutOfMemory);
+        };
+        Ok(object_numbers(alloc, &listed)?)
+    }
+
+    /// Names under which the same stands. Nothing is ready in them. OutOfMemory is the only error.
+    pub fn copy(&self) -> Result<Names, Refusal>
+        ensures standing { IfOk result (λ copy. standing_of copy ≡ standing_of self.now) }
+        ensures objects { IfOk result (λ copy. AllZip (IsCloneEntry IsCopy) self.now.objects.entries copy.objects.entries) }
+        ensures ready { IfOk result (λ copy. copy.tree.ready ≡ None) }
+        ensures err { IsOkUnless result OutOfMemory }
+    {
+        let tree = self.tree.copy()?;
+        let objects = self.objects.copy()?;
+        let directories = self.directories.copy()?;
+        Ok(Names {
+            tree,
+            objects,
+            directories,
+        })
+    }
+
+    /// Whether the same stands in both. What is ready does not count. It takes no memory.
+    pub fn same(&self, other: &Names) -> bool
+        ensures { IsTrue result ↔ (standing_of self.now ≡ standing_of other.now) }
+    {
+        if self.objects.next() != other.objects.next() {
+            return false;
+        }
+        if self.directories.next() != other.directories.next() {
+            return false;
+        }
+        if !same_objects(self.objects.iter(), other.objects.iter()) {
+            return false;
+        }
+        same_directories(self.directories.iter(), other.directories.iter())
     }
 }

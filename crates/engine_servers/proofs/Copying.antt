@@ -1,13 +1,13 @@
 -- Copies of handles: what stands of each, and what a handle is.
-use Rattle.std.proofs.Common.{◌≡◌, ◌<◌, ℕ, zero, suc, arith, get_or, List, [], ◌∷◌, length, map, refl, sym, ap, subst, ◌∙◌, Option, Some, None}
+use Rattle.std.proofs.Common.{◌≡◌, ◌<◌, ℕ, zero, suc, arith, get_or, List, [], ◌∷◌, length, map, refl, sym, ap, subst, ◌∙◌, None}
 use Rattle.std.specs.List.{AllByRecursion}
 use Rattle.pps_types.specs.History.{Entry}
 use Rattle.pps_types.specs.Reading.{Open, reseen, style}
 use Rattle.pps_types.specs.Rests.{Seen, Owed}
 use Rattle.notify_box.specs.Rising.{IsRising, AllAbove}
 use Rattle.engine_targets.specs.declared.opening.Opening.{Opening}
-use Rattle.engine_targets.specs.declared.opening.Pulse.{Pulse}
 use Rattle.engine_targets.specs.Opened.{opened, armed_pulse}
+use Rattle.engine_targets.proofs.Alike.{armed-is, opening-is}
 use Rattle.engine_servers.specs.declared.holder.Holder.{Holder}
 use Rattle.engine_servers.specs.Held.{Held, held_of}
 use Rattle.engine_servers.specs.Holders.{handle_of, number_in, IsFor, IsHolder, IsService}
@@ -47,30 +47,13 @@ held_handles object name (x ∷ xs) (y ∷ ys) same = λ i. held_handle object n
 owed_is : (xs ys : List Entry) → Owed xs ≡ Owed ys → xs ≡ ys
 owed_is xs ys same = cc
 
-pulse_is : (p q : Pulse) → p.code ≡ q.code → p.value ≡ q.value → p ≡ q
-pulse_is p q code value = λ i. record { code = code i; value = value i }
-
-some_is : {X : Type 0} (x y : X) → Some x ≡ Some y → x ≡ y
-some_is x y same = cc
-
-armed_is : (a b : Option Pulse) → armed_pulse a ≡ armed_pulse b → a ≡ b
-armed_is None None same = refl
-armed_is None (Some q) same = cc
-armed_is (Some p) None same = cc
-armed_is (Some p) (Some q) same =
-    let pair = some_is (p.code, p.value) (q.code, q.value) same in
-    ap Some (pulse_is p q (ap (λ x. x.0) pair) (ap (λ x. x.1) pair))
-
-opening_is : (o p : Opening) (object : ℕ) (name : List ℕ) → opened object name o ≡ opened object name p → o ≡ p
-opening_is o p object name same = λ i. record { number = (same i).number; connection = (same i).connection; kind = (same i).kind; reads = (same i).reads; writes = (same i).writes; wait = (same i).wait; reflect = (same i).reflect; critical = (same i).critical; filter = (same i).filter; limit = (same i).limit }
-
 handle_held : (object : ℕ) (name : List ℕ) (x y : Holder) → IsHolder object x → IsHolder object y → handle_of object name x ≡ handle_of object name y → held_of x ≡ held_of y
 handle_held object name x y is be same =
-    let opening = opening_is x.opening y.opening object name (ap (λ (h : Open Seen). record (reseen (λ s. tt) h) { parked = None; armed = None }) same) in
+    let opening = opening-is x.opening y.opening object name (ap (λ (h : Open Seen). record (reseen (λ s. tt) h) { parked = None; armed = None }) same) in
     let limit = is.limit ∙ ap (λ (o : Opening). o.limit) opening ∙ sym be.limit in
     let owed = owed_is x.queue.owed y.queue.owed (ap (λ (h : Open Seen). h.seen) same) in
     let parked = ap (λ (h : Open Seen). h.parked) same in
-    let armed = armed_is x.armed y.armed (ap (λ (h : Open Seen). h.armed) same) in
+    let armed = armed-is x.armed y.armed (ap (λ (h : Open Seen). h.armed) same) in
     λ i. record { opening = opening i; limit = limit i; owed = owed i; parked = parked i; armed = armed i }
 
 pub handles_held : (object : ℕ) (name : List ℕ) (xs ys : List Holder) → AllByRecursion (IsHolder object) xs → AllByRecursion (IsHolder object) ys → map (handle_of object name) xs ≡ map (handle_of object name) ys → map held_of xs ≡ map held_of ys

@@ -5,3 +5,4 @@ pub mod Roomed
 pub mod Given
 pub mod Waking
 pub mod Copying
+pub mod Seats

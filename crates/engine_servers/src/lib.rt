@@ -7,7 +7,6 @@ mod offers;
 mod rooms;
 mod service;
 mod shares;
-mod sight;
 mod woken;
 
 pub use service::Service;

@@ -6,7 +6,7 @@ ghost use Rattle.engine_servers.specs.Offers.{IsOffered, AreOffered, RoomIn, Roo
 
 use crate::holder::Holder;
 use crate::shares::Shares;
-use crate::sight::is_visible;
+use engine_targets::is_visible;
 use server_queue::Entry;
 
 /// How many of the handles are given a record.

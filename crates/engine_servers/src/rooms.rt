@@ -9,8 +9,7 @@ ghost use Rattle.engine_servers.specs.Rooms.{IsKept, AreKept};
 ghost use Rattle.engine_servers.specs.Standing.{messages_in};
 
 use crate::holder::Holder;
-use crate::sight::is_visible;
-use engine_targets::Opening;
+use engine_targets::{Opening, is_visible};
 use server_queue::Entry;
 use std::alloc::AllocError;
 

@@ -1,5 +1,5 @@
 //! One server object with its server's and its clients' handles.
-ghost use Rattle.std.specs.Prelude.{◌≡◌, ◌≢◌, ◌^◌, Some, None, nat_le, find, ◌&&◌, ◌∷◌, ◌++◌, ◌+◌, ◌<◌, ◌≤◌, ◌↔◌, [], IsTrue, false, List, length, map, filter, IfOk, IfErr, IsOk, option_map, option_and_then, OnOk, OnErr};
+ghost use Rattle.std.specs.Prelude.{ℕ, Bool, ◌≡◌, ◌≢◌, ◌^◌, Some, None, nat_le, find, ◌&&◌, ◌∷◌, ◌++◌, ◌+◌, ◌<◌, ◌≤◌, ◌↔◌, [], IsTrue, false, List, length, map, filter, IfOk, IfErr, IsOk, option_map, option_and_then, OnOk, OnErr};
 ghost use Rattle.std.specs.Option.{option_copied, option_map_or};
 ghost use Rattle.std.specs.List.{AllByRecursion};
 ghost use Rattle.pps_types.specs.Reading as reading;
@@ -14,6 +14,7 @@ ghost use Rattle.pps_types.specs.declared.refusal.Refusal.TheVariants.{OutOfMemo
 ghost use Rattle.engine_targets.specs.Blocks.{owed_blocks, refused_for, first_len};
 ghost use Rattle.engine_targets.specs.Opened.{opened, as_opened, armed_pulse, handle_at};
 ghost use Rattle.engine_servers.specs.Standing.{IsReady};
+ghost use Rattle.engine_targets.specs.Seated.{AreSeated};
 ghost use Rattle.engine_targets.specs.Woken as waking;
 
 use crate::copies::{copy_all, same_all};
@@ -342,6 +343,20 @@ impl Service {
         ensures { result ≡ option_map (λ (h : reading.Open rests.Seen). h.number) (find (λ (h : reading.Open rests.Seen). checking.is_client h.kind && nat_le h.limit (checking.count_owed checking.is_server_message h)) self.now.handles) }
     {
         find_full(&self.holders)
+    }
+
+    /// Does nothing. Its contract is the law that its handles are on it, and stand in rising number.
+    pub fn handles_are_seated(&self)
+        ensures { AreSeated false self.now.object self.now.handles }
+    {
+        let _count = self.holders.len();
+    }
+
+    /// Does nothing. Its contract is the law that none of its handles is owed records of a list that handles share.
+    pub fn shares_no_list(&self)
+        ensures { (directory : Bool) (target : ℕ) → owing.longest_rest directory target self.now.handles ≡ [] }
+    {
+        let _count = self.holders.len();
     }
 
     /// A server object of the same number and name, with the same handles, without room.

@@ -46,6 +46,13 @@ impl Shares {
         &self.entry
     }
 
+    /// The record alone, without the shares of it.
+    pub fn into_entry(self) -> Entry
+        ensures { result ≡ self.entry }
+    {
+        self.entry
+    }
+
     // Takes one of the shares.
     pub(crate) fn take(&mut self) -> Option<Entry>
         requires { 0 < self.old.count }

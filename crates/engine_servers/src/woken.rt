@@ -5,7 +5,7 @@ ghost use Rattle.engine_servers.specs.Holders.{IsQueued, number_in, sees};
 ghost use Rattle.engine_servers.specs.Woken.{waits_at, wakes_at};
 
 use crate::holder::Holder;
-use crate::sight::is_visible;
+use engine_targets::is_visible;
 use pps_types::Handle;
 use server_queue::Entry;
 use std::alloc::{AllocError, Global};

@@ -9,3 +9,6 @@ pub mod Puts
 pub mod Finds
 pub mod Fitting
 pub mod Waking
+pub mod Seats
+pub mod Copying
+pub mod Alike

@@ -4,3 +4,5 @@ pub mod Counts
 pub mod Standing
 pub mod Blocks
 pub mod Woken
+pub mod Seated
+pub mod Alike

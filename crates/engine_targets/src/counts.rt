@@ -6,7 +6,8 @@ ghost use Rattle.engine_targets.specs.Places.{reader_after, placed};
 ghost use Rattle.engine_targets.specs.Counts.{stands, uncounted, counted, recounted, IsCounted, IsWithin, zeros};
 
 use crate::place::{Place, moved};
-use crate::reader::{Reader, is_visible};
+use crate::reader::Reader;
+use crate::sight::is_visible;
 use server_queue::Entry;
 use std::collections::VecDeque;
 

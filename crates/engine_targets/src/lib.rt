@@ -1,6 +1,7 @@
 //! An object or a directory with the handles that read it, and the list of records that they share.
 #![tactic(auto)]
 
+mod copies;
 mod counts;
 mod cut;
 mod kinds;
@@ -10,11 +11,13 @@ mod passed;
 mod place;
 mod questions;
 mod reader;
+mod sight;
 mod target;
 mod woken;
 
 pub use opening::{Opening, Pulse};
 pub use owed::Given;
+pub use sight::{given_block, is_visible};
 pub use target::Target;
 
 #[cfg(test)]

@@ -10,7 +10,8 @@ ghost use Rattle.engine_targets.specs.Places.{IsPlace};
 
 use crate::opening::Opening;
 use crate::place::Place;
-use crate::reader::{Reader, concerns, is_told};
+use crate::reader::Reader;
+use crate::sight::given_block;
 use change_chain::Chain;
 use pps_block::Block;
 use pps_types::Refusal;
@@ -36,22 +37,6 @@ impl Given {
             text: Vec::new(alloc),
         }
     }
-}
-
-// The block of a record, where the handle is given it.
-fn given_block<'a>(target: u64, opening: &'a Opening, entry: &'a Entry) -> Option<Block<'a>>
-    ensures visible { is_some result ≡ reading.visible (opened target [] opening.now) entry.now }
-    ensures block { IfSome result (λ b. reading.print_shown entry.now.name (Some b) ≡ reading.block (opened target [] opening.now) entry.now) }
-{
-    if !concerns(target, opening, entry) || !is_told(opening, entry.record()) {
-        return None;
-    }
-    Block::of(
-        opening.kind,
-        opening.number,
-        opening.filter.as_ref(),
-        &entry.record().kind,
-    )
 }
 
 // The refusal of a read that needs so many bytes, where that is a number.

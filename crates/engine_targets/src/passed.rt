@@ -9,7 +9,7 @@ ghost use Rattle.engine_targets.specs.Places.{seen_at, IsPlace};
 
 use crate::opening::Opening;
 use crate::place::Place;
-use crate::reader::is_visible;
+use crate::sight::is_visible;
 use change_chain::Chain;
 use server_queue::Entry;
 

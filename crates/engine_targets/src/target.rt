@@ -1,5 +1,5 @@
 //! One object or one directory with the handles on it, and the records that it holds for them.
-ghost use Rattle.std.specs.Prelude.{◌≡◌, ◌≢◌, ◌^◌, Some, None, IfOk, ◌↔◌, IsTrue, true, ℕ, List, [], ◌∷◌, ◌++◌, ◌+◌, ◌<◌, ◌≤◌, map, length, false, option_map, option_and_then, OnOk, OnErr};
+ghost use Rattle.std.specs.Prelude.{◌≡◌, ◌≢◌, ◌^◌, Some, None, IfOk, IfErr, ◌↔◌, IsTrue, true, ℕ, List, [], ◌∷◌, ◌++◌, ◌+◌, ◌<◌, ◌≤◌, map, length, false, option_map, option_and_then, OnOk, OnErr};
 ghost use Rattle.std.specs.Option.{option_copied, option_map_or};
 ghost use Rattle.std.specs.List.{AllByRecursion};
 ghost use Rattle.pps_types.specs.declared.found.Found.TheVariants.{Object as FoundObject, Directory as FoundDirectory};
@@ -13,7 +13,9 @@ ghost use Rattle.pps_types.specs.declared.refusal.Refusal.TheVariants.{OutOfMemo
 ghost use Rattle.engine_targets.specs.Blocks.{owed_blocks, refused_for, first_len};
 ghost use Rattle.engine_targets.specs.Opened.{opened, as_opened, armed_pulse, handle_at, is_directory, number_of, is_reader};
 ghost use Rattle.engine_targets.specs.Woken as waking;
+ghost use Rattle.engine_targets.specs.Seated.{AreSeated};
 
+use crate::copies::{copy_all, copy_records, same_all, same_records};
 use crate::counts::{leave, offer_each, put};
 use crate::cut::cut;
 use crate::kinds::{is_in_chain, number_of};
@@ -70,6 +72,13 @@ impl Model for Target {
     } };
 
     ghost invariant = { λ t. IsTarget (is_directory t.of) (number_of t.of) t.name t.records.start t.records.items t.counts.items t.readers.items };
+}
+
+// Whether both are the same object or directory, of the same name.
+fn is_of_same(one: &Target, other: &Target) -> bool
+    ensures { IsTrue result ↔ ((one.now.of ≡ other.now.of) × (one.now.name ≡ other.now.name)) }
+{
+    one.of == other.of && one.name == other.name
 }
 
 impl Target {
@@ -379,11 +388,61 @@ impl Target {
         self.records.end() - self.records.start()
     }
 
+    /// Does nothing. Its contract is the law that its handles are on it, are owed no more than their limits, and stand in
+    /// rising number.
+    pub fn handles_are_seated(&self)
+        ensures { AreSeated (is_directory self.now.of) (number_of self.now.of) self.now.handles }
+    {
+        let _held = self.records.start();
+    }
+
     /// Just those records are held that have to be kept: the longest rest that a handle is owed. Does nothing. Its contract
     /// is the law that says so.
     pub fn is_exact(&self)
         ensures { self.now.kept ≡ owing.longest_rest (is_directory self.now.of) (number_of self.now.of) self.now.handles }
     {
         let _held = self.records.start();
+    }
+
+    /// The same target with the same handles, without room.
+    ///
+    /// OutOfMemory is the only error.
+    pub fn copy(&self) -> Result<Target, Refusal>
+        ensures of { IfOk result (λ copy. copy.of ≡ self.now.of) }
+        ensures name { IfOk result (λ copy. copy.name ≡ self.now.name) }
+        ensures handles { IfOk result (λ copy. copy.handles ≡ self.now.handles) }
+        ensures kept { IfOk result (λ copy. copy.kept ≡ self.now.kept) }
+        ensures err { IfErr result (λ r. r ≡ OutOfMemory) }
+    {
+        let alloc = *self.readers.allocator();
+        let name = self.name.copy()?;
+        let records = copy_records(alloc, &self.records)?;
+        let counts = self.counts.clone()?;
+        let readers = copy_all(alloc, &self.readers)?;
+        Ok(Target {
+            of: self.of,
+            name,
+            records,
+            counts,
+            readers,
+        })
+    }
+
+    /// Whether both are the same target with the same handles, which are owed the same. It takes no memory.
+    pub fn same(&self, other: &Target) -> bool
+        ensures { IsTrue result ↔ ((self.now.of ≡ other.now.of) × (self.now.name ≡ other.now.name) × (self.now.handles ≡ other.now.handles)) }
+    {
+        if !is_of_same(self, other) {
+            return false;
+        }
+        if !same_records(&self.records, &other.records) {
+            return false;
+        }
+        same_all(
+            &self.readers,
+            self.records.start(),
+            &other.readers,
+            other.records.start(),
+        )
     }
 }

@@ -311,3 +311,26 @@ fn an_opening_is_copied(rt: HostRuntime) -> Result<(), Fail> {
     assert!(rt; !copy.same(&other));
     Ok(())
 }
+
+#[test]
+fn a_copy_holds_the_same_wherever_it_begins(rt: HostRuntime) -> Result<(), Fail> {
+    let alloc = rt.alloc();
+    let mut target = read_by_two(alloc)?;
+    offer_changes(alloc, &mut target, 2)?;
+    target.pass(Handle::new(4), 1);
+    let copy = target.copy()?;
+    assert!(rt; copy.same(&target));
+    assert_eq!(rt; copy.kept(), 2);
+    assert_eq!(rt; copy.owed(Handle::new(4)), Some(1));
+    let mut late = read_by_two(alloc)?;
+    offer_changes(alloc, &mut late, 1)?;
+    late.catch_up(Handle::new(4));
+    late.catch_up(Handle::new(9));
+    assert!(rt; !late.same(&target));
+    offer_changes(alloc, &mut late, 2)?;
+    late.pass(Handle::new(4), 1);
+    assert!(rt; late.same(&target));
+    late.pass(Handle::new(9), 1);
+    assert!(rt; !late.same(&target));
+    Ok(())
+}

@@ -7,7 +7,8 @@ ghost use Rattle.engine_targets.specs.Woken.{waits_at, sees_one, wakes_at};
 
 use crate::opening::Opening;
 use crate::questions::has_news;
-use crate::reader::{Reader, is_visible};
+use crate::reader::Reader;
+use crate::sight::is_visible;
 use pps_types::Handle;
 use server_queue::Entry;
 use std::alloc::{AllocError, Global};

@@ -1,6 +1,7 @@
 //! Records that queues share.
-ghost use Rattle.std.specs.Prelude.{◌≡◌, IfOk};
+ghost use Rattle.std.specs.Prelude.{◌≡◌, ◌↔◌, IsTrue, IfOk};
 
+use crate::same::{same_name, same_record};
 use crate::sender::{Sender, said_by};
 use pps_types::{Bytes, Record};
 use std::alloc::{AllocError, Global};
@@ -85,6 +86,15 @@ impl Entry {
             Some(Sender::Client(_)) => 1,
             _ => 0,
         }
+    }
+
+    /// Whether both are the same record, of an object of the same name in the same directory.
+    pub fn same(&self, other: &Entry) -> bool
+        ensures { IsTrue result ↔ (self.now ≡ other.now) }
+    {
+        self.directory() == other.directory()
+            && same_name(self.name(), other.name())
+            && same_record(self.record(), other.record())
     }
 
     /// One more share of the same record. A share may be refused memory.

@@ -5,24 +5,16 @@ use crate::entry::Entry;
 use pps_types::Record;
 use std::collections::VecDeque;
 
-fn same_record(one: &Record, other: &Record) -> bool
+pub(crate) fn same_record(one: &Record, other: &Record) -> bool
     ensures { IsTrue result ↔ (one.now ≡ other.now) }
 {
     one == other
 }
 
-fn same_name(one: &[u8], other: &[u8]) -> bool
+pub(crate) fn same_name(one: &[u8], other: &[u8]) -> bool
     ensures { IsTrue result ↔ (one.now ≡ other.now) }
 {
     one == other
-}
-
-fn same_entry(one: &Entry, other: &Entry) -> bool
-    ensures { IsTrue result ↔ (one.now ≡ other.now) }
-{
-    one.directory() == other.directory()
-        && same_name(one.name(), other.name())
-        && same_record(one.record(), other.record())
 }
 
 /// Whether both have the same records in the same order. It takes no memory.
@@ -33,7 +25,7 @@ pub(crate) fn same_owed(one: &VecDeque<Entry>, other: &VecDeque<Entry>) -> bool
         return false;
     }
     for i in 0..one.len() {
-        if !same_entry(&one[i], &other[i]) {
+        if !one[i].same(&other[i]) {
             return false;
         }
     }

@@ -6,6 +6,7 @@ returns c = record {
   created = λ o c. refl;
   happened = λ e c. refl;
   made = λ p c. refl;
+  removed = λ n c. refl;
   put = λ s c. refl;
   kept = λ c. refl;
 }

@@ -1,0 +1,10 @@
+pub mod Finds
+pub mod Rows
+pub mod Comes
+pub mod Standing
+pub mod Wholes
+pub mod Turns
+pub mod Meets
+pub mod Goes
+pub mod Offers
+pub mod Reserves

@@ -1,0 +1,194 @@
+-- All open handles of a service, under their numbers, by the object or directory that each is on.
+use Rattle.std.specs.Prelude.{◌≡◌, ◌≤◌, ◌<◌, ◌==◌, ℕ, Bool, true, List, [], Option, Some, is_some, IfSome, map, filter, length, option_map}
+use Rattle.std.specs.Option.{option_map_or}
+use Rattle.std.specs.List.{AllByRecursion, filter_map}
+use Rattle.pps_types.specs.declared.found.Found.{Found}
+use Rattle.pps_types.specs.declared.found.Found.TheVariants.{Object as FoundObject, Directory as FoundDirectory}
+use Rattle.pps_types.specs.declared.handle_kind.HandleKind.{HandleKind}
+use Rattle.pps_types.specs.History.{Entry}
+use Rattle.pps_types.specs.Reading.{Open, reseen, visible}
+use Rattle.pps_types.specs.Plan.{caught_up, left}
+use Rattle.pps_types.specs.Rests.{Seen}
+use Rattle.pps_types.specs.WellFormed.{AreRising}
+use Rattle.settling_laws.specs.Concerned.{is_on_object, is_on_directory}
+use Rattle.number_table.specs.Numbered.{Entry as Numbering, Numbered, value_under, value_at, with_value}
+use Rattle.engine_targets.specs.Opened.{handle_at, is_directory, number_of, armed_pulse}
+use Rattle.engine_targets.specs.Seated.{AreSeated}
+use Rattle.engine_seats.specs.declared.seats.Seats.{Seats}
+use Rattle.engine_seats.specs.Seated.{target_of, handles_of, name_of, kept_of, is_service, places_of as places_for, suits, IsReady}
+use Rattle.open_handles.specs.declared.change.Change.{Change}
+use Rattle.open_handles.specs.declared.change.Change.TheVariants.{CatchUp, Pass, Park, Arm}
+use Rattle.open_handles.specs.declared.places.Places.{Places}
+
+-- rows: what each handle is on, under its number. objects, directories: the handles on each, under its number.
+pub record Whole : Type 0 where
+  pub rows : Numbered Found
+  pub objects : Numbered Seats
+  pub directories : Numbered Seats
+
+-- ---- the handles of rows, where each object and each directory has its own
+
+-- the handle under a number
+abbrev pub row_handle : (Found → List (Open Seen)) → Numbering Found → Option (Open Seen)
+row_handle on e = handle_at e.number (on e.value)
+
+-- The numbers rise; what is on each object and directory is its own, with rising numbers; each row has its handle, and each handle its row.
+pub record AreRowed (on : Found → List (Open Seen)) (rows : List (Numbering Found)) (next : ℕ) : Type 0 where
+  pub rise : AreRising 0 (map (λ e. e.number) rows) next
+  pub seated : (f : Found) → AreSeated (is_directory f) (number_of f) (on f)
+  pub each : AllByRecursion (λ e. is_some (row_handle on e) ≡ true) rows
+  pub own : (f : Found) → AllByRecursion (λ h. value_under h.number rows ≡ Some f) (on f)
+
+-- ---- by where they are
+
+-- the handles on an object or a directory, with its room
+abbrev pub place_at : Found → Places → Option Seats
+place_at (FoundObject n) p = value_at n p.objects
+place_at (FoundDirectory n) p = value_at n p.directories
+
+-- others in their place
+abbrev pub with_place : Places → Found → Seats → Places
+with_place p (FoundObject n) s = record p { objects = with_value p.objects n s }
+with_place p (FoundDirectory n) s = record p { directories = with_value p.directories n s }
+
+abbrev pub places_of : Whole → Places
+places_of w = record { objects = w.objects; directories = w.directories }
+
+-- none but the handles of such a place
+abbrev pub handles_in_place : Option Seats → List (Open Seen)
+handles_in_place s = option_map_or handles_of s []
+
+abbrev pub handles_on : Places → Found → List (Open Seen)
+handles_on p f = handles_in_place (place_at f p)
+
+abbrev pub seats_at : Found → Whole → Option Seats
+seats_at f w = place_at f (places_of w)
+
+abbrev pub handles_at : Found → Whole → List (Open Seen)
+handles_at f w = handles_on (places_of w) f
+
+-- each is where it says, and no number of an object or a directory comes twice
+pub record ArePlaced (p : Places) : Type 0 where
+  pub objects_rise : AreRising 0 (map (λ e. e.number) p.objects.entries) p.objects.next
+  pub directories_rise : AreRising 0 (map (λ e. e.number) p.directories.entries) p.directories.next
+  pub on : (f : Found) (s : Seats) → place_at f p ≡ Some s → target_of s ≡ f
+
+-- ---- the whole
+
+abbrev pub handle_of_row : Whole → Numbering Found → Option (Open Seen)
+handle_of_row w = row_handle (λ f. handles_at f w)
+
+-- all handles, in rising number
+abbrev pub handles_in : Whole → List (Open Seen)
+handles_in w = filter_map (handle_of_row w) w.rows.entries
+
+pub record IsWhole (w : Whole) : Type 0 where
+  pub rowed : AreRowed (λ f. handles_at f w) w.rows.entries w.rows.next
+  pub placed : ArePlaced (places_of w)
+
+-- ---- what callers are told of places
+
+-- what an object or a directory is called, and whether it is a server object
+pub record Site : Type 0 where
+  pub name : List ℕ
+  pub service : Bool
+
+abbrev pub site_of : Seats → Site
+site_of s = record { name = name_of s; service = is_service s }
+
+-- a place where handles can be opened, if there is one
+abbrev pub site_at : Found → Whole → Option Site
+site_at f w = option_map site_of (seats_at f w)
+
+abbrev pub name_at : Found → Whole → List ℕ
+name_at f w = option_map_or (λ s. s.name) (site_at f w) []
+
+-- for how many more handles there is memory in a place
+abbrev pub room_at : Found → Whole → ℕ
+room_at f w = option_map_or places_for (seats_at f w) 0
+
+-- a handle of that kind may be opened there
+abbrev pub SuitsAt : HandleKind → Found → Whole → Type 0
+SuitsAt kind f w = IfSome (site_at f w) (λ s. suits kind (is_directory f) s.service ≡ true)
+
+-- numbers go on as before, and room that was stays
+pub record KeepsTable {T : Type 0} (old new : Numbered T) : Type 0 where
+  pub next : new.next ≡ old.next
+  pub room : old.room ≤ new.room
+
+-- objects and directories stay, and room for more
+pub record KeepsSites (old new : Whole) : Type 0 where
+  pub sites : (f : Found) → site_at f new ≡ site_at f old
+  pub objects : KeepsTable old.objects new.objects
+  pub directories : KeepsTable old.directories new.directories
+
+-- room for handles stays
+abbrev pub KeepsPlaces : Whole → Whole → Type 0
+KeepsPlaces old new = (f : Found) → room_at f old ≤ room_at f new
+
+-- it is on that object or directory
+abbrev pub is_on : Found → Open Seen → Bool
+is_on (FoundObject n) = is_on_object n
+is_on (FoundDirectory n) = is_on_directory n
+
+-- the records that are held in a place
+abbrev pub kept_at : Found → Whole → List Entry
+kept_at f w = option_map_or kept_of (seats_at f w) []
+
+-- ---- records
+
+-- a record of that object, or of an object directly in that directory
+abbrev pub is_told : Found → Entry → Bool
+is_told (FoundObject n) e = e.record_of.object == n
+is_told (FoundDirectory n) e = e.directory == n
+
+-- wherever there are handles that are told some of the records, there is room for these
+abbrev pub HasRoomAt : List Entry → Found → Seats → Type 0
+HasRoomAt entries f s = 0 < length (handles_of s) → 0 < length (filter (is_told f) entries) → IsReady (filter (is_told f) entries) s
+
+abbrev pub HasRoom : List Entry → Whole → Type 0
+HasRoom entries w = (f : Found) (s : Seats) → seats_at f w ≡ Some s → HasRoomAt entries f s
+
+abbrev pub KeepsRecords : Whole → Whole → Type 0
+KeepsRecords old new = (entries : List Entry) → HasRoom entries old → HasRoom entries new
+
+-- ---- one handle changes
+
+abbrev pub changed : Change → Open Seen → Open Seen
+changed CatchUp h = reseen caught_up h
+changed (Pass count) h = reseen (λ h. left h count h.seen) h
+changed (Park size) h = record h { parked = size }
+changed (Arm pulse) h = record h { armed = armed_pulse pulse }
+
+-- ---- a record that is told
+
+-- The shares of a record are enough: where its object is a server's, one for each handle that is given it.
+abbrev pub IsSharedAt : ℕ → Entry → Found → Whole → Type 0
+IsSharedAt count e f w = IfSome (site_at f w) (λ s. s.service ≡ true → length (filter (λ (h : Open Seen). visible h e) (handles_at f w)) ≤ count)
+
+abbrev pub IsShared : ℕ → Entry → Whole → Type 0
+IsShared count e w = IsSharedAt count e (FoundObject e.record_of.object) w
+
+-- there is room for records in one place
+abbrev pub HasRoomIn : List Entry → Found → Whole → Type 0
+HasRoomIn entries f w = IfSome (seats_at f w) (HasRoomAt entries f)
+
+-- ---- room for records
+
+-- there is room for all of these in one place
+abbrev pub IsReadyAt : List Entry → Found → Whole → Type 0
+IsReadyAt entries f w = IfSome (seats_at f w) (IsReady entries)
+
+-- and wherever a record is told
+pub record IsReadyFor (entries : List Entry) (w : Whole) (e : Entry) : Type 0 where
+  pub object : IsReadyAt entries (FoundObject e.record_of.object) w
+  pub directory : IsReadyAt entries (FoundDirectory e.directory) w
+
+-- nothing but room for records is other, and of that none is lost
+pub record IsReserved (old new : Whole) : Type 0 where
+  pub handles : handles_in new ≡ handles_in old
+  pub sites : KeepsSites old new
+  pub rows : new.rows ≡ old.rows
+  pub places : KeepsPlaces old new
+  pub records : KeepsRecords old new
+  pub ready : (entries : List Entry) (f : Found) → IsReadyAt entries f old → IsReadyAt entries f new

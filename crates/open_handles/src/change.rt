@@ -1,0 +1,121 @@
+//! What changes of one handle.
+ghost use Rattle.std.specs.Prelude.{◌≡◌, ◌<◌, ◌≤◌, ◌∷◌, ◌++◌, ◌+◌, [], List, length, map};
+ghost use Rattle.pps_types.specs.History.{Entry as Told};
+ghost use Rattle.std.specs.List.{AllByRecursion};
+ghost use Rattle.std.specs.Prelude.{OnOk, OnErr};
+ghost use Rattle.pps_types.specs.Plan as planning;
+ghost use Rattle.pps_types.specs.Reading as reading;
+ghost use Rattle.pps_types.specs.Rests as rests;
+ghost use Rattle.engine_targets.specs.Opened.{opened, is_directory, number_of};
+ghost use Rattle.engine_targets.specs.Seated.{AreSeated};
+ghost use Rattle.engine_seats.specs.Seated.{target_of, name_of, handles_of, places_of, IsSameTarget, IsReady, IsEnough, KeepsRoom, Suits};
+ghost use Rattle.open_handles.specs.Whole.{changed};
+
+use engine_seats::Seats;
+use engine_servers::Shares;
+use engine_targets::{Opening, Pulse};
+use pps_types::Handle;
+use server_queue::Entry;
+use std::alloc::AllocError;
+
+/// A change of one handle that it survives.
+#[derive(Drop)]
+pub(crate) enum Change {
+    /// It has read everything.
+    CatchUp,
+    /// It was given so many of the records that it is owed.
+    Pass(usize),
+    /// A read of that size waits on it, or none any more.
+    Park(Option<u32>),
+    /// A pulse waits on it, or none any more.
+    Arm(Option<Pulse>),
+}
+
+/// Changes one handle in its place.
+pub(crate) fn change_in(seats: &mut Seats, number: Handle, change: Change)
+    ensures same { IsSameTarget seats.old seats.new }
+    ensures handles { handles_of seats.new ≡ planning.on_numbered number (changed change) (handles_of seats.old) }
+    ensures places { places_of seats.new ≡ places_of seats.old }
+    ensures seated { AreSeated (is_directory (target_of seats.new)) (number_of (target_of seats.new)) (handles_of seats.new) }
+{
+    match change {
+        Change::CatchUp => seats.catch_up(number),
+        Change::Pass(count) => seats.pass(number, count),
+        Change::Park(size) => seats.park(number, size),
+        Change::Arm(pulse) => seats.arm(number, pulse),
+    }
+    seats.handles_are_seated();
+}
+
+/// Closes a handle in its place.
+pub(crate) fn close_in(seats: &mut Seats, number: Handle)
+    ensures same { IsSameTarget seats.old seats.new }
+    ensures handles { handles_of seats.new ≡ planning.without_number number (handles_of seats.old) }
+    ensures room { KeepsRoom seats.old seats.new }
+    ensures places { places_of seats.old ≤ places_of seats.new }
+    ensures seated { AreSeated (is_directory (target_of seats.new)) (number_of (target_of seats.new)) (handles_of seats.new) }
+{
+    seats.close(number);
+    seats.handles_are_seated();
+}
+
+/// Makes room for one more handle in a place.
+pub(crate) fn reserve_in(seats: &mut Seats) -> Result<(), AllocError>
+    ensures same { IsSameTarget seats.old seats.new }
+    ensures handles { handles_of seats.new ≡ handles_of seats.old }
+    ensures room { KeepsRoom seats.old seats.new }
+    ensures places { OnOk result (0 < places_of seats.new) }
+    ensures more { places_of seats.old ≤ places_of seats.new }
+    ensures lacking { OnErr result (places_of seats.old ≡ 0) }
+    ensures seated { AreSeated (is_directory (target_of seats.new)) (number_of (target_of seats.new)) (handles_of seats.new) }
+{
+    let made = seats.reserve_handle();
+    seats.handles_are_seated();
+    made
+}
+
+/// Opens a handle in its place.
+pub(crate) fn open_in(seats: &mut Seats, opening: Opening)
+    requires places { 0 < places_of seats.old }
+    requires suits { Suits opening.kind seats.old }
+    requires above { AllByRecursion (λ (h : reading.Open rests.Seen). h.number < opening.number) (handles_of seats.old) }
+    ensures same { IsSameTarget seats.old seats.new }
+    ensures handles { handles_of seats.new ≡ handles_of seats.old ++ reading.reseen (λ h. planning.first_seen h (reading.style h.kind)) (opened (number_of (target_of seats.old)) (name_of seats.old) opening) ∷ [] }
+    ensures places { places_of seats.new + 1 ≡ places_of seats.old }
+    ensures seated { AreSeated (is_directory (target_of seats.new)) (number_of (target_of seats.new)) (handles_of seats.new) }
+{
+    seats.open_reserved(opening);
+    seats.handles_are_seated();
+}
+
+/// Offers a record in a place, where there is room for it if handles are there.
+pub(crate) fn offer_in(seats: &mut Seats, shares: Shares)
+    requires room { 0 < length (handles_of seats.old) → IsReady (shares.entry ∷ []) seats.old }
+    requires enough { IsEnough shares.count shares.entry seats.old }
+    ensures same { IsSameTarget seats.old seats.new }
+    ensures handles { handles_of seats.new ≡ map (planning.offer shares.entry) (handles_of seats.old) }
+    ensures room { (entries : List Told) → 0 < length (handles_of seats.old) → IsReady (shares.entry ∷ entries) seats.old → IsReady entries seats.new }
+    ensures places { places_of seats.new ≡ places_of seats.old }
+    ensures seated { AreSeated (is_directory (target_of seats.new)) (number_of (target_of seats.new)) (handles_of seats.new) }
+{
+    if seats.is_empty() {
+        seats.handles_are_seated();
+        return;
+    }
+    seats.offer(shares);
+    seats.handles_are_seated();
+}
+
+/// Makes room for records in a place.
+pub(crate) fn reserve_records_in(seats: &mut Seats, entries: &[Entry]) -> Result<(), AllocError>
+    ensures same { IsSameTarget seats.old seats.new }
+    ensures handles { handles_of seats.new ≡ handles_of seats.old }
+    ensures room { KeepsRoom seats.old seats.new }
+    ensures places { places_of seats.new ≡ places_of seats.old }
+    ensures ready { OnOk result (IsReady entries.now seats.new) }
+    ensures seated { AreSeated (is_directory (target_of seats.new)) (number_of (target_of seats.new)) (handles_of seats.new) }
+{
+    let made = seats.reserve(entries);
+    seats.handles_are_seated();
+    made
+}

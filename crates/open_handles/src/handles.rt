@@ -1,0 +1,590 @@
+//! All open handles.
+ghost use Rattle.std.specs.Prelude.{◌≡◌, ◌≢◌, ◌↔◌, ◌+◌, ◌<◌, ◌≤◌, ◌^◌, ◌∷◌, ◌++◌, [], Some, None, true, false, List, is_some, length, map, filter, IsTrue, IfOk, OnOk, OnErr, option_map, option_and_then};
+ghost use Rattle.std.specs.Option.{option_copied, option_map_or};
+ghost use Rattle.pps_types.specs.declared.found.Found.{Found as FoundAt};
+ghost use Rattle.pps_types.specs.declared.found.Found.TheVariants.{Object as FoundObject, Directory as FoundDirectory};
+ghost use Rattle.number_table.specs.Numbered.{value_at};
+ghost use Rattle.engine_seats.specs.Seated.{target_of, name_of, handles_of, is_service};
+ghost use Rattle.engine_targets.specs.Opened.{opened, as_opened, armed_pulse, handle_at, is_directory, number_of};
+ghost use Rattle.pps_types.specs.History as history;
+ghost use Rattle.pps_types.specs.Plan as planning;
+ghost use Rattle.pps_types.specs.Reading as reading;
+ghost use Rattle.pps_types.specs.Rests as rests;
+ghost use Rattle.pps_types.specs.Owed as owing;
+ghost use Rattle.pps_types.specs.Content as content;
+ghost use Rattle.pps_types.specs.Names.{refusal_of};
+ghost use Rattle.pps_types.specs.declared.refusal.Refusal.TheVariants.{OutOfMemory};
+ghost use Rattle.engine_targets.specs.Blocks.{owed_blocks, refused_for, first_len};
+ghost use Rattle.engine_seats.specs.declared.seats.Seats.{Seats as SeatsOf};
+ghost use Rattle.pps_types.specs.WellFormed.{AreRising};
+ghost use Rattle.open_handles.specs.declared.handles.Opened.{Opened as OpenedAs};
+ghost use Rattle.open_handles.specs.Whole.{Whole, handles_in, handles_at, seats_at, site_at, name_at, room_at, kept_at, is_on, is_told, changed, IsShared, IsSharedAt, HasRoom, HasRoomIn, IsReadyAt, IsReadyFor, IsReserved, SuitsAt, KeepsSites, KeepsPlaces, KeepsRecords, KeepsTable};
+
+use crate::change::{
+    Change, change_in, close_in, offer_in, open_in, reserve_in, reserve_records_in,
+};
+use crate::places::{Places, drop_unused};
+use crate::told::Told;
+use engine_seats::Seats;
+use engine_servers::Shares;
+use engine_targets::{Given, Opening, Pulse};
+use number_table::Table;
+use pps_types::{Bytes, DirId, Found, Handle, ObjId, Refusal};
+use server_queue::Entry;
+use std::alloc::{AllocError, Global};
+use std::marker::Model;
+
+/// An object without handles, a server's or a plain one.
+fn seats_of(alloc: Global, object: ObjId, name: Bytes, is_served: bool) -> Seats
+    ensures target { target_of result ≡ FoundObject object }
+    ensures name { name_of result ≡ name }
+    ensures handles { handles_of result ≡ [] }
+    ensures service { is_service result ≡ is_served }
+{
+    if is_served {
+        Seats::of_service(alloc, object, name)
+    } else {
+        Seats::of_object(alloc, object, name)
+    }
+}
+
+/// What the open of a handle fixed, and the object or directory that it is on.
+#[derive(Drop)]
+pub struct Opened<'a> {
+    pub found: Found,
+    pub opening: &'a Opening,
+}
+
+/// The number of a row for a handle.
+fn row_number(opening: &Opening) -> u64
+    ensures same { result ≡ opening.now.number }
+    ensures last { result + 1 < 2 ^ 64 }
+{
+    u64::from(opening.number.number())
+}
+
+/// The row of a handle on an object or a directory.
+fn row_of(found: &Found) -> Found
+    ensures { result ≡ found.now }
+{
+    *found
+}
+
+/// The open handles of a service, under numbers that rise and never come again, and the objects and directories that
+/// handles can be opened on.
+///
+/// A call that adds something has a call beside it that takes the memory ahead and changes nothing else, and then takes
+/// none and cannot fail.
+#[derive(Drop)]
+pub struct Handles {
+    rows: Table<Found>,
+    places: Places,
+}
+
+impl Model for Handles {
+    ghost use Rattle.open_handles.specs.Whole.{Whole, IsWhole};
+
+    ghost Value = { Whole };
+
+    ghost view = { λ h. record { rows = h.rows; objects = h.places.objects; directories = h.places.directories } };
+
+    ghost invariant = { λ h. IsWhole (record { rows = h.rows; objects = h.places.objects; directories = h.places.directories }) };
+}
+
+impl Handles {
+    /// No handles, of which the first gets this number or a higher one, and nothing to open one on. It takes no memory.
+    pub fn new(alloc: Global, next: u64) -> Handles
+        ensures handles { handles_in result ≡ [] }
+        ensures sites { (f : FoundAt) → site_at f result ≡ None }
+        ensures next { result.rows.next ≡ next }
+        ensures next_object { result.objects.next ≡ 0 }
+        ensures next_directory { result.directories.next ≡ 0 }
+    {
+        Handles {
+            rows: Table::new(alloc, next),
+            places: Places {
+                objects: Table::new(alloc, 0),
+                directories: Table::new(alloc, 0),
+            },
+        }
+    }
+
+    /// How many handles are open.
+    pub fn len(&self) -> usize
+        ensures { result ≡ length (handles_in self.now) }
+    {
+        self.rows.len()
+    }
+
+    /// The number that a handle may have next: each so far was lower.
+    pub fn next(&self) -> u64
+        ensures { result ≡ self.now.rows.next }
+    {
+        self.rows.next()
+    }
+
+    /// The object or directory that a handle is on, if it is open.
+    pub fn target_of(&self, handle: Handle) -> Option<Found>
+        ensures { result ≡ value_at handle self.now.rows }
+    {
+        match self.rows.get(u64::from(handle.number())) {
+            None => None,
+            Some(found) => Some(*found),
+        }
+    }
+
+    /// Makes room for one more object. AllocError comes only where there was none. What stands stays.
+    pub fn reserve_object(&mut self) -> Result<(), AllocError>
+        ensures handles { handles_in self.new ≡ handles_in self.old }
+        ensures sites { KeepsSites self.old self.new }
+        ensures rows { KeepsTable self.old.rows self.new.rows }
+        ensures places { KeepsPlaces self.old self.new }
+        ensures records { KeepsRecords self.old self.new }
+        ensures room { OnOk result (0 < self.new.objects.room) }
+        ensures lacking { OnErr result (self.old.objects.room ≡ 0) }
+    {
+        self.places.objects.reserve(1)
+    }
+
+    /// Makes room for one more directory. AllocError comes only where there was none. What stands stays.
+    pub fn reserve_directory(&mut self) -> Result<(), AllocError>
+        ensures handles { handles_in self.new ≡ handles_in self.old }
+        ensures sites { KeepsSites self.old self.new }
+        ensures rows { KeepsTable self.old.rows self.new.rows }
+        ensures places { KeepsPlaces self.old self.new }
+        ensures records { KeepsRecords self.old self.new }
+        ensures room { OnOk result (0 < self.new.directories.room) }
+        ensures lacking { OnErr result (self.old.directories.room ≡ 0) }
+    {
+        self.places.directories.reserve(1)
+    }
+
+    /// Adds an object that handles can be opened on, into room that was made before. Its number is above all so far. It takes
+    /// no memory.
+    pub fn add_object(&mut self, alloc: Global, object: ObjId, name: Bytes, is_served: bool)
+        requires room { 0 < self.old.objects.room }
+        requires above { self.old.objects.next ≤ object }
+        requires last { object + 1 < 2 ^ 64 }
+        ensures handles { handles_in self.new ≡ handles_in self.old }
+        ensures added { site_at (FoundObject object) self.new ≡ Some (record { name = name; service = is_served }) }
+        ensures others { (f : FoundAt) → (f ≡ FoundObject object → ⊥) → seats_at f self.new ≡ seats_at f self.old }
+        ensures next { self.new.objects.next ≡ object + 1 }
+        ensures rows { self.new.rows ≡ self.old.rows }
+        ensures directories { KeepsTable self.old.directories self.new.directories }
+        ensures places { KeepsPlaces self.old self.new }
+        ensures records { KeepsRecords self.old self.new }
+    {
+        let seats = seats_of(alloc, object, name, is_served);
+        self.places.objects.push_reserved(object.number(), seats);
+    }
+
+    /// Adds a directory that handles can be opened on, into room that was made before. Its number is above all so far. It
+    /// takes no memory.
+    pub fn add_directory(&mut self, alloc: Global, directory: DirId)
+        requires room { 0 < self.old.directories.room }
+        requires above { self.old.directories.next ≤ directory }
+        requires last { directory + 1 < 2 ^ 64 }
+        ensures handles { handles_in self.new ≡ handles_in self.old }
+        ensures added { site_at (FoundDirectory directory) self.new ≡ Some (record { name = []; service = false }) }
+        ensures others { (f : FoundAt) → (f ≡ FoundDirectory directory → ⊥) → seats_at f self.new ≡ seats_at f self.old }
+        ensures next { self.new.directories.next ≡ directory + 1 }
+        ensures rows { self.new.rows ≡ self.old.rows }
+        ensures objects { KeepsTable self.old.objects self.new.objects }
+        ensures places { KeepsPlaces self.old self.new }
+        ensures records { KeepsRecords self.old self.new }
+    {
+        let seats = Seats::of_directory(alloc, directory);
+        self.places
+            .directories
+            .push_reserved(directory.number(), seats);
+    }
+
+    /// Makes room for one more handle on an object or a directory. Where nothing is there to open on, no room is wanted. What
+    /// stands stays.
+    ///
+    /// AllocError comes only where there was none.
+    pub fn reserve_handle(&mut self, found: Found) -> Result<(), AllocError>
+        ensures handles { handles_in self.new ≡ handles_in self.old }
+        ensures sites { KeepsSites self.old self.new }
+        ensures rows { KeepsTable self.old.rows self.new.rows }
+        ensures places { KeepsPlaces self.old self.new }
+        ensures records { KeepsRecords self.old self.new }
+        ensures room { OnOk result (is_some (site_at found self.old) ≡ true → 0 < self.new.rows.room) }
+        ensures place { OnOk result (is_some (site_at found self.old) ≡ true → 0 < room_at found self.new) }
+        ensures lacking { OnErr result (0 < self.old.rows.room → room_at found self.old ≡ 0) }
+    {
+        let Some(seats) = self.places.get_mut(found) else {
+            return Ok(());
+        };
+        reserve_in(seats)?;
+        self.rows.reserve(1)
+    }
+
+    /// Opens a handle on an object or a directory, where there is room for it, and which it suits. Its number is above all so
+    /// far. It takes no memory.
+    pub fn open(&mut self, found: Found, opening: Opening)
+        requires room { 0 < self.old.rows.room }
+        requires place { 0 < room_at found self.old }
+        requires suits { SuitsAt opening.kind found self.old }
+        requires above { self.old.rows.next ≤ opening.number }
+        ensures handles { handles_in self.new ≡ handles_in self.old ++ reading.reseen (λ h. planning.first_seen h (reading.style h.kind)) (opened (number_of found) (name_at found self.old) opening) ∷ [] }
+        ensures sites { KeepsSites self.old self.new }
+        ensures next { self.new.rows.next ≡ opening.number + 1 }
+    {
+        let number = row_number(&opening);
+        self.open_row(number, found, opening);
+    }
+
+    // Opens a handle under its number.
+    fn open_row(&mut self, number: u64, found: Found, opening: Opening)
+        requires number { number ≡ opening.number }
+        requires last { number + 1 < 2 ^ 64 }
+        requires room { 0 < self.old.rows.room }
+        requires place { 0 < room_at found self.old }
+        requires suits { SuitsAt opening.kind found self.old }
+        requires above { self.old.rows.next ≤ opening.number }
+        ensures handles { handles_in self.new ≡ handles_in self.old ++ reading.reseen (λ h. planning.first_seen h (reading.style h.kind)) (opened (number_of found) (name_at found self.old) opening) ∷ [] }
+        ensures sites { KeepsSites self.old self.new }
+        ensures next { self.new.rows.next ≡ opening.number + 1 }
+    {
+        let row = row_of(&found);
+        let seats = self.places.known_mut(found);
+        open_in(seats, opening);
+        self.rows.push_reserved(number, row);
+    }
+
+    /// Closes a handle, if it is open. It takes no memory, and room stays.
+    pub fn close(&mut self, handle: Handle)
+        ensures handles { handles_in self.new ≡ planning.without_number handle (handles_in self.old) }
+        ensures sites { KeepsSites self.old self.new }
+        ensures rows { KeepsTable self.old.rows self.new.rows }
+        ensures places { KeepsPlaces self.old self.new }
+        ensures records { KeepsRecords self.old self.new }
+    {
+        let Some(found) = self.target_of(handle) else {
+            return;
+        };
+        let Some(seats) = self.places.get_mut(found) else {
+            return;
+        };
+        close_in(seats, handle);
+        let _row = self.rows.remove(u64::from(handle.number()));
+    }
+
+    // Changes a handle, if it is open.
+    fn change(&mut self, handle: Handle, change: Change)
+        ensures handles { handles_in self.new ≡ planning.on_numbered handle (changed change) (handles_in self.old) }
+        ensures sites { KeepsSites self.old self.new }
+        ensures rows { self.new.rows ≡ self.old.rows }
+        ensures places { KeepsPlaces self.old self.new }
+    {
+        let Some(found) = self.target_of(handle) else {
+            return;
+        };
+        let Some(seats) = self.places.get_mut(found) else {
+            return;
+        };
+        change_in(seats, handle, change);
+    }
+
+    /// A handle, if it is open, has read everything. It takes no memory.
+    pub fn catch_up(&mut self, handle: Handle)
+        ensures handles { handles_in self.new ≡ planning.on_numbered handle (reading.reseen planning.caught_up) (handles_in self.old) }
+        ensures sites { KeepsSites self.old self.new }
+        ensures rows { self.new.rows ≡ self.old.rows }
+        ensures places { KeepsPlaces self.old self.new }
+    {
+        self.change(handle, Change::CatchUp);
+    }
+
+    /// A handle, if it is open, was given so many of the records that it is owed. It takes no memory.
+    pub fn pass(&mut self, handle: Handle, count: usize)
+        ensures handles { handles_in self.new ≡ planning.on_numbered handle (reading.reseen (λ h. planning.left h count h.seen)) (handles_in self.old) }
+        ensures sites { KeepsSites self.old self.new }
+        ensures rows { self.new.rows ≡ self.old.rows }
+        ensures places { KeepsPlaces self.old self.new }
+    {
+        self.change(handle, Change::Pass(count));
+    }
+
+    /// A read of that size waits on a handle, or none any more, if the handle is open. It takes no memory.
+    pub fn park(&mut self, handle: Handle, size: Option<u32>)
+        ensures handles { handles_in self.new ≡ planning.on_numbered handle (λ h. record h { parked = size }) (handles_in self.old) }
+        ensures sites { KeepsSites self.old self.new }
+        ensures rows { self.new.rows ≡ self.old.rows }
+        ensures places { KeepsPlaces self.old self.new }
+    {
+        self.change(handle, Change::Park(size));
+    }
+
+    /// A pulse waits on a handle, or none any more, if the handle is open. It takes no memory.
+    pub fn arm(&mut self, handle: Handle, pulse: Option<Pulse>)
+        ensures handles { handles_in self.new ≡ planning.on_numbered handle (λ h. record h { armed = armed_pulse pulse }) (handles_in self.old) }
+        ensures sites { KeepsSites self.old self.new }
+        ensures rows { self.new.rows ≡ self.old.rows }
+        ensures places { KeepsPlaces self.old self.new }
+    {
+        self.change(handle, Change::Arm(pulse));
+    }
+
+    // The handles of the place where a handle is, if it is open.
+    fn place_of(&self, handle: Handle) -> Option<&Seats>
+        ensures { handle_at handle (handles_in self.now) ≡ option_and_then (λ (s : SeatsOf). handle_at handle (handles_of s)) (option_copied result) }
+    {
+        let Some(found) = self.rows.get(u64::from(handle.number())) else {
+            return None;
+        };
+        self.places.get(*found)
+    }
+
+    /// The size of the read that waits on a handle, if one does.
+    pub fn parked(&self, handle: Handle) -> Option<u32>
+        ensures { result ≡ option_and_then (λ (h : reading.Open rests.Seen). h.parked) (handle_at handle (handles_in self.now)) }
+    {
+        match self.place_of(handle) {
+            None => None,
+            Some(seats) => seats.parked(handle),
+        }
+    }
+
+    /// The pulse that is armed on a handle, if one is.
+    pub fn armed(&self, handle: Handle) -> Option<Pulse>
+        ensures { armed_pulse result ≡ option_and_then (λ (h : reading.Open rests.Seen). h.armed) (handle_at handle (handles_in self.now)) }
+    {
+        match self.place_of(handle) {
+            None => None,
+            Some(seats) => seats.armed(handle),
+        }
+    }
+
+    /// Whether a handle is open that a read would give something new.
+    pub fn has_news(&self, handle: Handle) -> bool
+        ensures { result ≡ option_map_or content.news (handle_at handle (handles_in self.now)) false }
+    {
+        match self.place_of(handle) {
+            None => false,
+            Some(seats) => seats.has_news(handle),
+        }
+    }
+
+    /// How many records a handle is owed: none is told where it is not open, in full mode, before the first read and past
+    /// the limit.
+    pub fn owed(&self, handle: Handle) -> Option<usize>
+        ensures { result ≡ option_and_then (λ (h : reading.Open rests.Seen). owing.owed_in_seen h h.seen) (handle_at handle (handles_in self.now)) }
+    {
+        match self.place_of(handle) {
+            None => None,
+            Some(seats) => seats.owed(handle),
+        }
+    }
+
+    /// What a read of at most `max` bytes gives a handle of the records that it is owed: the longest run of whole blocks
+    /// that fits. Nothing moves.
+    ///
+    /// It is TooSmall, with the size, where the first block does not fit, before any memory is taken; else OutOfMemory is
+    /// the only error, where something is owed.
+    pub fn read_owed(&self, alloc: Global, handle: Handle, max: u32) -> Result<Given, Refusal>
+        ensures ok { IfOk result (λ g. (g.count, g.text.items) ≡ reading.fitting max (owed_blocks (handle_at handle (handles_in self.now)))) }
+        ensures refusal { refusal_of result ≢ Some OutOfMemory → refusal_of result ≡ refused_for max (owed_blocks (handle_at handle (handles_in self.now))) }
+        ensures memory { refusal_of result ≡ Some OutOfMemory → first_len (owed_blocks (handle_at handle (handles_in self.now))) < 2 ^ 32
+            → refused_for max (owed_blocks (handle_at handle (handles_in self.now))) ≡ None }
+        ensures some { refusal_of result ≡ Some OutOfMemory → 0 < length (owed_blocks (handle_at handle (handles_in self.now))) }
+    {
+        match self.place_of(handle) {
+            None => Ok(Given {
+                count: 0,
+                text: Vec::new(alloc),
+            }),
+            Some(seats) => seats.read_owed(alloc, handle, max),
+        }
+    }
+
+    /// Whether no handle is on an object or a directory.
+    pub fn is_unused(&self, found: Found) -> bool
+        ensures { IsTrue result ↔ (filter (is_on found) (handles_in self.now) ≡ []) }
+    {
+        match self.places.get(found) {
+            None => true,
+            Some(seats) => seats.is_empty(),
+        }
+    }
+
+    /// Whether a handle is on an object or a directory.
+    pub fn has_handles(&self, found: Found) -> bool
+        ensures { IsTrue result ↔ (filter (is_on found) (handles_in self.now) ≢ []) }
+    {
+        !self.is_unused(found)
+    }
+
+    /// Does nothing. Its contract is the law that the handles on an object or a directory are those of its place, and that the
+    /// numbers of all handles rise, below the next one.
+    pub fn handles_are_placed(&self)
+        ensures placed { (f : FoundAt) → handles_at f self.now ≡ filter (is_on f) (handles_in self.now) }
+        ensures rise { AreRising 0 (map (λ h. h.number) (handles_in self.now)) self.now.rows.next }
+    {
+        let _count = self.rows.len();
+    }
+
+    /// Does nothing. Its contract is the law that just those records are held for the readers of an object or a directory that
+    /// have to be kept: the longest rest that a handle on it is owed.
+    pub fn is_exact(&self, found: Found)
+        ensures { kept_at found self.now ≡ owing.longest_rest (is_directory found) (number_of found) (handles_in self.now) }
+    {
+        match self.places.get(found) {
+            None => {}
+            Some(seats) => seats.is_exact(),
+        }
+    }
+
+    /// Drops an object on which no handle is. Otherwise nothing changes. It takes no memory.
+    pub fn drop_object(&mut self, object: ObjId)
+        ensures handles { handles_in self.new ≡ handles_in self.old }
+        ensures gone { handles_at (FoundObject object) self.old ≡ [] → seats_at (FoundObject object) self.new ≡ None }
+        ensures used { (handles_at (FoundObject object) self.old ≡ [] → ⊥) → self.new ≡ self.old }
+        ensures others { (f : FoundAt) → (f ≡ FoundObject object → ⊥) → seats_at f self.new ≡ seats_at f self.old }
+        ensures rows { self.new.rows ≡ self.old.rows }
+        ensures objects { KeepsTable self.old.objects self.new.objects }
+        ensures directories { self.new.directories ≡ self.old.directories }
+        ensures records { KeepsRecords self.old self.new }
+    {
+        drop_unused(&mut self.places.objects, object.number());
+    }
+
+    /// Drops a directory on which no handle is. Otherwise nothing changes. It takes no memory.
+    pub fn drop_directory(&mut self, directory: DirId)
+        ensures handles { handles_in self.new ≡ handles_in self.old }
+        ensures gone { handles_at (FoundDirectory directory) self.old ≡ [] → seats_at (FoundDirectory directory) self.new ≡ None }
+        ensures used { (handles_at (FoundDirectory directory) self.old ≡ [] → ⊥) → self.new ≡ self.old }
+        ensures others { (f : FoundAt) → (f ≡ FoundDirectory directory → ⊥) → seats_at f self.new ≡ seats_at f self.old }
+        ensures rows { self.new.rows ≡ self.old.rows }
+        ensures objects { self.new.objects ≡ self.old.objects }
+        ensures directories { KeepsTable self.old.directories self.new.directories }
+        ensures records { KeepsRecords self.old self.new }
+    {
+        drop_unused(&mut self.places.directories, directory.number());
+    }
+
+    /// What the open of a handle fixed, and what it is on, if it is open.
+    pub fn opening(&self, handle: Handle) -> Option<Opened<'_>>
+        ensures { option_map (λ (o : OpenedAs). opened (number_of o.found) (name_at o.found self.now) o.opening.now) result ≡ option_map as_opened (handle_at handle (handles_in self.now)) }
+    {
+        let Some(found) = self.rows.get(u64::from(handle.number())) else {
+            return None;
+        };
+        let Some(seats) = self.places.get(*found) else {
+            return None;
+        };
+        let Some(opening) = seats.opening(handle) else {
+            return None;
+        };
+        Some(Opened {
+            found: *found,
+            opening,
+        })
+    }
+
+    /// A record with shares of it for all handles that it is told to.
+    ///
+    /// AllocError comes only where memory is wanting.
+    pub fn shares(&self, alloc: Global, entry: Entry) -> Result<Told, AllocError>
+        ensures entry { IfOk result (λ told. told.entry ≡ entry) }
+        ensures enough { IfOk result (λ told. IsShared told.count told.entry self.now) }
+    {
+        let for_directory = Shares::new(alloc, entry.share()?, 0)?;
+        let for_object = self.shares_for(alloc, entry)?;
+        Ok(Told {
+            for_object,
+            for_directory,
+        })
+    }
+
+    // Shares for the handles on a record's object.
+    fn shares_for(&self, alloc: Global, entry: Entry) -> Result<Shares, AllocError>
+        ensures entry { IfOk result (λ shares. shares.entry ≡ entry) }
+        ensures enough { IfOk result (λ shares. IsShared shares.count shares.entry self.now) }
+    {
+        let object = entry.record().object;
+        match self.places.get(Found::Object(object)) {
+            None => Shares::new(alloc, entry, 0),
+            Some(seats) => seats.shares(alloc, entry),
+        }
+    }
+
+    // Offers a record on an object or a directory.
+    fn offer_at(&mut self, found: Found, shares: Shares)
+        requires told { is_told found shares.entry ≡ true }
+        requires room { HasRoomIn (shares.entry ∷ []) found self.old }
+        requires enough { is_directory found ≡ false → IsSharedAt shares.count shares.entry found self.old }
+        ensures handles { handles_at found self.new ≡ map (planning.offer shares.entry) (handles_at found self.old) }
+        ensures others { (f : FoundAt) → (f ≡ found → ⊥) → seats_at f self.new ≡ seats_at f self.old }
+        ensures sites { KeepsSites self.old self.new }
+        ensures rows { self.new.rows ≡ self.old.rows }
+        ensures places { KeepsPlaces self.old self.new }
+        ensures records { (entries : List history.Entry) → HasRoomIn (shares.entry ∷ entries) found self.old → HasRoomIn entries found self.new }
+    {
+        let Some(seats) = self.places.get_mut(found) else {
+            return;
+        };
+        offer_in(seats, shares);
+    }
+
+    /// Offers all handles a record, for which there is room, and of which there are shares enough: each that sees it is owed it
+    /// from then on, or has news, or is past its limit. It takes no memory, and looks at each handle on its object and on its
+    /// directory once.
+    pub fn offer(&mut self, told: Told)
+        requires room { HasRoom (told.entry ∷ []) self.old }
+        requires enough { IsShared told.count told.entry self.old }
+        ensures handles { handles_in self.new ≡ map (planning.offer told.entry) (handles_in self.old) }
+        ensures sites { KeepsSites self.old self.new }
+        ensures rows { self.new.rows ≡ self.old.rows }
+        ensures places { KeepsPlaces self.old self.new }
+        ensures records { (entries : List history.Entry) → HasRoom (told.entry ∷ entries) self.old → HasRoom entries self.new }
+    {
+        let _count = self.rows.len();
+        let Told {
+            for_object,
+            for_directory,
+        } = told;
+        let object = for_object.entry().record().object;
+        let directory = DirId::new(for_directory.entry().directory());
+        self.offer_at(Found::Object(object), for_object);
+        self.offer_at(Found::Directory(directory), for_directory);
+    }
+
+    // Makes room for records in one place.
+    fn reserve_at(&mut self, found: Found, entries: &[Entry]) -> Result<(), AllocError>
+        ensures reserved { IsReserved self.old self.new }
+        ensures ready { OnOk result (IsReadyAt entries.now found self.new) }
+    {
+        let Some(seats) = self.places.get_mut(found) else {
+            return Ok(());
+        };
+        reserve_records_in(seats, entries)
+    }
+
+    // Makes room for records wherever one of them is told.
+    fn reserve_for(&mut self, entry: &Entry, entries: &[Entry]) -> Result<(), AllocError>
+        ensures reserved { IsReserved self.old self.new }
+        ensures ready { OnOk result (IsReadyFor entries.now self.new entry.now) }
+    {
+        self.reserve_at(Found::Object(entry.record().object), entries)?;
+        self.reserve_at(Found::Directory(DirId::new(entry.directory())), entries)
+    }
+
+    /// Makes room for records that are told one after the other. What stands stays, and so does room that was made before.
+    ///
+    /// AllocError comes only where memory is wanting, and leaves what stands as it was.
+    pub fn reserve_records(&mut self, entries: &[Entry]) -> Result<(), AllocError>
+        ensures handles { handles_in self.new ≡ handles_in self.old }
+        ensures sites { KeepsSites self.old self.new }
+        ensures rows { self.new.rows ≡ self.old.rows }
+        ensures places { KeepsPlaces self.old self.new }
+        ensures records { KeepsRecords self.old self.new }
+        ensures room { OnOk result (HasRoom entries.now self.new) }
+    {
+        for entry in entries {
+            self.reserve_for(entry, entries)?;
+        }
+        Ok(())
+    }
+}

@@ -1,0 +1,23 @@
+//! A record that is to be told.
+ghost use Rattle.std.specs.Prelude.{◌≡◌};
+
+use engine_servers::Shares;
+use std::marker::Model;
+
+/// A record with shares of it for all handles that it is told to.
+#[derive(Drop)]
+pub struct Told {
+    pub(crate) for_object: Shares,
+    pub(crate) for_directory: Shares,
+}
+
+impl Model for Told {
+    ghost use Rattle.std.specs.Prelude.{◌≡◌};
+    ghost use Rattle.engine_servers.specs.Shared.{Shared};
+
+    ghost Value = { Shared };
+
+    ghost view = { λ t. record { entry = t.for_object.entry; count = t.for_object.count } };
+
+    ghost invariant = { λ t. t.for_directory.entry ≡ t.for_object.entry };
+}
