@@ -2,6 +2,7 @@
 ghost use Rattle.std.specs.Prelude.{◌≡◌};
 
 use engine_servers::Shares;
+use server_queue::Entry;
 use std::marker::Model;
 
 /// A record with shares of it for all handles that it is told to.
@@ -20,4 +21,13 @@ impl Model for Told {
     ghost view = { λ t. record { entry = t.for_object.entry; count = t.for_object.count } };
 
     ghost invariant = { λ t. t.for_directory.entry ≡ t.for_object.entry };
+}
+
+impl Told {
+    /// The record.
+    pub fn entry(&self) -> &Entry
+        ensures { result.now ≡ self.now.entry }
+    {
+        self.for_object.entry()
+    }
 }

@@ -1,0 +1,4 @@
+pub mod Tables
+pub mod Moves
+pub mod Tied
+pub mod Lines

@@ -1,0 +1,20 @@
+-- The memory for lines that change an object.
+use Rattle.std.specs.Prelude.{◌≡◌, ℕ, Bool, true, false, Some}
+use Rattle.pps_types.specs.declared.record.Kind.{Kind}
+use Rattle.pps_types.specs.declared.record.Kind.TheVariants.{Change, Deleted}
+use Rattle.pps_types.specs.History.{Entry}
+use Rattle.engine_names.specs.Standing.{Named, lines_ready}
+
+abbrev pub HasLinesFor : Kind → ℕ → Named → Type 0
+HasLinesFor (Change lines) number n = lines_ready number n ≡ Some lines
+HasLinesFor _ number n = Unit {0}
+
+-- where a record changes attributes, its lines are ready
+abbrev pub HasLines : Entry → Named → Type 0
+HasLines e n = HasLinesFor e.record_of.kind e.record_of.object n
+
+-- ---- what becomes of its object
+
+abbrev pub deletes : Kind → Bool
+deletes Deleted = true
+deletes _ = false

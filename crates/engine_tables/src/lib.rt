@@ -1,0 +1,8 @@
+//! All that stands of a service: names, open handles and connections, kept together and changed in place.
+#![tactic(auto)]
+
+mod tables;
+mod telling;
+mod waiting;
+
+pub use tables::Tables;
