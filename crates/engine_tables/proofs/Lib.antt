@@ -1,3 +1,4 @@
 pub mod Ties
 pub mod Waits
 pub mod Tells
+pub mod Comes

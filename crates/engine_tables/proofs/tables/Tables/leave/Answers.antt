@@ -1,0 +1,23 @@
+use Rattle.std.specs.Prelude.{◌≡◌, ◌+◌, ◌<◌, ℕ, [], ◌∷◌, false}
+use Rattle.std.specs.List.{AllByRecursion}
+use Rattle.std.proofs.Common.{refl, sym, ◌∙◌, ap, subst}
+use Rattle.pps_types.specs.Content as content
+use Rattle.pps_types.specs.Plan as planning
+use Rattle.engine_targets.specs.Opened.{opened, number_of}
+use Rattle.open_handles.specs.Whole.{name_at}
+use Rattle.engine_connections.specs.Standing.{handles_of, is_attached}
+use Rattle.connection_laws.specs.Connections.{AreOwned}
+use Rattle.engine_tables.specs.Tables.{content_in}
+use Rattle.engine_tables.proofs.Ties.{Step, moved_from}
+use Rattle.engine_tables.proofs.Comes.{numbers_below, opened_step, attached_step, left_step}
+use Rattle.engine_tables.specs.contracts.tables.Tables.{the_view}
+use Rattle.engine_tables.proofs.tables.Tables.leave.Goals as goal
+
+step : (c : goal.After-leave) → Step (planning.Leaves c.args.conn ∷ []) (the_view c.self.inside) (record (the_view c.self.inside) { connections = c.leave.new.self })
+step c = left_step c.connections_are_found.ensures c.connections_are_told.ensures c.premises_stay.ensures (the_view c.self.inside) c.leave.new.self c.args.conn c.self.invariant c.leave.ensures.standing
+
+pub invariant_of-self : goal.invariant_of-self
+invariant_of-self c = (step c).tied
+
+pub returns : goal.returns
+returns c = moved_from (planning.Leaves c.args.conn ∷ []) (the_view c.self.inside) (record (the_view c.self.inside) { connections = c.leave.new.self }) c.args.self.now c.self.view_is (step c)
