@@ -13,9 +13,10 @@ use Rattle.pps_types.specs.Rests.{Seen}
 use Rattle.pps_types.specs.Content.{Content, Connection, Known, Directory, connection_numbered, is_attached, handles_of}
 use Rattle.pps_types.specs.WellFormed.{AreRising, AreInOrder}
 use Rattle.pps_types.specs.Plan.{Move, Opens, Attaches, Leaves, MakesDirectory, RemovesDirectory, apply_seen, apply_all_seen, first_seen, without_first}
-use Rattle.pps_types.proofs.Rising.{rising-below}
+use Rattle.pps_types.proofs.Rising.{rising-below, rising-ends}
 use Rattle.settling_laws.specs.Told.{HandlesRise}
-use Rattle.engine_names.specs.Standing.{Named, standing_of, standing_in as names_in}
+use Rattle.engine_names.specs.Standing.{Named, standing_of, standing_in as names_in, after}
+use Rattle.engine_names.specs.Laws.{MovesAreTold}
 use Rattle.open_handles.specs.Whole.{Whole, KeepsSites, site_at, handles_in}
 use Rattle.engine_connections.specs.Standing.{RoomedConnections, Standing, standing_in, standing_at, with_handles, is_numbered, handles_of as handles_at}
 use Rattle.connection_laws.specs.Connections.{standing_of as connection_of, connections_of, ConnectionsRise}
@@ -94,3 +95,109 @@ module _ (found : ConnectionsAreFound) (told : ConnectionsAreTold) (stay : Premi
         rise = stay.connections (content_in t) (Leaves conn ∷ []) tied.rise refl;
       })
       refl (sites_same t.handles)
+
+-- ---- directories
+
+-- a directory in a rising list is none of a number above all
+not_above : (n : ℕ) (low : ℕ) (ds : List Directory) → AreRising low (map (λ (d : Directory). d.number) ds) n → AllByRecursion (λ (d : Directory). d.number ≡ n → ⊥) ds
+not_above n low [] r = tt
+not_above n low (d ∷ ds) r = (λ same. omega (arith, same, rising-ends (d.number + 1) n (map (λ (d : Directory). d.number) ds) r.1), not_above n (d.number + 1) ds r.1)
+
+-- the places of directories other than one stay
+others_openable : (n : ℕ) (old new : Whole) → ((d : ℕ) → (d ≡ n → ⊥) → site_at (FoundDirectory d) new ≡ site_at (FoundDirectory d) old) → (ds : List Directory)
+    → AllByRecursion (λ (d : Directory). d.number ≡ n → ⊥) ds → AllByRecursion (IsOpenableDirectory old) ds → AllByRecursion (IsOpenableDirectory new) ds
+others_openable n old new sites [] apart all = tt
+others_openable n old new sites (d ∷ ds) apart all = (sites d.number apart.0 ∙ all.0, others_openable n old new sites ds apart.1 all.1)
+
+all_push : {X : Type 0} (P : X → Type 0) (xs : List X) (y : X) → AllByRecursion P xs → P y → AllByRecursion P (xs ++ y ∷ [])
+all_push P [] y all p = (p, tt)
+all_push P (x ∷ xs) y all p = (all.0, all_push P xs y all.1 p)
+
+objects_stay : (old new : Whole) → ((o : ℕ) → site_at (FoundObject o) new ≡ site_at (FoundObject o) old) → (os : List Known) → AllByRecursion (IsOpenable old) os → AllByRecursion (IsOpenable new) os
+objects_stay old new sites [] all = tt
+objects_stay old new sites (o ∷ os) all = (sites o.object.number ∙ all.0, objects_stay old new sites os all.1)
+
+-- what is left once one is taken out is none of its number
+without_apart : (n low high : ℕ) (ds : List Directory) → AreRising low (map (λ (d : Directory). d.number) ds) high
+    → AllByRecursion (λ (d : Directory). d.number ≡ n → ⊥) (without_first (λ d. d.number == n) ds)
+without_apart n low high [] r = tt
+without_apart n low high (d ∷ ds) r = by (d.number == n) refl (without_apart n (d.number + 1) high ds r.1)
+  where
+    above : (m : ℕ) (ds : List Directory) → n < m → AreRising m (map (λ (d : Directory). d.number) ds) high → AllByRecursion (λ (d : Directory). d.number ≡ n → ⊥) ds
+    above m [] lt r = tt
+    above m (d ∷ ds) lt r = (λ same. omega (arith, same, r.0), above (d.number + 1) ds (omega (arith, r.0)) r.1)
+
+    by : (b : Bool) → (d.number == n) ≡ b → AllByRecursion (λ (d : Directory). d.number ≡ n → ⊥) (without_first (λ d. d.number == n) ds)
+        → AllByRecursion (λ (d : Directory). d.number ≡ n → ⊥) (cond b ds (d ∷ without_first (λ d. d.number == n) ds))
+    by true is rest = let same : d.number ≡ n = eqb-true d.number n is in above (d.number + 1) ds (omega (arith, same)) r.1
+    by false is rest = (λ same. let bad : (d.number == n) ≡ true = eq-eqb d.number n same in let no : false ≡ true = sym is ∙ bad in cc, rest)
+
+all_without : {X : Type 0} (P : X → Type 0) (test : X → Bool) (xs : List X) → AllByRecursion P xs → AllByRecursion P (without_first test xs)
+all_without P test [] all = tt
+all_without P test (x ∷ xs) all = by (test x) (all_without P test xs all.1)
+  where
+    by : (b : Bool) → AllByRecursion P (without_first test xs) → AllByRecursion P (cond b xs (x ∷ without_first test xs))
+    by true rest = all.1
+    by false rest = (all.0, rest)
+
+module _ (found : ConnectionsAreFound) (told : ConnectionsAreTold) (named : MovesAreTold) where
+  -- names and places change, and no handle
+  named_step : (m : Move) (t : Tabled) (n : Named) (w : Whole) → AreTied t → (apply_seen m (content_in t)).default_limit ≡ t.default_limit → (apply_seen m (content_in t)).records ≡ t.records
+      → standing_of n ≡ names_in (apply_seen m (content_in t)) → (apply_seen m (content_in t)).handles ≡ (content_in t).handles → (apply_seen m (content_in t)).next_handle ≡ (content_in t).next_handle
+      → connections_of (apply_seen m (content_in t)) ≡ connections_of (content_in t) → ConnectionsRise (apply_seen m (content_in t)) → handles_in w ≡ handles_in t.handles → w.rows ≡ t.handles.rows
+      → AllByRecursion (IsOpenable w) (standing_of n).objects → AllByRecursion (IsOpenableDirectory w) (standing_of n).directories
+      → w.objects.next ≡ (standing_of n).next_object → w.directories.next ≡ (standing_of n).next_directory → Step (m ∷ []) t (record t { names = n; handles = w })
+  named_step m t n w tied limit records standing same_handles same_next same_connections rise handles rows objects directories next_object next_directory =
+      let after = apply_seen m (content_in t) in
+      let new = record t { names = n; handles = w } in
+      let meets : Meets new after = record {
+        default_limit = sym limit;
+        records = sym records;
+        standing = standing;
+        handles = handles ∙ sym same_handles;
+        next_handle = ap (λ r. r.next) rows ∙ sym same_next;
+        connected = tied.connected ∙ sym same_connections;
+        rise = rise;
+      } in
+      record {
+        moved = meets_content found new after meets;
+        tied = record {
+          connected = meets.connected ∙ ap connections_of (sym (meets_content found new after meets));
+          rise = subst ConnectionsRise (sym (meets_content found new after meets)) rise;
+          objects = objects;
+          directories = directories;
+          next_object = next_object;
+          next_directory = next_directory;
+        };
+      }
+
+  pub made_step : (t : Tabled) (n : Named) (w : Whole) (path : Path) → AreTied t → AreRising 0 (map (λ (d : Directory). d.number) (content_in t).directories) (content_in t).next_directory
+      → standing_of n ≡ after (MakesDirectory path) (standing_of t.names) → handles_in w ≡ handles_in t.handles → w.rows ≡ t.handles.rows
+      → site_at (FoundDirectory (content_in t).next_directory) w ≡ Some (record { name = []; service = false })
+      → ((f : Found) → (f ≡ FoundDirectory (content_in t).next_directory → ⊥) → site_at f w ≡ site_at f t.handles)
+      → w.objects.next ≡ t.handles.objects.next → w.directories.next ≡ (content_in t).next_directory + 1 → Step (MakesDirectory path ∷ []) t (record t { names = n; handles = w })
+  made_step t n w path tied rise standing handles rows added others next_object next_directory =
+      let c = content_in t in
+      let same : standing_of n ≡ names_in (apply_seen (MakesDirectory path) c) = standing ∙ sym (named.made path c) in
+      named_step (MakesDirectory path) t n w tied refl refl same refl refl (told.kept c (MakesDirectory path ∷ []) refl) tied.rise handles rows
+      (subst (λ s. AllByRecursion (IsOpenable w) s.objects) (sym same) (objects_stay t.handles w (λ o. others (FoundObject o) (λ bad. let no = bad in cc)) c.objects tied.objects))
+      (subst (λ s. AllByRecursion (IsOpenableDirectory w) s.directories) (sym same)
+        (all_push (IsOpenableDirectory w) c.directories (record { number = c.next_directory; path = path })
+          (others_openable c.next_directory t.handles w (λ d apart. others (FoundDirectory d) (λ is. let same : d ≡ c.next_directory = cc in apart same)) c.directories (not_above c.next_directory 0 c.directories rise) tied.directories) added))
+      (next_object ∙ tied.next_object ∙ sym (ap (λ s. s.next_object) same))
+      (next_directory ∙ sym (ap (λ s. s.next_directory) same))
+
+  pub removed_step : (t : Tabled) (n : Named) (w : Whole) (number : ℕ) → AreTied t → AreRising 0 (map (λ (d : Directory). d.number) (content_in t).directories) (content_in t).next_directory
+      → standing_of n ≡ after (RemovesDirectory number) (standing_of t.names) → handles_in w ≡ handles_in t.handles → w.rows ≡ t.handles.rows
+      → ((f : Found) → (f ≡ FoundDirectory number → ⊥) → site_at f w ≡ site_at f t.handles)
+      → w.objects.next ≡ t.handles.objects.next → w.directories.next ≡ t.handles.directories.next → Step (RemovesDirectory number ∷ []) t (record t { names = n; handles = w })
+  removed_step t n w number tied rise standing handles rows others next_object next_directory =
+      let c = content_in t in
+      let same : standing_of n ≡ names_in (apply_seen (RemovesDirectory number) c) = standing ∙ sym (named.removed number c) in
+      named_step (RemovesDirectory number) t n w tied refl refl same refl refl (told.kept c (RemovesDirectory number ∷ []) refl) tied.rise handles rows
+      (subst (λ s. AllByRecursion (IsOpenable w) s.objects) (sym same) (objects_stay t.handles w (λ o. others (FoundObject o) (λ bad. let no = bad in cc)) c.objects tied.objects))
+      (subst (λ s. AllByRecursion (IsOpenableDirectory w) s.directories) (sym same)
+        (others_openable number t.handles w (λ d apart. others (FoundDirectory d) (λ is. let same : d ≡ number = cc in apart same)) (without_first (λ d. d.number == number) c.directories)
+          (without_apart number 0 c.next_directory c.directories rise) (all_without (IsOpenableDirectory t.handles) (λ d. d.number == number) c.directories tied.directories)))
+      (next_object ∙ tied.next_object ∙ sym (ap (λ s. s.next_object) same))
+      (next_directory ∙ tied.next_directory ∙ sym (ap (λ s. s.next_directory) same))

@@ -2,6 +2,7 @@
 #![tactic(auto)]
 
 mod coming;
+mod directories;
 mod tables;
 mod telling;
 mod waiting;
