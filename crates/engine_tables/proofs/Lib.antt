@@ -2,3 +2,4 @@ pub mod Ties
 pub mod Waits
 pub mod Tells
 pub mod Comes
+pub mod Rooms

@@ -6,7 +6,7 @@ use Rattle.pps_types.specs.declared.found.Found.{Found}
 use Rattle.pps_types.specs.declared.found.Found.TheVariants.{Object as FoundObject, Directory as FoundDirectory}
 use Rattle.pps_types.specs.Content.{Content, Known, Directory}
 use Rattle.pps_types.specs.Plan.{Move, apply_all_seen}
-use Rattle.engine_names.specs.Standing.{standing_of, standing_in as names_in}
+use Rattle.engine_names.specs.Standing.{Named, standing_of, standing_in as names_in}
 use Rattle.open_handles.specs.Whole.{Whole, KeepsSites, site_at, handles_in}
 use Rattle.engine_connections.specs.Standing.{Standing, RoomedConnections, standing_in}
 use Rattle.engine_connections.specs.Laws.{queues_of}
@@ -113,3 +113,30 @@ module _ (found : ConnectionsAreFound) where
 -- the same by what stood as it was passed
 pub moved_from : (ms : List Move) (old new now : Tabled) → old ≡ now → Step ms old new → content_in new ≡ apply_all_seen ms (content_in now)
 moved_from ms old new now is step = step.moved ∙ ap (λ t. apply_all_seen ms (content_in t)) is
+
+-- where nothing but the memory for more changes
+pub roomed : ConnectionsAreFound → (t : Tabled) (n : Named) (w : Whole) (x : RoomedConnections) → AreTied t → standing_of n ≡ standing_of t.names → handles_in w ≡ handles_in t.handles
+    → w.rows.next ≡ t.handles.rows.next → KeepsSites t.handles w → standing_in x ≡ standing_in t.connections → Step [] t (record t { names = n; handles = w; connections = x })
+roomed found t n w x tied names handles next sites standing =
+    let new = record t { names = n; handles = w; connections = x } in
+    let meets : Meets new (content_in t) = record {
+      default_limit = refl;
+      records = refl;
+      standing = names;
+      handles = handles;
+      next_handle = next;
+      connected = standing ∙ tied.connected;
+      rise = tied.rise;
+    } in
+    let same = meets_content found new (content_in t) meets in
+    record {
+      moved = same;
+      tied = record {
+        connected = meets.connected ∙ ap connections_of (sym same);
+        rise = subst ConnectionsRise (sym same) tied.rise;
+        objects = subst (λ s. AllByRecursion (IsOpenable w) s.objects) (sym names) (openable_kept t.handles w sites (content_in t).objects tied.objects);
+        directories = subst (λ s. AllByRecursion (IsOpenableDirectory w) s.directories) (sym names) (directories_kept t.handles w sites (content_in t).directories tied.directories);
+        next_object = sites.objects.next ∙ tied.next_object ∙ sym (ap (λ s. s.next_object) names);
+        next_directory = sites.directories.next ∙ tied.next_directory ∙ sym (ap (λ s. s.next_directory) names);
+      };
+    }

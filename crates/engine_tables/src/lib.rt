@@ -3,6 +3,7 @@
 
 mod coming;
 mod directories;
+mod room;
 mod tables;
 mod telling;
 mod waiting;

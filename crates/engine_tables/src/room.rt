@@ -1,0 +1,110 @@
+//! Memory that is taken ahead. What stands stays.
+ghost use Rattle.std.specs.Prelude.{◌≡◌, ◌≢◌, ◌+◌, ◌<◌, ◌≤◌, true, is_some, Some, OnOk, OnErr, IfErr, IfSome, fold, IsSomeAnd};
+ghost use Rattle.pps_types.specs.Names.{refusal_of, add_refusal, mkdir_refusal};
+ghost use Rattle.pps_types.specs.Checks.{first_refusal, limit_checks};
+ghost use Rattle.pps_types.specs.History.{apply_line};
+ghost use Rattle.pps_types.specs.Content as content;
+ghost use Rattle.pps_types.specs.Outbox.{arm_refusal, park_refusal};
+ghost use Rattle.pps_types.specs.declared.refusal.Refusal.TheVariants.{OutOfMemory};
+ghost use Rattle.connection_laws.specs.Connections.{AreOwned};
+ghost use Rattle.engine_names.specs.Standing.{IsReadyToCreate, IsReadyToMake, placed_at};
+ghost use Rattle.open_handles.specs.Whole.{HasRoom, room_at, site_at};
+ghost use Rattle.engine_connections.specs.Standing.{CanArm, CanPark, HasHandleRoom};
+ghost use Rattle.engine_tables.specs.Tables.{content_in};
+
+use crate::tables::Tables;
+use connection_laws::connections_are_found;
+use pps_types::{Bytes, Conn, Found, Handle, Line, ObjId, Refusal};
+use server_queue::Entry;
+use std::alloc::AllocError;
+
+impl Tables {
+    /// Takes the memory for one more connection. OutOfMemory is the only error.
+    pub fn attach_ready(&mut self) -> Result<(), Refusal>
+        ensures content { content_in self.new ≡ content_in self.old }
+        ensures names { self.new.names ≡ self.old.names }
+        ensures handles { self.new.handles ≡ self.old.handles }
+        ensures ok { OnOk result (0 < self.new.connections.room) }
+        ensures err { IfErr result (λ r. r ≡ OutOfMemory) }
+    {
+        connections_are_found();
+        self.connections.attach_ready()
+    }
+
+    /// Takes the memory to arm a pulse on a handle of a connection.
+    ///
+    /// It is OutboxFull where the connection's items, armed pulses and parked reads are 1,024 without the handle's own
+    /// armed pulse, and else OutOfMemory is the only error. Arming anew takes no memory.
+    pub fn arm_ready(&mut self, conn: Conn, handle: Handle) -> Result<(), Refusal>
+        requires { AreOwned (content_in self.old) }
+        ensures content { content_in self.new ≡ content_in self.old }
+        ensures names { self.new.names ≡ self.old.names }
+        ensures handles { self.new.handles ≡ self.old.handles }
+        ensures refusal { refusal_of result ≢ Some OutOfMemory → refusal_of result ≡ arm_refusal (content.outbox_of (content_in self.old) conn) handle }
+        ensures free { refusal_of result ≡ Some OutOfMemory → arm_refusal (content.outbox_of (content_in self.old) conn) handle ≡ None }
+        ensures ok { OnOk result (CanArm conn handle self.new.connections) }
+    {
+        connections_are_found();
+        self.connections.arm_ready(conn, handle)
+    }
+
+    /// Takes the memory to park a read on a handle of a connection.
+    ///
+    /// It is ReadPending where a read is parked on the handle, then OutboxFull where the connection's items, armed pulses
+    /// and parked reads are 1,024, and else OutOfMemory is the only error.
+    pub fn park_ready(&mut self, conn: Conn, handle: Handle) -> Result<(), Refusal>
+        requires { AreOwned (content_in self.old) }
+        ensures content { content_in self.new ≡ content_in self.old }
+        ensures names { self.new.names ≡ self.old.names }
+        ensures handles { self.new.handles ≡ self.old.handles }
+        ensures refusal { refusal_of result ≢ Some OutOfMemory → refusal_of result ≡ park_refusal (content.outbox_of (content_in self.old) conn) handle }
+        ensures free { refusal_of result ≡ Some OutOfMemory → park_refusal (content.outbox_of (content_in self.old) conn) handle ≡ None }
+        ensures ok { OnOk result (CanPark conn handle self.new.connections) }
+    {
+        connections_are_found();
+        self.connections.park_ready(conn, handle)
+    }
+
+    /// Takes the memory for one more handle of a connection on an object or a directory. OutOfMemory is the only error.
+    pub fn open_ready(&mut self, found: Found, conn: Conn) -> Result<(), Refusal>
+        ensures content { content_in self.new ≡ content_in self.old }
+        ensures names { self.new.names ≡ self.old.names }
+        ensures room { OnOk result (is_some (site_at found self.old.handles) ≡ true → 0 < self.new.handles.rows.room) }
+        ensures place { OnOk result (is_some (site_at found self.old.handles) ≡ true → 0 < room_at found self.new.handles) }
+        ensures connection { OnOk result (HasHandleRoom conn 1 self.new.connections) }
+        ensures err { IfErr result (λ r. r ≡ OutOfMemory) }
+    {
+        connections_are_found();
+        self.handles.reserve_handle(found)?;
+        self.connections.open_ready(conn)
+    }
+
+    /// Takes the memory for records that are told one after the other. OutOfMemory is the only error.
+    pub fn records_ready(&mut self, entries: &[Entry]) -> Result<(), Refusal>
+        ensures content { content_in self.new ≡ content_in self.old }
+        ensures names { self.new.names ≡ self.old.names }
+        ensures connections { self.new.connections ≡ self.old.connections }
+        ensures room { OnOk result (HasRoom entries.now self.new.handles) }
+        ensures err { IfErr result (λ r. r ≡ OutOfMemory) }
+    {
+        connections_are_found();
+        self.handles.reserve_records(entries)?;
+        Ok(())
+    }
+
+    /// Takes the memory for lines that change an object.
+    ///
+    /// It is TooLarge exactly where the object would pass a limit of objects after all of these lines. Else OutOfMemory is
+    /// the only error. Where there is no such object, nothing is wanted.
+    pub fn change_ready(&mut self, object: ObjId, lines: &[Line]) -> Result<(), Refusal>
+        ensures content { content_in self.new ≡ content_in self.old }
+        ensures handles { self.new.handles ≡ self.old.handles }
+        ensures connections { self.new.connections ≡ self.old.connections }
+        ensures refusal { IfSome (placed_at object self.old.names) (λ x. refusal_of result ≢ Some OutOfMemory
+            → refusal_of result ≡ first_refusal (limit_checks (fold apply_line x.held.attributes lines.now))) }
+        ensures ok { OnOk result (IfSome (placed_at object self.new.names) (λ x. x.held.ready ≡ Some lines.now)) }
+    {
+        connections_are_found();
+        self.names.change_ready(object, lines)
+    }
+}
