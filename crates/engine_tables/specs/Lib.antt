@@ -2,3 +2,4 @@ pub mod Tables
 pub mod Moves
 pub mod Tied
 pub mod Lines
+pub mod Following

@@ -3,6 +3,7 @@
 
 mod coming;
 mod directories;
+mod following;
 mod room;
 mod tables;
 mod telling;
