@@ -3,3 +3,5 @@ pub mod Waits
 pub mod Tells
 pub mod Comes
 pub mod Rooms
+pub mod Begins
+pub mod Ready

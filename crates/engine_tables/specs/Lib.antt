@@ -3,3 +3,4 @@ pub mod Moves
 pub mod Tied
 pub mod Lines
 pub mod Following
+pub mod Beginning

@@ -18,3 +18,8 @@ HasLines e n = HasLinesFor e.record_of.kind e.record_of.object n
 abbrev pub deletes : Kind → Bool
 deletes Deleted = true
 deletes _ = false
+
+-- it changes attributes by lines
+abbrev pub is_change : Kind → Bool
+is_change (Change lines) = true
+is_change _ = false

@@ -1,6 +1,7 @@
 //! All that stands of a service: names, open handles and connections, kept together and changed in place.
 #![tactic(auto)]
 
+mod beginning;
 mod coming;
 mod directories;
 mod following;

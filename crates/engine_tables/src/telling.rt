@@ -8,7 +8,7 @@ ghost use Rattle.engine_names.specs.Standing.{standing_of, happened};
 ghost use Rattle.open_handles.specs.Whole.{HasRoom, IsShared, KeepsRecords, KeepsTable, site_at, handles_in};
 ghost use Rattle.engine_tables.specs.Tables.{content_in};
 ghost use Rattle.engine_tables.specs.Lines.{HasLines, deletes};
-ghost use Rattle.engine_tables.specs.Tied.{Moves};
+ghost use Rattle.engine_tables.specs.Tied.{Moves, KeepsOrDrops, KeepsHandleRoom};
 
 use crate::tables::Tables;
 use connection_laws::{connections_are_found, connections_are_told};
@@ -47,6 +47,7 @@ fn drop_deleted(handles: &mut Handles, object: ObjId, is_deleted: bool)
     ensures objects { KeepsTable handles.old.objects handles.new.objects }
     ensures directories { KeepsTable handles.old.directories handles.new.directories }
     ensures records { KeepsRecords handles.old handles.new }
+    ensures dropped { KeepsOrDrops handles.old handles.new }
     ensures kept { is_deleted ≡ false → handles.new ≡ handles.old }
 {
     if is_deleted {
@@ -63,7 +64,8 @@ impl Tables {
         requires last { self.old.records + 1 < 2 ^ 64 }
         ensures moves { Moves (planning.Happens told.entry ∷ []) self.old self.new }
         ensures records { (entries : List history.Entry) → HasRoom (told.entry ∷ entries) self.old.handles → HasRoom entries self.new.handles }
-        ensures connections { self.new.connections ≡ self.old.connections }
+        ensures sites { KeepsOrDrops self.old.handles self.new.handles }
+        ensures kept { deletes told.entry.record_of.kind ≡ false → KeepsHandleRoom self.old self.new }
     {
         connections_are_found();
         connections_are_told();
