@@ -8,3 +8,4 @@ pub mod Meets
 pub mod Goes
 pub mod Offers
 pub mod Reserves
+pub mod Wakes

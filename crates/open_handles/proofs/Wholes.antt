@@ -11,7 +11,7 @@ use Rattle.pps_types.specs.WellFormed.{AreRising}
 use Rattle.number_table.specs.Numbered.{Entry as Numbering, Numbered, value_under}
 use Rattle.engine_seats.specs.declared.seats.Seats.{Seats}
 use Rattle.engine_seats.specs.Seated.{target_of, handles_of, places_of as places_for}
-use Rattle.open_handles.specs.Whole.{Whole, IsWhole, AreRowed, row_handle, handles_in, handles_at, seats_at, handles_in_place, handle_of_row, room_at, KeepsPlaces, KeepsRecords, HasRoomAt}
+use Rattle.open_handles.specs.Whole.{Whole, IsWhole, AreRowed, row_handle, handles_in, handles_at, seats_at, handles_in_place, handle_of_row, room_at, KeepsPlaces, KeepsRecords, HasRoomAt, Fresh, IsFresh, site_of}
 use Rattle.open_handles.proofs.Finds.{some_is, found_cases}
 use Rattle.open_handles.proofs.Comes.{under_push, under_new, under_none, rise_push}
 
@@ -181,3 +181,11 @@ module _ (rows : Numbered Found) (objects directories : Numbered Seats) (whole :
       let are : more.entries ≡ directories.entries ++ record { number = n; value = s } ∷ [] = entries ∙ ap (λ k. directories.entries ++ record { number = k; value = s } ∷ []) same in
       let goes : more.next ≡ n + 1 = next ∙ ap (λ k. k + 1) same in
       added old new whole (FoundDirectory n) s bare target refl (directory_fresh old new whole n s above are goes) (directory_here old new whole n s above are goes) (directory_elsewhere old new whole n s above are goes refl) whole.placed.objects_rise (directory_rises old new whole n s above are goes)
+
+-- a new object comes
+pub added_fresh : (rows : Numbered Found) (objects directories : Numbered Seats) → IsWhole (record { rows = rows; objects = objects; directories = directories }) → (x : Fresh) (n m : ℕ) (s : Seats) → record { object = n; site = site_of s } ≡ x → IsFresh n s → m ≡ n → (more : Numbered Seats)
+    → objects.next ≤ x.object → more.entries ≡ objects.entries ++ record { number = m; value = s } ∷ [] → more.next ≡ m + 1
+    → IsAdded (FoundObject x.object) s (record { rows = rows; objects = objects; directories = directories }) (record { rows = rows; objects = more; directories = directories })
+added_fresh rows objects directories whole x n m s is fresh same more above entries next =
+    let at : n ≡ x.object = ap (λ (y : Fresh). y.object) is in
+    added_object rows objects directories whole x.object m (same ∙ at) s fresh.bare more above (fresh.on ∙ ap FoundObject at) entries next

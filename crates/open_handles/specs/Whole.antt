@@ -96,6 +96,17 @@ pub record Site : Type 0 where
 abbrev pub site_of : Seats → Site
 site_of s = record { name = name_of s; service = is_service s }
 
+-- an object that is to be added
+pub record Fresh : Type 0 where
+  pub object : ℕ
+  pub site : Site
+
+-- it is that object, without handles, and has room for one
+pub record IsFresh (object : ℕ) (s : Seats) : Type 0 where
+  pub on : target_of s ≡ FoundObject object
+  pub bare : handles_of s ≡ []
+  pub room : 0 < places_for s
+
 -- a place where handles can be opened, if there is one
 abbrev pub site_at : Found → Whole → Option Site
 site_at f w = option_map site_of (seats_at f w)

@@ -4,7 +4,7 @@ ghost use Rattle.std.specs.Option.{option_copied, option_map_or};
 ghost use Rattle.pps_types.specs.declared.found.Found.{Found as FoundAt};
 ghost use Rattle.pps_types.specs.declared.found.Found.TheVariants.{Object as FoundObject, Directory as FoundDirectory};
 ghost use Rattle.number_table.specs.Numbered.{value_at};
-ghost use Rattle.engine_seats.specs.Seated.{target_of, name_of, handles_of, is_service};
+ghost use Rattle.engine_seats.specs.Seated.{handles_of};
 ghost use Rattle.engine_targets.specs.Opened.{opened, as_opened, armed_pulse, handle_at, is_directory, number_of};
 ghost use Rattle.pps_types.specs.History as history;
 ghost use Rattle.pps_types.specs.Plan as planning;
@@ -14,6 +14,7 @@ ghost use Rattle.pps_types.specs.Owed as owing;
 ghost use Rattle.pps_types.specs.Content as content;
 ghost use Rattle.pps_types.specs.Names.{refusal_of};
 ghost use Rattle.pps_types.specs.declared.refusal.Refusal.TheVariants.{OutOfMemory};
+ghost use Rattle.engine_targets.specs.Woken as waking;
 ghost use Rattle.engine_targets.specs.Blocks.{owed_blocks, refused_for, first_len};
 ghost use Rattle.engine_seats.specs.declared.seats.Seats.{Seats as SeatsOf};
 ghost use Rattle.pps_types.specs.WellFormed.{AreRising};
@@ -23,30 +24,18 @@ ghost use Rattle.open_handles.specs.Whole.{Whole, handles_in, handles_at, seats_
 use crate::change::{
     Change, change_in, close_in, offer_in, open_in, reserve_in, reserve_records_in,
 };
+use crate::new_site::NewSite;
 use crate::places::{Places, drop_unused};
 use crate::told::Told;
+use crate::woken::unite;
 use engine_seats::Seats;
 use engine_servers::Shares;
 use engine_targets::{Given, Opening, Pulse};
 use number_table::Table;
-use pps_types::{Bytes, DirId, Found, Handle, ObjId, Refusal};
+use pps_types::{DirId, Found, Handle, ObjId, Refusal};
 use server_queue::Entry;
 use std::alloc::{AllocError, Global};
 use std::marker::Model;
-
-/// An object without handles, a server's or a plain one.
-fn seats_of(alloc: Global, object: ObjId, name: Bytes, is_served: bool) -> Seats
-    ensures target { target_of result ≡ FoundObject object }
-    ensures name { name_of result ≡ name }
-    ensures handles { handles_of result ≡ [] }
-    ensures service { is_service result ≡ is_served }
-{
-    if is_served {
-        Seats::of_service(alloc, object, name)
-    } else {
-        Seats::of_object(alloc, object, name)
-    }
-}
 
 /// What the open of a handle fixed, and the object or directory that it is on.
 #[derive(Drop)]
@@ -159,22 +148,36 @@ impl Handles {
         self.places.directories.reserve(1)
     }
 
-    /// Adds an object that handles can be opened on, into room that was made before. Its number is above all so far. It takes
-    /// no memory.
-    pub fn add_object(&mut self, alloc: Global, object: ObjId, name: Bytes, is_served: bool)
-        requires room { 0 < self.old.objects.room }
-        requires above { self.old.objects.next ≤ object }
-        requires last { object + 1 < 2 ^ 64 }
+    /// Makes room for one more handle among all. AllocError comes only where there was none. What stands stays.
+    pub fn reserve_row(&mut self) -> Result<(), AllocError>
         ensures handles { handles_in self.new ≡ handles_in self.old }
-        ensures added { site_at (FoundObject object) self.new ≡ Some (record { name = name; service = is_served }) }
-        ensures others { (f : FoundAt) → (f ≡ FoundObject object → ⊥) → seats_at f self.new ≡ seats_at f self.old }
-        ensures next { self.new.objects.next ≡ object + 1 }
+        ensures sites { KeepsSites self.old self.new }
+        ensures rows { KeepsTable self.old.rows self.new.rows }
+        ensures places { KeepsPlaces self.old self.new }
+        ensures records { KeepsRecords self.old self.new }
+        ensures room { OnOk result (0 < self.new.rows.room) }
+        ensures lacking { OnErr result (self.old.rows.room ≡ 0) }
+    {
+        self.rows.reserve(1)
+    }
+
+    /// Adds an object that handles can be opened on, into room that was made before. Its number is above all so far. There is
+    /// room for its first handle. It takes no memory.
+    pub fn add_object(&mut self, fresh: NewSite)
+        requires room { 0 < self.old.objects.room }
+        requires above { self.old.objects.next ≤ fresh.object }
+        requires last { fresh.object + 1 < 2 ^ 64 }
+        ensures handles { handles_in self.new ≡ handles_in self.old }
+        ensures added { site_at (FoundObject fresh.object) self.new ≡ Some fresh.site }
+        ensures place { 0 < room_at (FoundObject fresh.object) self.new }
+        ensures others { (f : FoundAt) → (f ≡ FoundObject fresh.object → ⊥) → seats_at f self.new ≡ seats_at f self.old }
+        ensures next { self.new.objects.next ≡ fresh.object + 1 }
         ensures rows { self.new.rows ≡ self.old.rows }
         ensures directories { KeepsTable self.old.directories self.new.directories }
         ensures places { KeepsPlaces self.old self.new }
         ensures records { KeepsRecords self.old self.new }
     {
-        let seats = seats_of(alloc, object, name, is_served);
+        let NewSite { object, seats } = fresh;
         self.places.objects.push_reserved(object.number(), seats);
     }
 
@@ -397,6 +400,50 @@ impl Handles {
             }),
             Some(seats) => seats.read_owed(alloc, handle, max),
         }
+    }
+
+    // Whom records wake of the handles on an object or a directory.
+    fn woken_at(
+        &self,
+        alloc: Global,
+        found: Found,
+        entries: &[Entry],
+    ) -> Result<Vec<Handle>, AllocError>
+        ensures { IfOk result (λ woken. woken.items ≡ waking.woken_by entries.now (handles_at found self.now)) }
+    {
+        match self.places.get(found) {
+            None => Ok(Vec::new(alloc)),
+            Some(seats) => seats.woken_by(alloc, entries),
+        }
+    }
+
+    // Whom a record wakes.
+    fn woken_by_one(&self, alloc: Global, entry: &Entry) -> Result<Vec<Handle>, AllocError>
+        ensures { IfOk result (λ woken. woken.items ≡ waking.woken_by (entry.now ∷ []) (handles_in self.now)) }
+    {
+        self.handles_are_placed();
+        let object = Found::Object(entry.record().object);
+        let directory = Found::Directory(DirId::new(entry.directory()));
+        let entries = std::slice::from_ref(entry);
+        let on_object = self.woken_at(alloc, object, entries)?;
+        let on_directory = self.woken_at(alloc, directory, entries)?;
+        unite(alloc, on_object, on_directory)
+    }
+
+    /// The handles that these records wake, in rising number: a read or a pulse waits on each, and it has had no news until
+    /// one of them, which it sees. It looks at the handles on each record's object and on its directory, and changes nothing.
+    ///
+    /// AllocError comes only where memory is wanting.
+    pub fn woken_by(&self, alloc: Global, entries: &[Entry]) -> Result<Vec<Handle>, AllocError>
+        ensures { IfOk result (λ woken. woken.items ≡ waking.woken_by entries.now (handles_in self.now)) }
+    {
+        self.handles_are_placed();
+        let mut woken = Vec::new(alloc);
+        for entry in entries {
+            let more = self.woken_by_one(alloc, entry)?;
+            woken = unite(alloc, woken, more)?;
+        }
+        Ok(woken)
     }
 
     /// Whether no handle is on an object or a directory.

@@ -3,8 +3,11 @@
 
 mod change;
 mod handles;
+mod new_site;
 mod places;
 mod told;
+mod woken;
 
 pub use handles::{Handles, Opened};
+pub use new_site::NewSite;
 pub use told::Told;

@@ -1,0 +1,16 @@
+use Rattle.std.specs.Prelude.{◌≡◌, List, ◌∷◌}
+use Rattle.std.proofs.Common.{subst, ap}
+use Rattle.engine_tables.specs.declared.beginning.Beginning.{Beginning}
+use Rattle.engine_tables.specs.Beginning.{AreReady}
+use Rattle.engine_tables.proofs.Ready.{closed_ready, happened_ready}
+use Rattle.engine_tables.proofs.tables.Tables.begin.Goals as goal
+
+pub returns-in-Closes-clause-ready : goal.returns-in-Closes-clause-ready
+returns-in-Closes-clause-ready c xs ready =
+    closed_ready c.in-Closes.conn c.in-Closes.handle c.in-Closes.is_parked xs c.args.self.now c.close.new.self c.close.ensures.moves c.close.ensures.records c.close.ensures.names
+    c.close.ensures.room.sites c.handles_are_placed.ensures c.handles_are_placed-in-Closes.ensures (subst (λ x. AreReady (x ∷ xs) c.args.self.now) c.in-Closes.is ready)
+
+pub returns-in-Happens-clause-ready : goal.returns-in-Happens-clause-ready
+returns-in-Happens-clause-ready c xs ready =
+    happened_ready c.in-Happens.told xs c.args.self.now c.happen.new.self c.happen.ensures.moves c.happen.ensures.records c.happen.ensures.sites
+    c.handles_are_placed.ensures c.handles_are_placed-in-Happens.ensures (subst (λ x. AreReady (x ∷ xs) c.args.self.now) c.in-Happens.is ready)

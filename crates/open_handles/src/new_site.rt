@@ -1,0 +1,59 @@
+//! An object that is to be added.
+ghost use Rattle.std.specs.Prelude.{◌≡◌, [], IfOk};
+ghost use Rattle.pps_types.specs.declared.found.Found.TheVariants.{Object as FoundObject};
+ghost use Rattle.engine_seats.specs.Seated.{target_of, name_of, handles_of, is_service};
+
+use engine_seats::Seats;
+use pps_types::{Bytes, ObjId};
+use std::alloc::{AllocError, Global};
+use std::marker::Model;
+
+/// An object without handles, a server's or a plain one.
+fn seats_of(alloc: Global, object: ObjId, name: Bytes, is_served: bool) -> Seats
+    ensures target { target_of result ≡ FoundObject object }
+    ensures name { name_of result ≡ name }
+    ensures handles { handles_of result ≡ [] }
+    ensures service { is_service result ≡ is_served }
+{
+    if is_served {
+        Seats::of_service(alloc, object, name)
+    } else {
+        Seats::of_object(alloc, object, name)
+    }
+}
+
+/// An object without handles that is to be added to all others, with room for its first handle.
+#[derive(Drop)]
+pub struct NewSite {
+    pub(crate) object: ObjId,
+    pub(crate) seats: Seats,
+}
+
+impl Model for NewSite {
+    ghost use Rattle.open_handles.specs.Whole.{Fresh, IsFresh, site_of};
+
+    ghost Value = { Fresh };
+
+    ghost view = { λ x. record { object = x.object; site = site_of x.seats } };
+
+    ghost invariant = { λ x. IsFresh x.object x.seats };
+}
+
+impl NewSite {
+    /// An object without handles, a server's or a plain one, with memory for its first handle.
+    ///
+    /// AllocError comes only where memory is wanting.
+    pub fn of_object(
+        alloc: Global,
+        object: ObjId,
+        name: Bytes,
+        is_served: bool,
+    ) -> Result<NewSite, AllocError>
+        ensures object { IfOk result (λ fresh. fresh.object ≡ object) }
+        ensures site { IfOk result (λ fresh. fresh.site ≡ record { name = name; service = is_served }) }
+    {
+        let mut seats = seats_of(alloc, object, name, is_served);
+        seats.reserve_handle()?;
+        Ok(NewSite { object, seats })
+    }
+}
