@@ -10,9 +10,9 @@ use Rattle.pps_types.specs.Names.{Path}
 use Rattle.pps_types.specs.Outbox.{Outbox, empty_outbox, put_rising}
 use Rattle.pps_types.specs.Reading.{Open, reseen, style}
 use Rattle.pps_types.specs.Rests.{Seen}
-use Rattle.pps_types.specs.Content.{Content, Connection, Known, Directory, connection_numbered, is_attached, handles_of}
+use Rattle.pps_types.specs.Content.{Content, Connection, Object, Known, Directory, connection_numbered, is_attached, handles_of}
 use Rattle.pps_types.specs.WellFormed.{AreRising, AreInOrder}
-use Rattle.pps_types.specs.Plan.{Move, Opens, Attaches, Leaves, MakesDirectory, RemovesDirectory, apply_seen, apply_all_seen, first_seen, without_first}
+use Rattle.pps_types.specs.Plan.{Move, Creates, Opens, Attaches, Leaves, MakesDirectory, RemovesDirectory, apply_seen, apply_all_seen, first_seen, without_first, offer, creation}
 use Rattle.pps_types.proofs.Rising.{rising-below, rising-ends}
 use Rattle.settling_laws.specs.Told.{HandlesRise}
 use Rattle.engine_names.specs.Standing.{Named, standing_of, standing_in as names_in, after}
@@ -201,3 +201,54 @@ module _ (found : ConnectionsAreFound) (told : ConnectionsAreTold) (named : Move
           (without_apart number 0 c.next_directory c.directories rise) (all_without (IsOpenableDirectory t.handles) (λ d. d.number == number) c.directories tied.directories)))
       (next_object ∙ tied.next_object ∙ sym (ap (λ s. s.next_object) same))
       (next_directory ∙ tied.next_directory ∙ sym (ap (λ s. s.next_directory) same))
+
+-- ---- objects
+
+not_above_objects : (n : ℕ) (low : ℕ) (os : List Known) → AreRising low (map (λ (o : Known). o.object.number) os) n → AllByRecursion (λ (o : Known). o.object.number ≡ n → ⊥) os
+not_above_objects n low [] r = tt
+not_above_objects n low (o ∷ os) r = (λ same. omega (arith, same, rising-ends (o.object.number + 1) n (map (λ (o : Known). o.object.number) os) r.1), not_above_objects n (o.object.number + 1) os r.1)
+
+other_objects : (n : ℕ) (old new : Whole) → ((o : ℕ) → (o ≡ n → ⊥) → site_at (FoundObject o) new ≡ site_at (FoundObject o) old) → (os : List Known)
+    → AllByRecursion (λ (o : Known). o.object.number ≡ n → ⊥) os → AllByRecursion (IsOpenable old) os → AllByRecursion (IsOpenable new) os
+other_objects n old new sites [] apart all = tt
+other_objects n old new sites (o ∷ os) apart all = (sites o.object.number apart.0 ∙ all.0, other_objects n old new sites os apart.1 all.1)
+
+directories_stay : (old new : Whole) → ((d : ℕ) → site_at (FoundDirectory d) new ≡ site_at (FoundDirectory d) old) → (ds : List Directory) → AllByRecursion (IsOpenableDirectory old) ds → AllByRecursion (IsOpenableDirectory new) ds
+directories_stay old new sites [] all = tt
+directories_stay old new sites (d ∷ ds) all = (sites d.number ∙ all.0, directories_stay old new sites ds all.1)
+
+module _ (found : ConnectionsAreFound) (told : ConnectionsAreTold) (named : MovesAreTold) where
+  pub created_step : (t : Tabled) (n : Named) (w : Whole) (o : Object) → AreTied t → o.number ≡ (content_in t).next_object
+      → AreRising 0 (map (λ (o : Known). o.object.number) (content_in t).objects) (content_in t).next_object
+      → standing_of n ≡ after (Creates o) (standing_of t.names) → handles_in w ≡ map (offer (creation o)) (handles_in t.handles) → w.rows ≡ t.handles.rows
+      → site_at (FoundObject o.number) w ≡ Some (record { name = o.name; service = is_some o.server })
+      → ((f : Found) → (f ≡ FoundObject o.number → ⊥) → site_at f w ≡ site_at f t.handles)
+      → w.objects.next ≡ o.number + 1 → w.directories.next ≡ t.handles.directories.next → Step (Creates o ∷ []) t (record t { records = t.records + 1; names = n; handles = w })
+  created_step t n w o tied number rise standing handles rows added others next_object next_directory =
+      let c = content_in t in
+      let then = apply_seen (Creates o) c in
+      let new = record t { records = t.records + 1; names = n; handles = w } in
+      let same : standing_of n ≡ names_in then = standing ∙ sym (named.created o c) in
+      let meets : Meets new then = record {
+        default_limit = refl;
+        records = refl;
+        standing = same;
+        handles = handles;
+        next_handle = ap (λ r. r.next) rows;
+        connected = tied.connected ∙ sym (told.kept c (Creates o ∷ []) refl);
+        rise = tied.rise;
+      } in
+      record {
+        moved = meets_content found new then meets;
+        tied = record {
+          connected = meets.connected ∙ ap connections_of (sym (meets_content found new then meets));
+          rise = subst ConnectionsRise (sym (meets_content found new then meets)) tied.rise;
+          objects = subst (λ s. AllByRecursion (IsOpenable w) s.objects) (sym same)
+            (all_push (IsOpenable w) c.objects (record { object = o; attributes = [] })
+              (other_objects c.next_object t.handles w (λ m apart. others (FoundObject m) (λ is. let here : m ≡ o.number = cc in apart (here ∙ number))) c.objects (not_above_objects c.next_object 0 c.objects rise) tied.objects) added);
+          directories = subst (λ s. AllByRecursion (IsOpenableDirectory w) s.directories) (sym same)
+            (directories_stay t.handles w (λ d. others (FoundDirectory d) (λ bad. let no = bad in cc)) c.directories tied.directories);
+          next_object = next_object ∙ ap (λ m. m + 1) number ∙ sym (ap (λ s. s.next_object) same);
+          next_directory = next_directory ∙ tied.next_directory ∙ sym (ap (λ s. s.next_directory) same);
+        };
+      }

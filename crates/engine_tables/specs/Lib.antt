@@ -4,3 +4,4 @@ pub mod Tied
 pub mod Lines
 pub mod Following
 pub mod Beginning
+pub mod Objects

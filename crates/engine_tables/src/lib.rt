@@ -3,6 +3,7 @@
 
 mod beginning;
 mod coming;
+mod creating;
 mod directories;
 mod following;
 mod room;

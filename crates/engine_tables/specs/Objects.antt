@@ -1,0 +1,33 @@
+-- Objects that are created.
+use Rattle.std.specs.Prelude.{◌≡◌, ◌+◌, ◌<◌, ◌^◌, ℕ, Ok, [], ◌∷◌, is_some, map}
+use Rattle.pps_types.specs.declared.found.Found.TheVariants.{Directory as FoundDirectory}
+use Rattle.pps_types.specs.Names.{find_at, parent, last_name}
+use Rattle.pps_types.specs.Content.{Object, Known, at}
+use Rattle.pps_types.specs.WellFormed.{AreRising}
+use Rattle.pps_types.specs.Plan.{creation}
+use Rattle.engine_names.specs.Standing.{standing_of, content_of, IsReadyToCreate}
+use Rattle.open_handles.specs.Whole.{HasRoom, IsShared}
+use Rattle.engine_tables.specs.declared.creating.NewObject.{NewObject}
+use Rattle.engine_tables.specs.Tables.{Tabled, content_in}
+
+-- the object that is created
+abbrev pub object_of : NewObject → ℕ → Object
+object_of o number = record { number = number; directory = o.directory; name = last_name o.path.items; nopersist = o.nopersist; server = o.server }
+
+abbrev pub new_object : NewObject → Tabled → Object
+new_object o t = object_of o (content_in t).next_object
+
+-- It can be created: its path is ready and leads through its directory; it has a place, with its number, its name and its server; and
+-- there is room for its record, which has shares enough.
+pub record CanCreate (o : NewObject) (t : Tabled) : Type 0 where
+  pub order : AreRising 0 (map (λ (o : Known). o.object.number) (content_in t).objects) (content_in t).next_object
+  pub ready : IsReadyToCreate t.names o.path.items
+  pub above : find_at (at (content_of (standing_of t.names))) (parent o.path.items) ≡ Ok (FoundDirectory o.directory)
+  pub last : (content_in t).next_object + 1 < 2 ^ 64
+  pub place : 0 < t.handles.objects.room
+  pub number : o.site.object ≡ (content_in t).next_object
+  pub site : o.site.site ≡ record { name = last_name o.path.items; service = is_some o.server }
+  pub record_is : o.creation.entry ≡ creation (new_object o t)
+  pub room : HasRoom (o.creation.entry ∷ []) t.handles
+  pub shared : IsShared o.creation.count o.creation.entry t.handles
+  pub records : t.records + 1 < 2 ^ 64
