@@ -71,15 +71,15 @@ module _ (m : Map) (es : List (Entry Placed)) (k : ℕ) (ds : List (Entry Direct
   pub free_path : (path : Path) → new_refusal (get m) path ≡ None → IsFree old path
   free_path path h = free-place old old_tree path (free_of (place (at old) path) (ap (λ f. new_refusal f path) (λ i p. sym (named.names p) i) ∙ h))
 
-  module _ (path : Path) (o : Object) (held : Held) (free : add_refusal m path ≡ None) (above : parent_number old path ≡ Some o.directory) (name : o.name ≡ last_name path) (number : o.number ≡ k) (bare : held.attributes ≡ []) where
+  pub added_path : (path : Path) → add_refusal m path ≡ None → IsFree old path
+  added_path path h = free_path path (first_none _ _ h)
+
+  module _ (path : Path) (o : Object) (held : Held) (at_free : IsFree old path) (above : parent_number old path ≡ Some o.directory) (name : o.name ≡ last_name path) (number : o.number ≡ k) (bare : held.attributes ≡ []) where
     abbrev newcomer : Placed
     newcomer = record { object = o; path = path; held = held }
 
     abbrev entry : Entry Placed
     entry = record { number = k; value = newcomer }
-
-    abbrev at_free : IsFree old path
-    at_free = free_path path (first_none _ _ free)
 
     abbrev is_placed : IsPlaced old o
     is_placed = record { path = path; at_free = at_free; number = above; name = name }
@@ -93,7 +93,7 @@ module _ (m : Map) (es : List (Entry Placed)) (k : ℕ) (ds : List (Entry Direct
     abbrev standing_with : List Known → Standing
     standing_with objects = record { objects = objects; next_object = k + 1; directories = map (λ (e : Entry Directory). e.value) ds; next_directory = j }
 
-    objects_are : knowns es ++ record { object = o; attributes = [] } ∷ [] ≡ knowns (es ++ entry ∷ [])
+    pub objects_are : knowns es ++ record { object = o; attributes = [] } ∷ [] ≡ knowns (es ++ entry ∷ [])
     objects_are = ap (λ attributes. knowns es ++ record { object = o; attributes = attributes } ∷ []) (sym bare) ∙ sym (map_push (λ (e : Entry Placed). known_of e.value) es entry)
 
     numbers_are : map (λ (x : Known). x.object.number) (knowns es) ++ k ∷ [] ≡ map (λ (x : Known). x.object.number) (knowns (es ++ entry ∷ []))

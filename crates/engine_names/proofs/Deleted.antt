@@ -150,7 +150,7 @@ module _ (c : Content) (r : Order c) (t : Tree c) (n : ℕ) (x : Known) (own : x
                   let yes : eqb n y.object.number ≡ true = eq-eqb n y.object.number (sym own ∙ ap (λ (x : Known). x.object.number) same_known) in
                   absurd (let no = sym yes ∙ e in cc)
 
-  gone_at : (p : Path) → object_at c p ≡ Some x → object_at gone p ≡ None
+  pub gone_at : (p : Path) → object_at c p ≡ Some x → object_at gone p ≡ None
   gone_at [] e = refl
   gone_at (m ∷ ms) e =
       let f = object-found c (m ∷ ms) x e in
@@ -265,10 +265,10 @@ module _ (m : Map) (es : List (Entry Placed)) (k : ℕ) (ds : List (Entry Direct
   are_left = gone_knowns n es 0 k named.objects_told named.order.objects_rise
 
   module _ (x : Placed) (found : value_under n es ≡ Some x) where
-    own_number : x.object.number ≡ n
+    pub own_number : x.object.number ≡ n
     own_number = eqb-true x.object.number n (find-true (λ (x : Placed). eqb x.object.number n) (map (λ (e : Entry Placed). e.value) es) x (sym (find_told (λ (x : Placed). x.object.number) n es named.objects_told) ∙ found))
 
-    own_path : HasPath old x
+    pub own_path : HasPath old x
     own_path = value_holds n (HasPath old) es x named.paths found
 
     own_name : object_in old x.object.name x.object.directory ≡ Some (known_of x)

@@ -7,6 +7,7 @@ pub mod Made
 pub mod Happened
 pub mod Changed
 pub mod Deleted
+pub mod Replaced
 pub mod Sorting
 pub mod Listed
 pub mod Removed

@@ -1,5 +1,5 @@
 //! What names lead to.
-ghost use Rattle.std.specs.Prelude.{◌≡◌};
+ghost use Rattle.std.specs.Prelude.{◌≡◌, [], None};
 ghost use Rattle.pps_types.specs.Names.{last_name};
 
 use object_state::Object;
@@ -31,6 +31,38 @@ impl Model for NamedObject {
 }
 
 impl NamedObject {
+    /// Another object in the place of this one, without attributes.
+    pub(crate) fn followed_by(
+        self,
+        number: ObjId,
+        nopersist: bool,
+        server: Option<Handle>,
+    ) -> NamedObject
+        ensures object { result.object ≡ record {
+          number = number;
+          directory = self.object.directory;
+          name = self.object.name;
+          nopersist = nopersist;
+          server = server;
+        } }
+        ensures path { result.path ≡ self.path }
+        ensures attributes { result.held.attributes ≡ [] }
+        ensures ready { result.held.ready ≡ None }
+    {
+        let NamedObject {
+            path, directory, ..
+        } = self;
+        let attributes = Object::new(*path.allocator());
+        NamedObject {
+            number,
+            path,
+            directory,
+            nopersist,
+            server,
+            attributes,
+        }
+    }
+
     /// The number of the object.
     pub fn number(&self) -> ObjId
         ensures { result ≡ self.now.object.number }

@@ -264,6 +264,47 @@ impl Names {
         };
     }
 
+    /// Takes the memory for an object that comes to another's place, and changes nothing else.
+    ///
+    /// AllocError comes only where there was no room for one more object.
+    pub fn replace_ready(&mut self) -> Result<(), AllocError>
+        ensures ok { OnOk result (0 < self.new.objects.room) }
+        ensures err { OnErr result (self.old.objects.room ≡ 0) }
+        ensures standing { standing_of self.new ≡ standing_of self.old }
+        ensures objects { self.new.objects.entries ≡ self.old.objects.entries }
+        ensures directories { self.new.directories ≡ self.old.directories }
+        ensures tree { self.new.tree ≡ self.old.tree }
+    {
+        self.objects.reserve(1)
+    }
+
+    /// Deletes an alive object, creates another without attributes at its path, and gives the number of that. A server object
+    /// is owned by its server's handle. It takes no memory.
+    pub fn replace(&mut self, object: ObjId, nopersist: bool, server: Option<Handle>) -> ObjId
+        requires alive { IsSome (placed_at object self.old) }
+        requires room { 0 < self.old.objects.room }
+        requires last { self.old.objects.next + 1 < 2 ^ 64 }
+        ensures number { result ≡ self.old.objects.next }
+        ensures standing { IfSome (placed_at object self.old) (λ gone. standing_of self.new ≡ after (Creates (record {
+          number = self.old.objects.next;
+          directory = gone.object.directory;
+          name = gone.object.name;
+          nopersist = nopersist;
+          server = server;
+        })) (happened object Deleted (standing_of self.old))) }
+    {
+        let number = ObjId::new(self.objects.next());
+        let Some(gone) = self.objects.remove(object.number()) else {
+            unreachable!();
+        };
+        let Ok(()) = self.tree.replace(&gone.path, number) else {
+            unreachable!();
+        };
+        let newcomer = gone.followed_by(number, nopersist, server);
+        self.objects.push_reserved(number.number(), newcomer);
+        number
+    }
+
     /// Whether nothing stands in a directory, and it is not the root: so also where there is no such directory. It takes no
     /// memory.
     pub fn is_bare(&self, directory: DirId) -> bool

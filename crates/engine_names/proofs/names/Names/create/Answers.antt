@@ -1,7 +1,7 @@
 use Rattle.pps_types.specs.Names.{last_name}
 use Rattle.std.proofs.Common.{refl}
 use Rattle.engine_names.specs.Standing.{content_of, standing_by}
-use Rattle.engine_names.proofs.Created.{created_named, above_found}
+use Rattle.engine_names.proofs.Created.{created_named, added_path, above_found}
 use Rattle.engine_names.proofs.names.Names.create.Goals as goal
 
 pub invariant_of-self : goal.invariant_of-self
@@ -11,4 +11,4 @@ invariant_of-self c =
     c.args.path.items
     (record { number = c.self.inside.objects.next; directory = c.args.directory; name = last_name c.args.path.items; nopersist = c.args.nopersist; server = c.args.server })
     c.new-attributes.result
-    (rw (← c.self.view_is) at c.requires.ready.tree.free) (above_found (content_of (standing_by c.self.inside.objects.entries c.self.inside.objects.next c.self.inside.directories.entries c.self.inside.directories.next)) c.args.path.items c.args.directory (rw (← c.self.view_is) at c.requires.above)) refl refl c.new-attributes.ensures.attributes)
+    (added_path c.self.inside.tree.map c.self.inside.objects.entries c.self.inside.objects.next c.self.inside.directories.entries c.self.inside.directories.next c.self.invariant c.args.path.items (rw (← c.self.view_is) at c.requires.ready.tree.free)) (above_found (content_of (standing_by c.self.inside.objects.entries c.self.inside.objects.next c.self.inside.directories.entries c.self.inside.directories.next)) c.args.path.items c.args.directory (rw (← c.self.view_is) at c.requires.above)) refl refl c.new-attributes.ensures.attributes)
