@@ -109,7 +109,7 @@ others_openable : (n : ℕ) (old new : Whole) → ((d : ℕ) → (d ≡ n → �
 others_openable n old new sites [] apart all = tt
 others_openable n old new sites (d ∷ ds) apart all = (sites d.number apart.0 ∙ all.0, others_openable n old new sites ds apart.1 all.1)
 
-all_push : {X : Type 0} (P : X → Type 0) (xs : List X) (y : X) → AllByRecursion P xs → P y → AllByRecursion P (xs ++ y ∷ [])
+pub all_push : {X : Type 0} (P : X → Type 0) (xs : List X) (y : X) → AllByRecursion P xs → P y → AllByRecursion P (xs ++ y ∷ [])
 all_push P [] y all p = (p, tt)
 all_push P (x ∷ xs) y all p = (all.0, all_push P xs y all.1 p)
 
@@ -204,7 +204,7 @@ module _ (found : ConnectionsAreFound) (told : ConnectionsAreTold) (named : Move
 
 -- ---- objects
 
-not_above_objects : (n : ℕ) (low : ℕ) (os : List Known) → AreRising low (map (λ (o : Known). o.object.number) os) n → AllByRecursion (λ (o : Known). o.object.number ≡ n → ⊥) os
+pub not_above_objects : (n : ℕ) (low : ℕ) (os : List Known) → AreRising low (map (λ (o : Known). o.object.number) os) n → AllByRecursion (λ (o : Known). o.object.number ≡ n → ⊥) os
 not_above_objects n low [] r = tt
 not_above_objects n low (o ∷ os) r = (λ same. omega (arith, same, rising-ends (o.object.number + 1) n (map (λ (o : Known). o.object.number) os) r.1), not_above_objects n (o.object.number + 1) os r.1)
 
@@ -213,7 +213,7 @@ other_objects : (n : ℕ) (old new : Whole) → ((o : ℕ) → (o ≡ n → ⊥)
 other_objects n old new sites [] apart all = tt
 other_objects n old new sites (o ∷ os) apart all = (sites o.object.number apart.0 ∙ all.0, other_objects n old new sites os apart.1 all.1)
 
-directories_stay : (old new : Whole) → ((d : ℕ) → site_at (FoundDirectory d) new ≡ site_at (FoundDirectory d) old) → (ds : List Directory) → AllByRecursion (IsOpenableDirectory old) ds → AllByRecursion (IsOpenableDirectory new) ds
+pub directories_stay : (old new : Whole) → ((d : ℕ) → site_at (FoundDirectory d) new ≡ site_at (FoundDirectory d) old) → (ds : List Directory) → AllByRecursion (IsOpenableDirectory old) ds → AllByRecursion (IsOpenableDirectory new) ds
 directories_stay old new sites [] all = tt
 directories_stay old new sites (d ∷ ds) all = (sites d.number ∙ all.0, directories_stay old new sites ds all.1)
 

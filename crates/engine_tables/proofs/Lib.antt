@@ -5,3 +5,4 @@ pub mod Comes
 pub mod Rooms
 pub mod Begins
 pub mod Ready
+pub mod Replaces

@@ -83,7 +83,7 @@ still_same o (FromClient id lines) p e = let is : o ≡ p = cc in ap (λ x. x.ob
 still_same o (ToClient id lines) p e = let is : o ≡ p = cc in ap (λ x. x.object) (sym is)
 still_same o (ToAll lines) p e = let is : o ≡ p = cc in ap (λ x. x.object) (sym is)
 
-touched_same : (e : Entry) (o p : Known) → touched e o ≡ Some p → p.object ≡ o.object
+pub touched_same : (e : Entry) (o p : Known) → touched e o ≡ Some p → p.object ≡ o.object
 touched_same e o p is = by (e.record_of.object == o.object.number) is
   where
     by : (b : Bool) → cond b (still_known o e.record_of.kind) (Some o) ≡ Some p → p.object ≡ o.object
