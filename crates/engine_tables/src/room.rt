@@ -8,12 +8,13 @@ ghost use Rattle.pps_types.specs.Outbox.{arm_refusal, park_refusal};
 ghost use Rattle.pps_types.specs.declared.refusal.Refusal.TheVariants.{OutOfMemory};
 ghost use Rattle.connection_laws.specs.Connections.{AreOwned};
 ghost use Rattle.engine_names.specs.Standing.{IsReadyToCreate, IsReadyToMake, placed_at};
-ghost use Rattle.open_handles.specs.Whole.{HasRoom, room_at, site_at};
+ghost use Rattle.open_handles.specs.Whole.{HasRoom, KeepsSites, handles_in, room_at, site_at};
 ghost use Rattle.engine_connections.specs.Standing.{CanArm, CanPark, HasHandleRoom};
 ghost use Rattle.engine_tables.specs.Tables.{content_in};
 
 use crate::tables::Tables;
 use connection_laws::connections_are_found;
+use open_handles::Handles;
 use pps_types::{Bytes, Conn, Found, Handle, Line, ObjId, Refusal};
 use server_queue::Entry;
 use std::alloc::AllocError;
@@ -107,4 +108,61 @@ impl Tables {
         connections_are_found();
         self.names.change_ready(object, lines)
     }
+
+    /// Takes the memory for a new object at a path, and for a handle on it.
+    ///
+    /// It is refused as a new object in a tree of names is, and else OutOfMemory is the only error.
+    pub fn create_ready(&mut self, path: &[Bytes]) -> Result<(), Refusal>
+        ensures content { content_in self.new ≡ content_in self.old }
+        ensures connections { self.new.connections ≡ self.old.connections }
+        ensures refusal { refusal_of result ≢ Some OutOfMemory → refusal_of result ≡ add_refusal self.old.names.tree.map path.now }
+        ensures ready { OnOk result (IsReadyToCreate self.new.names path.now) }
+        ensures place { OnOk result (0 < self.new.handles.objects.room) }
+        ensures room { OnOk result (0 < self.new.handles.rows.room) }
+    {
+        connections_are_found();
+        self.names.create_ready(path)?;
+        Ok(object_ready(&mut self.handles)?)
+    }
+
+    /// Takes the memory for an object that takes another's place, and for a handle on it. OutOfMemory is the only error.
+    pub fn replace_ready(&mut self) -> Result<(), Refusal>
+        ensures content { content_in self.new ≡ content_in self.old }
+        ensures connections { self.new.connections ≡ self.old.connections }
+        ensures objects { OnOk result (0 < self.new.names.objects.room) }
+        ensures place { OnOk result (0 < self.new.handles.objects.room) }
+        ensures room { OnOk result (0 < self.new.handles.rows.room) }
+        ensures err { IfErr result (λ r. r ≡ OutOfMemory) }
+    {
+        connections_are_found();
+        self.names.replace_ready()?;
+        Ok(object_ready(&mut self.handles)?)
+    }
+
+    /// Takes the memory for a new directory at a path.
+    ///
+    /// It is refused as a new directory in a tree of names is, and else OutOfMemory is the only error.
+    pub fn make_directory_ready(&mut self, path: &[Bytes]) -> Result<(), Refusal>
+        ensures content { content_in self.new ≡ content_in self.old }
+        ensures connections { self.new.connections ≡ self.old.connections }
+        ensures refusal { refusal_of result ≢ Some OutOfMemory → refusal_of result ≡ mkdir_refusal self.old.names.tree.map path.now }
+        ensures ready { OnOk result (IsReadyToMake self.new.names path.now) }
+        ensures place { OnOk result (0 < self.new.handles.directories.room) }
+    {
+        connections_are_found();
+        self.names.make_directory_ready(path)?;
+        Ok(self.handles.reserve_directory()?)
+    }
+}
+
+// Room for one more object, and for one more handle among all.
+fn object_ready(handles: &mut Handles) -> Result<(), AllocError>
+    ensures handles { handles_in handles.new ≡ handles_in handles.old }
+    ensures sites { KeepsSites handles.old handles.new }
+    ensures next { handles.new.rows.next ≡ handles.old.rows.next }
+    ensures place { OnOk result (0 < handles.new.objects.room) }
+    ensures room { OnOk result (0 < handles.new.rows.room) }
+{
+    handles.reserve_object()?;
+    handles.reserve_row()
 }

@@ -38,6 +38,24 @@ impl Model for Tables {
 }
 
 impl Tables {
+    /// What stands of a new service: the root alone. The first handle gets that number.
+    ///
+    pub fn new(alloc: Global, first_handle: u32, default_limit: u32) -> Result<Tables, AllocError>
+        ensures { IfOk result (λ tables. content_in tables ≡ machines.shown (machines.start first_handle default_limit)) }
+    {
+        let names = Names::new(alloc)?;
+        let mut handles = Handles::new(alloc, u64::from(first_handle));
+        handles.reserve_directory()?;
+        handles.add_directory(alloc, DirId::new(0));
+        Ok(Tables {
+            default_limit,
+            records: 0,
+            names,
+            handles,
+            connections: Connections::new(alloc),
+        })
+    }
+
     /// The limit of handles that name none.
     pub fn default_limit(&self) -> u32
         ensures { result ≡ self.now.default_limit }
