@@ -18,7 +18,7 @@ use pps_types::{Conn, Found};
 
 impl Tables {
     /// A handle opens on an object or a directory, for which there is room.
-    pub(crate) fn open(&mut self, found: Found, opening: Opening)
+    pub fn open(&mut self, found: Found, opening: Opening)
         requires number { opening.number ≡ (content_in self.old).next_handle }
         requires room { 0 < self.old.handles.rows.room }
         requires place { 0 < room_at found self.old.handles }
@@ -37,7 +37,7 @@ impl Tables {
     }
 
     /// A connection attaches, with an outbox that is empty.
-    pub(crate) fn attach(&mut self, conn: Conn, outbox: Outbox)
+    pub fn attach(&mut self, conn: Conn, outbox: Outbox)
         requires low { 1 ≤ conn }
         requires high { conn < 1025 }
         requires absent { content.is_attached (content_in self.old) conn ≡ false }
@@ -53,7 +53,7 @@ impl Tables {
     }
 
     /// A connection leaves, and what it has to come goes with it.
-    pub(crate) fn leave(&mut self, conn: Conn)
+    pub fn leave(&mut self, conn: Conn)
         ensures { Moves (planning.Leaves conn ∷ []) self.old self.new }
     {
         connections_are_found();

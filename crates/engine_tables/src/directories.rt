@@ -15,7 +15,7 @@ use pps_types::{Bytes, DirId};
 
 impl Tables {
     /// A directory is made at a path that was made ready, for which there is a place.
-    pub(crate) fn make_directory(&mut self, path: Vec<Bytes>)
+    pub fn make_directory(&mut self, path: Vec<Bytes>)
         requires order { AreRising 0 (map (λ (d : content.Directory). d.number) (content_in self.old).directories) (content_in self.old).next_directory }
         requires ready { IsReadyToMake self.old.names path.items }
         requires place { 0 < self.old.handles.directories.room }
@@ -31,7 +31,7 @@ impl Tables {
     }
 
     /// A directory in which nothing stands is removed.
-    pub(crate) fn remove_directory(&mut self, directory: DirId)
+    pub fn remove_directory(&mut self, directory: DirId)
         requires order { AreRising 0 (map (λ (d : content.Directory). d.number) (content_in self.old).directories) (content_in self.old).next_directory }
         requires bare { IfSome (directory_numbered (content_in self.old) directory) (IsBare (content_in self.old)) }
         ensures { Moves (planning.RemovesDirectory directory ∷ []) self.old self.new }

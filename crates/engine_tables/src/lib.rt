@@ -11,4 +11,6 @@ mod tables;
 mod telling;
 mod waiting;
 
+pub use beginning::Beginning;
+pub use creating::{NewObject, Replacement};
 pub use tables::Tables;

@@ -7,10 +7,11 @@ ghost use Rattle.pps_types.specs.Content as content;
 ghost use Rattle.pps_types.specs.Outbox.{arm_refusal, park_refusal};
 ghost use Rattle.pps_types.specs.declared.refusal.Refusal.TheVariants.{OutOfMemory};
 ghost use Rattle.connection_laws.specs.Connections.{AreOwned};
-ghost use Rattle.engine_names.specs.Standing.{IsReadyToCreate, IsReadyToMake, placed_at};
-ghost use Rattle.open_handles.specs.Whole.{HasRoom, KeepsSites, handles_in, room_at, site_at};
+ghost use Rattle.engine_names.specs.Standing.{AreSame, IsReadyToCreate, IsReadyToMake, placed_at};
+ghost use Rattle.open_handles.specs.Whole.{HasRoom, KeepsSites, KeepsTable, KeepsPlaces, KeepsRecords, handles_in, room_at, site_at};
 ghost use Rattle.engine_connections.specs.Standing.{CanArm, CanPark, HasHandleRoom};
 ghost use Rattle.engine_tables.specs.Tables.{content_in};
+ghost use Rattle.engine_tables.specs.Tied.{KeepsHandleRoom};
 
 use crate::tables::Tables;
 use connection_laws::connections_are_found;
@@ -73,6 +74,8 @@ impl Tables {
         ensures room { OnOk result (is_some (site_at found self.old.handles) ≡ true → 0 < self.new.handles.rows.room) }
         ensures place { OnOk result (is_some (site_at found self.old.handles) ≡ true → 0 < room_at found self.new.handles) }
         ensures connection { OnOk result (HasHandleRoom conn 1 self.new.connections) }
+        ensures kept { KeepsHandleRoom self.old self.new }
+        ensures records { KeepsRecords self.old.handles self.new.handles }
         ensures err { IfErr result (λ r. r ≡ OutOfMemory) }
     {
         connections_are_found();
@@ -86,6 +89,8 @@ impl Tables {
         ensures names { self.new.names ≡ self.old.names }
         ensures connections { self.new.connections ≡ self.old.connections }
         ensures room { OnOk result (HasRoom entries.now self.new.handles) }
+        ensures kept { KeepsHandleRoom self.old self.new }
+        ensures records { KeepsRecords self.old.handles self.new.handles }
         ensures err { IfErr result (λ r. r ≡ OutOfMemory) }
     {
         connections_are_found();
@@ -104,6 +109,7 @@ impl Tables {
         ensures refusal { IfSome (placed_at object self.old.names) (λ x. refusal_of result ≢ Some OutOfMemory
             → refusal_of result ≡ first_refusal (limit_checks (fold apply_line x.held.attributes lines.now))) }
         ensures ok { OnOk result (IfSome (placed_at object self.new.names) (λ x. x.held.ready ≡ Some lines.now)) }
+        ensures kept { AreSame self.old.names self.new.names }
     {
         connections_are_found();
         self.names.change_ready(object, lines)
@@ -119,6 +125,8 @@ impl Tables {
         ensures ready { OnOk result (IsReadyToCreate self.new.names path.now) }
         ensures place { OnOk result (0 < self.new.handles.objects.room) }
         ensures room { OnOk result (0 < self.new.handles.rows.room) }
+        ensures kept { KeepsHandleRoom self.old self.new }
+        ensures records { KeepsRecords self.old.handles self.new.handles }
     {
         connections_are_found();
         self.names.create_ready(path)?;
@@ -128,10 +136,13 @@ impl Tables {
     /// Takes the memory for an object that takes another's place, and for a handle on it. OutOfMemory is the only error.
     pub fn replace_ready(&mut self) -> Result<(), Refusal>
         ensures content { content_in self.new ≡ content_in self.old }
+        ensures tree { self.new.names.tree ≡ self.old.names.tree }
         ensures connections { self.new.connections ≡ self.old.connections }
         ensures objects { OnOk result (0 < self.new.names.objects.room) }
         ensures place { OnOk result (0 < self.new.handles.objects.room) }
         ensures room { OnOk result (0 < self.new.handles.rows.room) }
+        ensures kept { KeepsHandleRoom self.old self.new }
+        ensures records { KeepsRecords self.old.handles self.new.handles }
         ensures err { IfErr result (λ r. r ≡ OutOfMemory) }
     {
         connections_are_found();
@@ -148,6 +159,8 @@ impl Tables {
         ensures refusal { refusal_of result ≢ Some OutOfMemory → refusal_of result ≡ mkdir_refusal self.old.names.tree.map path.now }
         ensures ready { OnOk result (IsReadyToMake self.new.names path.now) }
         ensures place { OnOk result (0 < self.new.handles.directories.room) }
+        ensures kept { KeepsHandleRoom self.old self.new }
+        ensures records { KeepsRecords self.old.handles self.new.handles }
     {
         connections_are_found();
         self.names.make_directory_ready(path)?;
@@ -159,7 +172,9 @@ impl Tables {
 fn object_ready(handles: &mut Handles) -> Result<(), AllocError>
     ensures handles { handles_in handles.new ≡ handles_in handles.old }
     ensures sites { KeepsSites handles.old handles.new }
-    ensures next { handles.new.rows.next ≡ handles.old.rows.next }
+    ensures rows { KeepsTable handles.old.rows handles.new.rows }
+    ensures places { KeepsPlaces handles.old handles.new }
+    ensures records { KeepsRecords handles.old handles.new }
     ensures place { OnOk result (0 < handles.new.objects.room) }
     ensures room { OnOk result (0 < handles.new.rows.room) }
 {

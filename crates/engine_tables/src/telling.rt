@@ -57,7 +57,7 @@ fn drop_deleted(handles: &mut Handles, object: ObjId, is_deleted: bool)
 
 impl Tables {
     /// A record happens, for which there is room, to an object that is alive. All handles that see it are told.
-    pub(crate) fn happen(&mut self, told: Told)
+    pub fn happen(&mut self, told: Told)
         requires lines { HasLines told.entry self.old.names }
         requires room { HasRoom (told.entry ∷ []) self.old.handles }
         requires enough { IsShared told.count told.entry self.old.handles }

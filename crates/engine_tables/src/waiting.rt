@@ -18,7 +18,7 @@ use pps_types::{Conn, Handle, Refusal, SharedBytes};
 
 impl Tables {
     /// A handle has read everything.
-    pub(crate) fn catch_up(&mut self, handle: Handle)
+    pub fn catch_up(&mut self, handle: Handle)
         ensures { Moves (planning.CatchesUp handle ∷ []) self.old self.new }
     {
         connections_are_found();
@@ -27,7 +27,7 @@ impl Tables {
     }
 
     /// A handle was given so many of the records that it is owed.
-    pub(crate) fn pass(&mut self, handle: Handle, count: usize)
+    pub fn pass(&mut self, handle: Handle, count: usize)
         ensures { Moves (planning.Passes handle count ∷ []) self.old self.new }
     {
         connections_are_found();
@@ -36,7 +36,7 @@ impl Tables {
     }
 
     /// A read of that size waits on a handle of the connection, on which none waits.
-    pub(crate) fn park(&mut self, conn: Conn, handle: Handle, size: u32)
+    pub fn park(&mut self, conn: Conn, handle: Handle, size: u32)
         requires own { option_map (λ (h : reading.Open rests.Seen). h.parked) (content.own_handle (content_in self.old) conn handle) ≡ Some None }
         requires room { CanPark conn handle self.old.connections }
         ensures { Moves (planning.Parks handle (Some size) ∷ []) self.old self.new }
@@ -50,7 +50,7 @@ impl Tables {
     }
 
     /// A pulse is armed on a handle of the connection, in place of the one that is armed on it.
-    pub(crate) fn arm(&mut self, conn: Conn, handle: Handle, pulse: Pulse)
+    pub fn arm(&mut self, conn: Conn, handle: Handle, pulse: Pulse)
         requires own { IsSome (content.own_handle (content_in self.old) conn handle) }
         requires room { CanArm conn handle self.old.connections }
         ensures { Moves (planning.Arms handle (Some (pulse.code, pulse.value)) ∷ []) self.old self.new }
@@ -64,7 +64,7 @@ impl Tables {
     }
 
     /// No pulse is armed on a handle of the connection any more.
-    pub(crate) fn disarm(&mut self, conn: Conn, handle: Handle)
+    pub fn disarm(&mut self, conn: Conn, handle: Handle)
         requires { IsSome (content.own_handle (content_in self.old) conn handle) }
         ensures { Moves (planning.Arms handle None ∷ []) self.old self.new }
     {
@@ -77,7 +77,7 @@ impl Tables {
     }
 
     /// The pulse that is armed on a handle of the connection is queued, and is armed no more.
-    pub(crate) fn fire(&mut self, conn: Conn, handle: Handle, pulse: Pulse)
+    pub fn fire(&mut self, conn: Conn, handle: Handle, pulse: Pulse)
         requires { option_map (λ (h : reading.Open rests.Seen). h.armed) (content.own_handle (content_in self.old) conn handle) ≡ Some (Some (pulse.code, pulse.value)) }
         ensures { Moves (firing conn handle (pulse.code, pulse.value)) self.old self.new }
     {
@@ -90,7 +90,7 @@ impl Tables {
     }
 
     /// The read that waits on a handle of the connection has its reply, which is queued.
-    pub(crate) fn finish(&mut self, conn: Conn, handle: Handle, reply: Result<SharedBytes, Refusal>)
+    pub fn finish(&mut self, conn: Conn, handle: Handle, reply: Result<SharedBytes, Refusal>)
         requires { option_map (λ (h : reading.Open rests.Seen). is_some h.parked) (content.own_handle (content_in self.old) conn handle) ≡ Some true }
         ensures { Moves (finishing conn handle reply) self.old self.new }
     {
@@ -103,7 +103,7 @@ impl Tables {
     }
 
     /// A handle of the connection closes. The read that waits on it ends, where one does.
-    pub(crate) fn close(&mut self, conn: Conn, handle: Handle, is_parked: bool)
+    pub fn close(&mut self, conn: Conn, handle: Handle, is_parked: bool)
         requires { option_map (λ (h : reading.Open rests.Seen). is_some h.parked) (content.own_handle (content_in self.old) conn handle) ≡ Some is_parked }
         ensures moves { Moves (closing conn handle is_parked) self.old self.new }
         ensures room { KeepsHandleRoom self.old self.new }
@@ -121,7 +121,7 @@ impl Tables {
     }
 
     /// The first item of a connection is received, if there is one.
-    pub(crate) fn take(&mut self, conn: Conn)
+    pub fn take(&mut self, conn: Conn)
         ensures { Moves (planning.Takes conn ∷ []) self.old self.new }
     {
         connections_are_found();
