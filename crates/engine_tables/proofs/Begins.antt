@@ -91,11 +91,13 @@ first-sum f false e es = let le : 0 ≤ sum_by f es = omega arith in le
 have_first : (e : Entry) (es : List Entry) (hs : List (Open Seen)) (ss : List Spare) → HaveRoom (e ∷ es) hs ss → HaveRoom (e ∷ []) hs ss
 have_first e es [] ss room = tt
 have_first e es (h ∷ hs) [] room = room
-have_first e es (h ∷ hs) (s ∷ ss) room =
-    (record {
-      records = le_trans (first-few (visible h e) e (filter (visible h) es)) room.0.records;
-      messages = le_trans (first-sum (λ e. client_messages e.record_of.kind) (visible h e) e (filter (visible h) es)) room.0.messages;
-    }, have_first e es hs ss room.1)
+have_first e es (h ∷ hs) (s ∷ ss) room = (
+  record {
+    records = le_trans (first-few (visible h e) e (filter (visible h) es)) room.0.records;
+    messages = le_trans (first-sum (λ e. client_messages e.record_of.kind) (visible h e) e (filter (visible h) es)) room.0.messages;
+  },
+  have_first e es hs ss room.1,
+)
 
 ready_first : (e : Entry) (es : List Entry) (s : Seats) → IsReady (e ∷ es) s → IsReady (e ∷ []) s
 ready_first e es (Readers t) ready = let at : length (e ∷ es) ≤ t.room = ready in omega arith

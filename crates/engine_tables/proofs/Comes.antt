@@ -75,8 +75,8 @@ module _ (found : ConnectionsAreFound) (told : ConnectionsAreTold) (stay : Premi
         handles = refl;
         next_handle = refl;
         connected = standing ∙ ap (λ b. put_rising (λ (x : Standing). x.number) (record { number = conn; outbox = b; handles = [] }) (standing_in t.connections)) empty
-          ∙ ap (λ xs. put_rising (λ (x : Standing). x.number) (record { number = conn; outbox = empty_outbox; handles = [] }) xs) tied.connected
-          ∙ sym (told.attached (content_in t) conn absent none);
+            ∙ ap (λ xs. put_rising (λ (x : Standing). x.number) (record { number = conn; outbox = empty_outbox; handles = [] }) xs) tied.connected
+            ∙ sym (told.attached (content_in t) conn absent none);
         rise = stay.attached (content_in t) conn tied.rise low high absent;
       })
       refl (sites_same t.handles)
@@ -182,8 +182,8 @@ module _ (found : ConnectionsAreFound) (told : ConnectionsAreTold) (named : Move
       named_step (MakesDirectory path) t n w tied refl refl same refl refl (told.kept c (MakesDirectory path ∷ []) refl) tied.rise handles rows
       (subst (λ s. AllByRecursion (IsOpenable w) s.objects) (sym same) (objects_stay t.handles w (λ o. others (FoundObject o) (λ bad. let no = bad in cc)) c.objects tied.objects))
       (subst (λ s. AllByRecursion (IsOpenableDirectory w) s.directories) (sym same)
-        (all_push (IsOpenableDirectory w) c.directories (record { number = c.next_directory; path = path })
-          (others_openable c.next_directory t.handles w (λ d apart. others (FoundDirectory d) (λ is. let same : d ≡ c.next_directory = cc in apart same)) c.directories (not_above c.next_directory 0 c.directories rise) tied.directories) added))
+      (all_push (IsOpenableDirectory w) c.directories (record { number = c.next_directory; path = path })
+      (others_openable c.next_directory t.handles w (λ d apart. others (FoundDirectory d) (λ is. let same : d ≡ c.next_directory = cc in apart same)) c.directories (not_above c.next_directory 0 c.directories rise) tied.directories) added))
       (next_object ∙ tied.next_object ∙ sym (ap (λ s. s.next_object) same))
       (next_directory ∙ sym (ap (λ s. s.next_directory) same))
 
@@ -197,8 +197,8 @@ module _ (found : ConnectionsAreFound) (told : ConnectionsAreTold) (named : Move
       named_step (RemovesDirectory number) t n w tied refl refl same refl refl (told.kept c (RemovesDirectory number ∷ []) refl) tied.rise handles rows
       (subst (λ s. AllByRecursion (IsOpenable w) s.objects) (sym same) (objects_stay t.handles w (λ o. others (FoundObject o) (λ bad. let no = bad in cc)) c.objects tied.objects))
       (subst (λ s. AllByRecursion (IsOpenableDirectory w) s.directories) (sym same)
-        (others_openable number t.handles w (λ d apart. others (FoundDirectory d) (λ is. let same : d ≡ number = cc in apart same)) (without_first (λ d. d.number == number) c.directories)
-          (without_apart number 0 c.next_directory c.directories rise) (all_without (IsOpenableDirectory t.handles) (λ d. d.number == number) c.directories tied.directories)))
+      (others_openable number t.handles w (λ d apart. others (FoundDirectory d) (λ is. let same : d ≡ number = cc in apart same)) (without_first (λ d. d.number == number) c.directories)
+      (without_apart number 0 c.next_directory c.directories rise) (all_without (IsOpenableDirectory t.handles) (λ d. d.number == number) c.directories tied.directories)))
       (next_object ∙ tied.next_object ∙ sym (ap (λ s. s.next_object) same))
       (next_directory ∙ tied.next_directory ∙ sym (ap (λ s. s.next_directory) same))
 
@@ -244,10 +244,10 @@ module _ (found : ConnectionsAreFound) (told : ConnectionsAreTold) (named : Move
           connected = meets.connected ∙ ap connections_of (sym (meets_content found new then meets));
           rise = subst ConnectionsRise (sym (meets_content found new then meets)) tied.rise;
           objects = subst (λ s. AllByRecursion (IsOpenable w) s.objects) (sym same)
-            (all_push (IsOpenable w) c.objects (record { object = o; attributes = [] })
+              (all_push (IsOpenable w) c.objects (record { object = o; attributes = [] })
               (other_objects c.next_object t.handles w (λ m apart. others (FoundObject m) (λ is. let here : m ≡ o.number = cc in apart (here ∙ number))) c.objects (not_above_objects c.next_object 0 c.objects rise) tied.objects) added);
           directories = subst (λ s. AllByRecursion (IsOpenableDirectory w) s.directories) (sym same)
-            (directories_stay t.handles w (λ d. others (FoundDirectory d) (λ bad. let no = bad in cc)) c.directories tied.directories);
+              (directories_stay t.handles w (λ d. others (FoundDirectory d) (λ bad. let no = bad in cc)) c.directories tied.directories);
           next_object = next_object ∙ ap (λ m. m + 1) number ∙ sym (ap (λ s. s.next_object) same);
           next_directory = next_directory ∙ tied.next_directory ∙ sym (ap (λ s. s.next_directory) same);
         };

@@ -70,10 +70,10 @@ closed_ready conn n parked xs old new moved room names sites placed placed_new r
       room = room (entries_in xs) ready.room;
       lines = subst (HaveLines xs) (sym names) ready.lines;
       shared = shared_all old.handles new.handles (λ f. inl (sites.sites f))
-        (λ e f. subst (λ hs. length (filter (λ (h : Open Seen). visible h e) hs) ≤ length (filter (λ (h : Open Seen). visible h e) (handles_at f old.handles))) (sym (placed_new f ∙ ap (filter (is_on f)) handles))
+          (λ e f. subst (λ hs. length (filter (λ (h : Open Seen). visible h e) hs) ≤ length (filter (λ (h : Open Seen). visible h e) (handles_at f old.handles))) (sym (placed_new f ∙ ap (filter (is_on f)) handles))
           (subst (λ hs. length (filter (λ (h : Open Seen). visible h e) (filter (is_on f) (without_number n (handles_in old.handles)))) ≤ length (filter (λ (h : Open Seen). visible h e) hs)) (sym (placed f))
-            (fewer-without (λ (h : Open Seen). visible h e) (is_on f) (λ h. h.number == n) (handles_in old.handles))))
-        xs ready.shared.1;
+          (fewer-without (λ (h : Open Seen). visible h e) (is_on f) (λ h. h.number == n) (handles_in old.handles))))
+          xs ready.shared.1;
       numbers = subst (λ r. r + length (entries_in xs) < 2 ^ 64) (sym records) ready.numbers;
     }
 
@@ -89,10 +89,10 @@ happened_ready told xs old new moved room sites placed placed_new ready =
       room = room (entries_in xs) ready.room;
       lines = plain_lines xs new.names ready.lines.1;
       shared = shared_all old.handles new.handles sites
-        (λ e f. subst (λ n. n ≤ length (filter (λ (h : Open Seen). visible h e) (handles_at f old.handles)))
+          (λ e f. subst (λ n. n ≤ length (filter (λ (h : Open Seen). visible h e) (handles_at f old.handles)))
           (sym (ap (λ hs. length (filter (λ (h : Open Seen). visible h e) hs)) (placed_new f ∙ ap (filter (is_on f)) handles) ∙ same-offered e told.entry f (handles_in old.handles)))
           (subst (λ hs. length (filter (λ (h : Open Seen). visible h e) (filter (is_on f) (handles_in old.handles))) ≤ length (filter (λ (h : Open Seen). visible h e) hs)) (sym (placed f)) (le_refl (length (filter (λ (h : Open Seen). visible h e) (filter (is_on f) (handles_in old.handles)))))))
-        xs ready.shared.1;
+          xs ready.shared.1;
       numbers = omega (arith, records, few);
     }
 

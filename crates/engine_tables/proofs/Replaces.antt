@@ -60,7 +60,7 @@ module _ (found : ConnectionsAreFound) (told : ConnectionsAreTold) (named : Move
           connected = meets.connected ∙ ap connections_of (sym (meets_content found new then meets));
           rise = subst ConnectionsRise (sym (meets_content found new then meets)) tied.rise;
           objects = subst (λ s. AllByRecursion (IsOpenable w) s.objects) (sym same)
-            (all_push (IsOpenable w) (filter_map (touched e) c.objects) (record { object = o; attributes = [] })
+              (all_push (IsOpenable w) (filter_map (touched e) c.objects) (record { object = o; attributes = [] })
               (openable_left e o.number t.handles w stays c.objects (subst (λ m. AllByRecursion (λ (p : Known). p.object.number ≡ m → ⊥) c.objects) (sym number) (not_above_objects c.next_object 0 c.objects rise)) tied.objects) added);
           directories = subst (λ s. AllByRecursion (IsOpenableDirectory w) s.directories) (sym same) (directories_stay t.handles w directories c.directories tied.directories);
           next_object = next_object ∙ ap (λ m. m + 1) number ∙ sym (ap (λ s. s.next_object) same);

@@ -102,5 +102,5 @@ held_parked found c rise conn n h own parked = by (connection_numbered c conn) r
         let same : x.number ≡ conn = eqb-true x.number conn (passes (λ x. x.number == conn) c.connections x e) in
         let there : outbox_at conn (connections_of c) ≡ (standing_of c x).outbox = ap (λ o. option_map_or (λ (s : Standing). s.outbox) o empty_outbox) (found.standing c conn ∙ ap (option_map (standing_of c)) e) in
         let is : is_parked (outbox_at conn (connections_of c)) n ≡ true =
-            ap (λ box. is_parked box n) there ∙ ap (λ s. is_parked s.outbox n) (standing-shown c x) ∙ ap (λ k. is_parked (shown c.handles k []).outbox n) same ∙ here in
+        ap (λ box. is_parked box n) there ∙ ap (λ s. is_parked s.outbox n) (standing-shown c x) ∙ ap (λ k. is_parked (shown c.handles k []).outbox n) same ∙ here in
         λ at. is

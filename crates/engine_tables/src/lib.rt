@@ -14,3 +14,6 @@ mod waiting;
 pub use beginning::Beginning;
 pub use creating::{NewObject, Replacement};
 pub use tables::Tables;
+
+#[cfg(test)]
+mod tests;

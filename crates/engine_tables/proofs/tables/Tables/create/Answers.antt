@@ -35,4 +35,4 @@ invariant_of-self c = (step c).tied
 pub returns-clause-moves : goal.returns-clause-moves
 returns-clause-moves c =
     subst (λ t. content_in (record (the_view c.self.inside) { records = c.self.inside.records + 1; names = c.create-number.new.self; handles = c.add_object.new.self })
-      ≡ planning.apply_all_seen (planning.Creates (new_object c.args.object t) ∷ []) (content_in t)) c.self.view_is (step c).moved
+    ≡ planning.apply_all_seen (planning.Creates (new_object c.args.object t) ∷ []) (content_in t)) c.self.view_is (step c).moved

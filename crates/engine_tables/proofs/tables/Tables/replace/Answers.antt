@@ -28,7 +28,7 @@ step c gone is can =
     let e = r.deletion.entry in
     let o = replacing_object r gone.object (the_view c.self.inside) in
     let standing : standing_of c.replace-number.new.self ≡ after (planning.Creates o) (happened r.object Deleted (standing_of c.self.inside.names)) =
-        subst (λ p. IfSome p (λ (gone : Placed). standing_of c.replace-number.new.self ≡ after (planning.Creates (replacing_object c.args.replacement gone.object (the_view c.self.inside))) (happened c.args.replacement.object Deleted (standing_of c.self.inside.names)))) is c.replace-number.ensures.standing in
+    subst (λ p. IfSome p (λ (gone : Placed). standing_of c.replace-number.new.self ≡ after (planning.Creates (replacing_object c.args.replacement gone.object (the_view c.self.inside))) (happened c.args.replacement.object Deleted (standing_of c.self.inside.names)))) is c.replace-number.ensures.standing in
     replaced_step c.connections_are_found.ensures c.connections_are_told.ensures c.moves_are_told.ensures (the_view c.self.inside) c.replace-number.new.self c.add_object.new.self
     e o (c.self.inside.records + 2) (omega arith) c.self.invariant refl can.order
     (standing ∙ ap (λ n. after (planning.Creates o) (happened n Deleted (standing_of c.self.inside.names))) (sym can.deleted) ∙ ap (λ k. after (planning.Creates o) (happened e.record_of.object k (standing_of c.self.inside.names))) (sym can.deletes))
@@ -36,10 +36,10 @@ step c gone is can =
     (c.add_object.ensures.rows ∙ c.drop_object.ensures.rows ∙ c.tell_both.ensures.rows)
     (ap (λ n. site_at (FoundObject n) c.add_object.new.self) (sym can.number) ∙ c.add_object.ensures.added ∙ ap Some can.site)
     (λ p other alive. ap (option_map site_of) (c.add_object.ensures.others (FoundObject p.object.number) (λ same. other (let is : p.object.number ≡ r.site.object = cc in is ∙ can.number)))
-      ∙ ap (option_map site_of) (c.drop_object.ensures.others (FoundObject p.object.number) (λ same. deleted_gone e p (ap deletes can.deletes) (let is : p.object.number ≡ r.object = cc in is ∙ sym can.deleted) alive))
-      ∙ c.tell_both.ensures.sites.sites (FoundObject p.object.number))
+    ∙ ap (option_map site_of) (c.drop_object.ensures.others (FoundObject p.object.number) (λ same. deleted_gone e p (ap deletes can.deletes) (let is : p.object.number ≡ r.object = cc in is ∙ sym can.deleted) alive))
+    ∙ c.tell_both.ensures.sites.sites (FoundObject p.object.number))
     (λ d. ap (option_map site_of) (c.add_object.ensures.others (FoundDirectory d) (λ same. let bad = same in cc))
-      ∙ ap (option_map site_of) (c.drop_object.ensures.others (FoundDirectory d) (λ same. let bad = same in cc)) ∙ c.tell_both.ensures.sites.sites (FoundDirectory d))
+    ∙ ap (option_map site_of) (c.drop_object.ensures.others (FoundDirectory d) (λ same. let bad = same in cc)) ∙ c.tell_both.ensures.sites.sites (FoundDirectory d))
     (c.add_object.ensures.next ∙ ap (λ n. n + 1) can.number)
     (c.add_object.ensures.directories.next ∙ ap (λ t. t.next) c.drop_object.ensures.directories ∙ c.tell_both.ensures.sites.directories.next)
 
@@ -50,6 +50,6 @@ pub returns-clause-moves : goal.returns-clause-moves
 returns-clause-moves c =
     let g = given c in
     subst (λ t. IfSome (placed_at c.args.replacement.object t.names) (λ gone. Moves (planning.Happens c.args.replacement.deletion.entry ∷ planning.Creates (replacing_object c.args.replacement gone.object t) ∷ []) t
-      (record (the_view c.self.inside) { records = c.self.inside.records + 2; names = c.replace-number.new.self; handles = c.add_object.new.self }))) c.self.view_is
+    (record (the_view c.self.inside) { records = c.self.inside.records + 2; names = c.replace-number.new.self; handles = c.add_object.new.self }))) c.self.view_is
     (if_there (placed_at c.args.replacement.object c.self.inside.names) g.0 (λ gone. Moves (planning.Happens c.args.replacement.deletion.entry ∷ planning.Creates (replacing_object c.args.replacement gone.object (the_view c.self.inside)) ∷ []) (the_view c.self.inside)
-      (record (the_view c.self.inside) { records = c.self.inside.records + 2; names = c.replace-number.new.self; handles = c.add_object.new.self })) g.1.0 (step c g.0 g.1.0 g.1.1).moved)
+    (record (the_view c.self.inside) { records = c.self.inside.records + 2; names = c.replace-number.new.self; handles = c.add_object.new.self })) g.1.0 (step c g.0 g.1.0 g.1.1).moved)
