@@ -50,7 +50,9 @@ impl NamedObject {
         ensures ready { result.held.ready ≡ None }
     {
         let NamedObject {
-            path, directory, ..
+            path,
+            directory,
+            ..
         } = self;
         let attributes = Object::new(*path.allocator());
         NamedObject {
