@@ -285,6 +285,29 @@ impl Seats {
         }
     }
 
+    /// The name of the object, and none of a directory.
+    pub fn name(&self) -> &[u8]
+        ensures { result.now ≡ name_of self.now }
+    {
+        match self {
+            Seats::Readers(target) => target.name(),
+            Seats::Service(service) => service.name(),
+        }
+    }
+
+    /// Whether a handle is here that is owed more records than its limit, so that it is given everything anew.
+    pub fn is_over(&self, number: Handle) -> bool
+        ensures { result ≡ option_map_or (λ (h : reading.Open rests.Seen). rests.is_over h.seen) (handle_at number (handles_of self.now)) false }
+    {
+        match self {
+            Seats::Readers(target) => target.is_over(number),
+            Seats::Service(service) => {
+                service.none_is_over();
+                false
+            }
+        }
+    }
+
     /// How many records a handle is owed: none is told where it is not here, in full mode, before the first read and past
     /// the limit.
     pub fn owed(&self, number: Handle) -> Option<usize>

@@ -6,3 +6,4 @@ pub mod Given
 pub mod Waking
 pub mod Copying
 pub mod Seats
+pub mod Overs

@@ -267,6 +267,20 @@ impl Service {
         }
     }
 
+    /// The name of the object.
+    pub fn name(&self) -> &[u8]
+        ensures { result.now ≡ self.now.name }
+    {
+        self.name.as_slice()
+    }
+
+    /// Does nothing. Its contract is the law that no handle is owed more than a limit: a queue holds all that is owed.
+    pub fn none_is_over(&self)
+        ensures { AllByRecursion (λ (h : reading.Open rests.Seen). rests.is_over h.seen ≡ false) self.now.handles }
+    {
+        let _count = self.holders.len();
+    }
+
     /// Whether a handle is here that a read would give something.
     pub fn has_news(&self, number: Handle) -> bool
         ensures { result ≡ option_map_or content.news (handle_at number self.now.handles) false }

@@ -322,6 +322,13 @@ impl Target {
         }
     }
 
+    /// The name of the object, and none of a directory.
+    pub fn name(&self) -> &[u8]
+        ensures { result.now ≡ self.now.name }
+    {
+        self.name.as_slice()
+    }
+
     /// Whether a handle is here that a read would give something new.
     pub fn has_news(&self, number: Handle) -> bool
         ensures { result ≡ option_map_or content.news (handle_at number self.now.handles) false }

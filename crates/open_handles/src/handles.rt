@@ -370,6 +370,26 @@ impl Handles {
         }
     }
 
+    /// The name of an object that handles can be opened on, also of one that is dead. A directory has none.
+    pub fn name_of(&self, found: Found) -> &[u8]
+        ensures { result.now ≡ name_at found self.now }
+    {
+        match self.places.get(found) {
+            None => &[],
+            Some(seats) => seats.name(),
+        }
+    }
+
+    /// Whether a handle is open that is owed more records than its limit, so that a read gives it everything anew.
+    pub fn is_over(&self, handle: Handle) -> bool
+        ensures { result ≡ option_map_or (λ (h : reading.Open rests.Seen). rests.is_over h.seen) (handle_at handle (handles_in self.now)) false }
+    {
+        match self.place_of(handle) {
+            None => false,
+            Some(seats) => seats.is_over(handle),
+        }
+    }
+
     /// How many records a handle is owed: none is told where it is not open, in full mode, before the first read and past
     /// the limit.
     pub fn owed(&self, handle: Handle) -> Option<usize>

@@ -1,0 +1,4 @@
+pub mod Own
+pub mod Refused
+pub mod Notices
+pub mod Reads

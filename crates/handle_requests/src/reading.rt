@@ -1,0 +1,156 @@
+//! Reads: their checks in their order, what they answer, and what they leave of their handle.
+ghost use Rattle.std.specs.Prelude.{◌≡◌, ◌&&◌, ◌∷◌, [], ℕ, true, false, not, nat_le, None, Some, IfOk, IfErr, OnOk, IfSome, option_map};
+ghost use Rattle.pps_types.specs.declared.event.Request.TheVariants.{Read};
+ghost use Rattle.pps_types.specs.declared.outcome.Outcome.TheVariants.{Data};
+ghost use Rattle.pps_types.specs.declared.refusal.Refusal.TheVariants.{OutOfMemory};
+ghost use Rattle.pps_types.specs.Reading as reading;
+ghost use Rattle.pps_types.specs.Rests as rests;
+ghost use Rattle.pps_types.specs.Content as content;
+ghost use Rattle.pps_types.specs.Checks as checking;
+ghost use Rattle.pps_types.specs.Plan as planning;
+ghost use Rattle.connection_laws.specs.Connections.{AreOwned};
+ghost use Rattle.engine_connections.specs.Standing.{CanPark};
+ghost use Rattle.engine_texts.specs.Answered.{meant, moves_of};
+ghost use Rattle.engine_texts.specs.declared.answer.Effect.TheVariants.{Parks};
+ghost use Rattle.engine_tables.specs.Tables.{content_in};
+ghost use Rattle.handle_requests.specs.Own.{IsOwn};
+ghost use Rattle.handle_requests.specs.Refused.{Fails};
+ghost use Rattle.handle_requests.specs.Reads.{IsAnswered, is_too_long, text_in, waits};
+
+use crate::own::{Own, is_parked, own_handle};
+use crate::sources::answer_of_object;
+use engine_tables::Tables;
+use engine_texts::{Answer, Effect};
+use pps_types::{Conn, Handle, Outcome, Refusal, SharedBytes};
+use std::alloc::Global;
+
+/// The most bytes that a read may ask for.
+const READ_LIMIT: u32 = 17_000_000;
+
+/// What a read answers, and what it leaves of its handle.
+#[derive(Drop)]
+pub struct ReadDone {
+    pub reply: Outcome,
+    pub effect: Effect,
+}
+
+fn is_read_size(size: u32) -> bool
+    ensures { result ≡ (nat_le 1 size && nat_le size 17000000) }
+{
+    1 <= size && size <= READ_LIMIT
+}
+
+// The connection's own handle, where a read of that size may be asked of it.
+fn check_asked(tables: &Tables, conn: Conn, handle: Handle, size: u32) -> Result<Own<'_>, Refusal>
+    ensures own { IfOk result (λ own. IsOwn tables.now conn handle own) }
+    ensures reads { IfOk result (λ own. own.opening.now.reads ≡ true) }
+    ensures size { OnOk result ((nat_le 1 size && nat_le size 17000000) ≡ true) }
+    ensures free { OnOk result (IfSome (content.own_handle (content_in tables.now) conn handle) (λ h. h.parked ≡ None)) }
+    ensures err { IfErr result (λ r. checking.first_refusal (checking.request_checks (content_in tables.now) conn (Read handle size)) ≡ Some r) }
+{
+    let Some(own) = own_handle(tables, conn, handle) else {
+        return Err(Refusal::BadHandle);
+    };
+    if !own.reads() {
+        return Err(Refusal::BadMode);
+    }
+    if !is_read_size(size) {
+        return Err(Refusal::BadArgument);
+    }
+    if is_parked(tables, conn, handle) {
+        return Err(Refusal::ReadPending);
+    }
+    Ok(own)
+}
+
+// What a read answers, where no check refuses it but that of a read that waits.
+fn answer_to(
+    tables: &Tables,
+    alloc: Global,
+    conn: Conn,
+    handle: Handle,
+    size: u32,
+) -> Result<Answer, Refusal>
+    requires object { IfSome (content.own_handle (content_in tables.now) conn handle) (λ h. reading.is_directory_kind h.kind ≡ false) }
+    requires short { IfSome (content.own_handle (content_in tables.now) conn handle) (λ h. is_too_long (content.read_answer (content_in tables.now) h size) ≡ false) }
+    ensures ok { IfOk result (λ a. IsAnswered (content_in tables.now) conn handle size (meant a)) }
+    ensures err { IfErr result (λ r. Fails (checking.request_checks (content_in tables.now) conn (Read handle size)) r) }
+{
+    let own = match check_asked(tables, conn, handle, size) {
+        Err(refusal) => return Err(refusal),
+        Ok(own) => own,
+    };
+    answer_of_object(tables, alloc, conn, handle, &own, size)
+}
+
+// Whether a read waits.
+fn waits(answer: &Answer) -> bool
+    ensures { result ≡ waits (meant answer.now) }
+{
+    matches!(answer, Answer::Waits)
+}
+
+// The text that an answer gives.
+fn text_of(alloc: Global, answer: Answer) -> Vec<u8>
+    ensures { result.items ≡ text_in (meant answer) }
+{
+    match answer {
+        Answer::Everything(text) => text,
+        Answer::Blocks { text, .. } => text,
+        _ => Vec::new(alloc),
+    }
+}
+
+// A reply with a text.
+fn data(alloc: Global, text: Vec<u8>, effect: Effect) -> Result<ReadDone, Refusal>
+    ensures reply { IfOk result (λ d. d.reply ≡ Data text.items) }
+    ensures effect { IfOk result (λ d. d.effect ≡ effect) }
+    ensures err { IfErr result (λ r. r ≡ OutOfMemory) }
+{
+    match SharedBytes::new(alloc, text) {
+        Err(_) => Err(Refusal::OutOfMemory),
+        Ok(text) => Ok(ReadDone {
+            reply: Outcome::Data(text),
+            effect,
+        }),
+    }
+}
+
+/// What a read of at most so many bytes through an object's handle answers, and what it leaves of the handle, for which the
+/// memory is taken. What stands stays.
+///
+/// It is BadHandle where the connection has no such handle, BadMode where the handle isn't open for reading, BadArgument
+/// where the size is none of 1 to 17,000,000, ReadPending where a read waits on the handle, TooSmall, with the size that is
+/// needed, where not even the first thing to give fits, Gone where nothing is owed of an object that is deleted, and
+/// OutboxFull where the read would wait and the connection has no place for it. Else OutOfMemory is the only error.
+pub fn read_object(
+    tables: &mut Tables,
+    alloc: Global,
+    conn: Conn,
+    handle: Handle,
+    size: u32,
+) -> Result<ReadDone, Refusal>
+    requires owned { AreOwned (content_in tables.old) }
+    requires object { IfSome (content.own_handle (content_in tables.old) conn handle) (λ h. reading.is_directory_kind h.kind ≡ false) }
+    requires short { IfSome (content.own_handle (content_in tables.old) conn handle) (λ h. is_too_long (content.read_answer (content_in tables.old) h size) ≡ false) }
+    ensures content { content_in tables.new ≡ content_in tables.old }
+    ensures names { tables.new.names ≡ tables.old.names }
+    ensures handles { tables.new.handles ≡ tables.old.handles }
+    ensures passes { OnOk result (checking.first_refusal (checking.request_checks (content_in tables.old) conn (Read handle size)) ≡ None) }
+    ensures wants { OnOk result (checking.reaches_memory (checking.request_checks (content_in tables.old) conn (Read handle size)) ≡ true) }
+    ensures free { OnOk result (option_map (λ (h : reading.Open rests.Seen). h.parked) (content.own_handle (content_in tables.old) conn handle) ≡ Some None) }
+    ensures does { IfOk result (λ d. planning.effect (content_in tables.old) conn (Read handle size) ≡ (d.reply, moves_of handle d.effect)) }
+    ensures room { IfOk result (λ d. (asked : ℕ) → d.effect ≡ Parks asked → CanPark conn handle tables.new.connections) }
+    ensures err { IfErr result (λ r. Fails (checking.request_checks (content_in tables.old) conn (Read handle size)) r) }
+{
+    let answer = answer_to(tables, alloc, conn, handle, size)?;
+    let effect = answer.effect(size);
+    if waits(&answer) {
+        tables.park_ready(conn, handle)?;
+        return Ok(ReadDone {
+            reply: Outcome::Parked,
+            effect,
+        });
+    }
+    data(alloc, text_of(alloc, answer), effect)
+}

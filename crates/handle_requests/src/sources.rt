@@ -1,0 +1,79 @@
+//! What everything of a target is read from.
+ghost use Rattle.std.specs.Prelude.{◌≡◌, [], true, false, IfOk, IfErr, IfSome, map, option_map};
+ghost use Rattle.std.specs.Option.{option_copied, option_map_or};
+ghost use Rattle.pps_types.specs.History.{line_of};
+ghost use Rattle.pps_types.specs.Reading as reading;
+ghost use Rattle.pps_types.specs.Content as content;
+ghost use Rattle.engine_names.specs.Standing.{known_of};
+ghost use Rattle.engine_texts.specs.Answered.{meant};
+ghost use Rattle.engine_tables.specs.Tables.{content_in};
+ghost use Rattle.handle_requests.specs.Own.{opened_as, IsOwn};
+ghost use Rattle.handle_requests.specs.Reads.{Refuses, IsReader};
+
+use crate::owed::owed_to;
+use crate::own::Own;
+use engine_names::NamedObject;
+use engine_tables::Tables;
+use engine_texts::{Answer, Member, Whole, answers_are_read, read_answer};
+use pps_types::{Conn, Handle, ObjId, Refusal};
+use std::alloc::Global;
+
+// An object under a name, alive or deleted.
+fn member_of<'a>(name: &'a [u8], known: Option<&'a NamedObject>) -> Member<'a>
+    ensures name { result.name ≡ name.now }
+    ensures lines { result.lines ≡ map line_of (option_map_or (λ (o : content.Known). o.attributes) (option_map known_of (option_copied known.entry)) []) }
+{
+    match known {
+        Some(object) => Member::alive(name, object.attributes()),
+        None => Member::dead(name),
+    }
+}
+
+// What a read of a handle answers, by what everything is read from.
+fn answered(
+    tables: &Tables,
+    alloc: Global,
+    conn: Conn,
+    handle: Handle,
+    waits: bool,
+    size: u32,
+    whole: &Whole<'_>,
+) -> Result<Answer, Refusal>
+    requires { IfSome (content.own_handle (content_in tables.now) conn handle) (IsReader (content_in tables.now) waits whole.now) }
+    ensures ok { IfOk result (λ a. IfSome (content.own_handle (content_in tables.now) conn handle) (λ h. meant a ≡ content.read_answer (content_in tables.now) h size)) }
+    ensures err { IfErr result (λ r. IfSome (content.own_handle (content_in tables.now) conn handle) (λ h. Refuses (content.read_answer (content_in tables.now) h size) r)) }
+{
+    answers_are_read();
+    let handles = tables.handles();
+    handles.handles_are_placed();
+    let owed = owed_to(handles, alloc, handle, size)?;
+    read_answer(alloc, whole, waits, size, owed)
+}
+
+/// What a read of an object's handle answers, of which nothing is refused before.
+///
+/// It is TooSmall, with the size, where not even the first thing to give fits, before any memory is taken, and Gone where
+/// nothing is owed of an object that is deleted; else OutOfMemory is the only error, where there is something to give.
+pub(crate) fn answer_of_object(
+    tables: &Tables,
+    alloc: Global,
+    conn: Conn,
+    handle: Handle,
+    own: &Own<'_>,
+    size: u32,
+) -> Result<Answer, Refusal>
+    requires own { IsOwn tables.now conn handle own.now }
+    requires reads { own.now.opening.now.reads ≡ true }
+    requires object { reading.is_directory_kind own.now.opening.now.kind ≡ false }
+    ensures ok { IfOk result (λ a. IfSome (content.own_handle (content_in tables.now) conn handle) (λ h. meant a ≡ content.read_answer (content_in tables.now) h size)) }
+    ensures err { IfErr result (λ r. IfSome (content.own_handle (content_in tables.now) conn handle) (λ h. Refuses (content.read_answer (content_in tables.now) h size) r)) }
+{
+    let handles = tables.handles();
+    handles.handles_are_placed();
+    let known = tables.names().object(ObjId::new(own.target()));
+    let is_alive = known.is_some();
+    let is_over = handles.is_over(handle);
+    let members = [member_of(handles.name_of(own.found()), known)];
+    let whole = Whole::new(own.kind(), own.filter(), is_over, is_alive, &members);
+    answered(tables, alloc, conn, handle, own.waits(), size, &whole)
+}
