@@ -13,5 +13,6 @@ pub mod Listed
 pub mod Removed
 pub mod Numbers
 pub mod Copied
+pub mod Looked
 pub mod Ends
 pub mod Alongside

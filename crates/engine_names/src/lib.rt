@@ -8,7 +8,7 @@ mod members;
 mod named;
 mod names;
 
-pub use laws::{members_are_listed, moves_are_told};
+pub use laws::{members_are_listed, moves_are_told, questions_are_told};
 pub use named::{NamedDirectory, NamedObject};
 pub use names::Names;
 
