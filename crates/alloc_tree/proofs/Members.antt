@@ -1,5 +1,9 @@
 -- What stands directly in a directory.
-use Rattle.std.proofs.Common.{◌≡◌, ℕ, suc, take, drop, cond, List, [], ◌∷◌, ◌++◌, map, None, Option, refl, ap, sym, subst, ◌∙◌, append-nil, option_map}
+use Rattle.std.proofs.Common.{◌≡◌, ◌<◌, ℕ, suc, length, get_or, Some, take, drop, cond, List, [], ◌∷◌, ◌++◌, map, None, Option, refl, ap, sym, subst, ◌∙◌, append-nil, option_map}
+use Rattle.std.specs.Prelude.{slice_get}
+use Rattle.std.proofs.lemmas.List.{length-map}
+use Rattle.std.proofs.lemmas.Option.{slice_get-map, slice_get_read}
+use Rattle.pps_types.specs.declared.found.Found.{Found}
 use Rattle.std.specs.declared.cmp.Ordering.TheVariants.{Less}
 use Rattle.std.specs.FinMap.{entries}
 use Rattle.std.specs.FinMap.Entries.{where_key}
@@ -70,6 +74,18 @@ members_here [] = refl
 members_here (e ∷ es) =
     filter_map-append (member []) (under e.name.items (standing e.node)) (flatten standing es)
     ∙ (λ i. alone e.name.items e.node i ++ members_here es i)
+
+-- so there are as many
+pub members_count : {A : Type 0} (es : List (Entry A)) → length (members_in [] (flatten standing es)) ≡ length es
+members_count es = ap length (members_here es) ∙ length-map es (λ e. (e.name.items, node_found e.node))
+
+-- and each stands at its entry's place
+pub member_found : {A : Type 0} (es : List (Entry A)) (i : ℕ) (e : Entry A) → i < length es → e ≡ get_or es i e → slice_get (map (λ (m : Name × Found). m.1) (members_in [] (flatten standing es))) i ≡ Some (node_found e.node)
+member_found es i e below is =
+    ap (λ ms. slice_get (map (λ (m : Name × Found). m.1) ms) i) (members_here es)
+    ∙ slice_get-map (λ (m : Name × Found). m.1) (map (λ e. (e.name.items, node_found e.node)) es) i
+    ∙ ap (option_map (λ (m : Name × Found). m.1)) (slice_get-map (λ e. (e.name.items, node_found e.node)) es i)
+    ∙ ap (λ o. option_map (λ (m : Name × Found). m.1) (option_map (λ e. (e.name.items, node_found e.node)) o)) (slice_get_read es (length es) i e refl below is)
 
 -- beyond an object there is nothing
 pub members_object : (id : ℕ) (p : Path) → members_in p (([], FoundObject id) ∷ []) ≡ []

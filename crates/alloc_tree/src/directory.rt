@@ -1,5 +1,5 @@
 //! A directory: named objects and directories, in byte order of names.
-ghost use Rattle.std.specs.Prelude.{◌≡◌, ◌≢◌, ◌↔◌, IsTrue, ◌<◌, ◌++◌, ℕ, [], ◌∷◌, None, Some, IfOk, OnOk, OnErr};
+ghost use Rattle.std.specs.Prelude.{◌≡◌, ◌≢◌, ◌↔◌, IsTrue, ◌<◌, ◌++◌, ℕ, [], ◌∷◌, None, Some, IfOk, OnOk, OnErr, length, map, slice_get};
 ghost use Rattle.std.specs.Bool.{OnTrue};
 ghost use Rattle.pps_types.specs.Bytes.{is_empty};
 ghost use Rattle.pps_types.specs.declared.found.Found.TheVariants.{Directory as FoundDirectory};
@@ -13,7 +13,7 @@ ghost use Rattle.alloc_tree.specs.Refused.{new_refused, list_refused, edit_refus
 use crate::copies::{copy_name, copy_path, extended};
 use crate::edit::Edit;
 use crate::entries::{
-    count, edit_entry, is_full, list_entries, make_ready, same_name, same_object, search,
+    count, edit_entry, found_of, is_full, list_entries, make_ready, same_name, same_object, search,
 };
 use crate::kind::NodeKind;
 use crate::listed::{Member, Standing};
@@ -223,7 +223,7 @@ impl<A: Allocator> Directory<A> {
     }
 
     /// The directory at a path.
-    fn directory(&self, path: &[Bytes]) -> Result<&Directory<A>, Refusal>
+    pub(crate) fn directory(&self, path: &[Bytes]) -> Result<&Directory<A>, Refusal>
         ensures refusal { refusal_of result ≡ list_refused (whole self.now) path.now }
         ensures members { IfOk result (λ d. members_in [] (whole d.now) ≡ members_in path.now (whole self.now)) }
     {
@@ -237,6 +237,21 @@ impl<A: Allocator> Directory<A> {
                 Node::Directory(inner) => inner.directory(rest),
             },
         }
+    }
+
+    /// How many entries it has.
+    pub(crate) fn len(&self) -> usize
+        ensures { result ≡ length (members_in [] (whole self.now)) }
+    {
+        self.entries.len()
+    }
+
+    /// What stands at a place among its entries.
+    pub(crate) fn found(&self, place: usize) -> Found
+        requires { place < length (members_in [] (whole self.now)) }
+        ensures { slice_get (map (λ m. m.1) (members_in [] (whole self.now))) place ≡ Some result }
+    {
+        found_of(&self.entries[place].node)
     }
 
     fn members(&self) -> Result<Vec<Member<A>, A>, AllocError>

@@ -167,7 +167,7 @@ pub(crate) fn edit_entry<A: Allocator>(
     Ok(())
 }
 
-fn found_of<A: Allocator>(node: &Node<A>) -> Found
+pub(crate) fn found_of<A: Allocator>(node: &Node<A>) -> Found
     ensures { result ≡ node_found node.now }
 {
     match node {

@@ -9,5 +9,5 @@ mod kind;
 mod listed;
 mod tree;
 
-pub use listed::{Member, Standing};
+pub use listed::{Lent, Member, Standing};
 pub use tree::Tree;

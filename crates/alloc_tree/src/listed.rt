@@ -1,6 +1,7 @@
 //! What lists of names are made of.
-ghost use Rattle.std.specs.Prelude.{◌≡◌};
+ghost use Rattle.std.specs.Prelude.{◌≡◌, ◌<◌, Some, length, map, slice_get};
 
+use crate::directory::Directory;
 use pps_types::Found;
 use std::alloc::Allocator;
 use std::marker::Model;
@@ -42,6 +43,54 @@ impl<A: Allocator> Member<A> {
         ensures { result ≡ self.now.1 }
     {
         self.found
+    }
+}
+
+/// What stands directly in a directory, in byte order of names, as its tree lends it.
+#[derive(Drop)]
+pub struct Lent<'a, A: Allocator> {
+    directory: &'a Directory<A>,
+}
+
+impl<'a, A: Allocator> Model for Lent<'a, A> {
+    ghost use Rattle.std.specs.Prelude.{[], List};
+    ghost use Rattle.std.specs.Coded.{coded_list};
+    ghost use Rattle.pps_types.specs.declared.found.Found.{Found};
+    ghost use Rattle.pps_types.specs.Names.{Name, members_in};
+    ghost use Rattle.alloc_tree.specs.Contents.{coded_member, whole};
+
+    ghost Value = { List (Name × Found) };
+
+    ghost coded = { coded_list coded_member };
+
+    ghost view = { λ m. members_in [] (whole m.directory.now) };
+}
+
+impl<'a, A: Allocator> Lent<'a, A> {
+    ghost use Rattle.std.specs.Prelude.{[]};
+    ghost use Rattle.pps_types.specs.Names.{members_in};
+    ghost use Rattle.alloc_tree.specs.Contents.{whole};
+
+    /// What stands in a directory. It takes no memory.
+    pub(crate) fn new(directory: &'a Directory<A>) -> Self
+        ensures { result ≡ members_in [] (whole directory.now) }
+    {
+        Lent { directory }
+    }
+
+    /// How many there are.
+    pub fn len(&self) -> usize
+        ensures { result ≡ length self.now }
+    {
+        self.directory.len()
+    }
+
+    /// What stands at a place among them.
+    pub fn found(&self, place: usize) -> Found
+        requires { place < length self.now }
+        ensures { slice_get (map (λ m. m.1) self.now) place ≡ Some result }
+    {
+        self.directory.found(place)
     }
 }
 

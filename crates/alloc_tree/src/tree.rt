@@ -10,7 +10,7 @@ ghost use Rattle.alloc_tree.specs.declared.kind.NodeKind.TheVariants.{Object as 
 use crate::directory::{Directory, Node, Ready};
 use crate::edit::Edit;
 use crate::kind::NodeKind;
-use crate::listed::{Member, Standing};
+use crate::listed::{Lent, Member, Standing};
 use pps_types::{Bytes, DirId, Found, ObjId, Refusal};
 use std::alloc::Allocator;
 use std::marker::Model;
@@ -239,6 +239,19 @@ impl<A: Allocator> Tree<A> {
         ensures ok { IfOk result (λ members. members.items ≡ names.members_of self.now.map path.now) }
     {
         self.root.list(path)
+    }
+
+    /// What stands directly in the directory at a path, in byte order of names, as the tree lends it. It takes no memory.
+    ///
+    /// It is NotFound or NotDirectory as [`find`](Tree::find) is, and NotDirectory also where an object stands there.
+    pub fn lent(&self, path: &[Bytes]) -> Result<Lent<'_, A>, Refusal>
+        ensures refusal { names.refusal_of result ≡ names.list_refusal self.now.map path.now }
+        ensures ok { IfOk result (λ members. members ≡ names.members_of self.now.map path.now) }
+    {
+        match self.root.directory(path) {
+            Err(refusal) => Err(refusal),
+            Ok(directory) => Ok(Lent::new(directory)),
+        }
     }
 
     /// All that stands in the tree: each path before what is below it, and names in byte order.

@@ -8,6 +8,3 @@ mod places;
 
 pub use connections::Connections;
 pub use laws::{changes_are_found, queues_are_told};
-
-#[cfg(test)]
-mod tests;

@@ -16,3 +16,4 @@ pub mod Copied
 pub mod Looked
 pub mod Ends
 pub mod Alongside
+pub mod Lent

@@ -1,11 +1,12 @@
 -- What stands directly in a directory.
-use Rattle.std.specs.Prelude.{◌≡◌, ℕ, List, [], ◌++◌, Bool, true, false, if◌then◌else◌, Option, Some, None, codes, map}
+use Rattle.std.specs.Prelude.{◌≡◌, ℕ, List, [], ◌++◌, Bool, true, false, if◌then◌else◌, Option, Some, None, option_and_then, codes, map}
 use Rattle.std.specs.Option.{option_map_or}
 use Rattle.pps_types.specs.declared.found.Found.{Found}
 use Rattle.pps_types.specs.declared.found.Found.TheVariants.{Object as FoundObject, Directory as FoundDirectory}
 use Rattle.pps_types.specs.Bytes.{is_empty}
 use Rattle.pps_types.specs.Names.{Name, Path, last_name, name_cmp, sorted_by, is_directory}
-use Rattle.pps_types.specs.Content.{Directory, Known, Content, directory_at, members, subdirectories}
+use Rattle.pps_types.specs.Content.{Directory, Known, Content, directory_at, object_numbered, members, subdirectories}
+use Rattle.engine_names.specs.Standing.{Standing, content_of}
 
 -- an object's name, and where it leads to
 abbrev pub object_member : Known → Name × Found
@@ -33,6 +34,10 @@ pub record IsBare (c : Content) (d : Directory) : Type 0 where
 abbrev pub object_number : Found → Option ℕ
 object_number (FoundObject number) = Some number
 object_number (FoundDirectory number) = None
+
+-- the objects among these, each in its place, and none where a directory is
+abbrev pub objects_among : Standing → List (Name × Found) → List (Option Known)
+objects_among s ms = map (λ m. option_and_then (object_numbered (content_of s)) (object_number m.1)) ms
 
 -- ---- in a listing
 

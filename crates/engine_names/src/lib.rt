@@ -9,8 +9,6 @@ mod named;
 mod names;
 
 pub use laws::{members_are_listed, moves_are_told, questions_are_told};
+pub use members::Objects;
 pub use named::{NamedDirectory, NamedObject};
 pub use names::Names;
-
-#[cfg(test)]
-mod tests;

@@ -11,12 +11,12 @@ ghost use Rattle.pps_types.specs.declared.record.Kind.TheVariants.{Change, Trunc
 ghost use Rattle.pps_types.specs.declared.found.Found.TheVariants.{Directory as FoundDirectory};
 ghost use Rattle.pps_types.specs.declared.refusal.Refusal.TheVariants.{OutOfMemory};
 ghost use Rattle.number_table.specs.Numbered.{without_first, has_number, IsCloneEntry};
-ghost use Rattle.std.specs.List.{AllZip};
+ghost use Rattle.std.specs.List.{AllZip, filter_map};
 ghost use Rattle.engine_names.specs.Listed.{objects_at, members_at, IsBare};
 ghost use Rattle.engine_names.specs.Standing.{standing_of, content_of, after, first_standing, happened, known_of, placed_at, lines_ready, AreSame, IsCopy, IsReadyToCreate, IsReadyToMake};
 
 use crate::compared::{same_directories, same_objects};
-use crate::members::object_numbers;
+use crate::members::{Objects, object_numbers};
 use crate::named::{NamedDirectory, NamedObject};
 use alloc_tree::{Member, Tree};
 use number_table::Table;
@@ -440,6 +440,21 @@ impl Names {
             return Err(Refusal::OutOfMemory);
         };
         Ok(object_numbers(alloc, &listed)?)
+    }
+
+    /// What stands directly in a directory, in byte order of names, as the names lend it. Where there is no such directory,
+    /// nothing does. It takes no memory.
+    pub fn lent_objects(&self, directory: DirId) -> Objects<'_>
+        ensures { filter_map (λ o. o) result ≡ members (content_of (standing_of self.now)) directory }
+    {
+        let number = directory.number();
+        let Some(known) = self.directories.get(number) else {
+            return Objects::new(self, None);
+        };
+        let Ok(listed) = self.tree.lent(&known.path) else {
+            unreachable!();
+        };
+        Objects::new(self, Some(listed))
     }
 
     /// Names under which the same stands. Nothing is ready in them. OutOfMemory is the only error.

@@ -12,6 +12,3 @@ pub use following::{Following, follow};
 pub use limits::gives_everything;
 pub use reply::{Reply, late_answer};
 pub use woken::{Told, Woken};
-
-#[cfg(test)]
-mod tests;

@@ -64,6 +64,12 @@ pub record IsSameTarget (old new : Seats) : Type 0 where
   pub name : name_of new ≡ name_of old
   pub service : is_service new ≡ is_service old
 
+-- the same handles on the same target, and the same records held for them
+pub record IsCopy (x copy : Seats) : Type 0 where
+  pub same : IsSameTarget x copy
+  pub handles : handles_of copy ≡ handles_of x
+  pub kept : kept_of copy ≡ kept_of x
+
 -- room for records stays
 abbrev pub KeepsRoom : Seats → Seats → Type 0
 KeepsRoom old new = (entries : List Entry) → IsReady entries old → IsReady entries new

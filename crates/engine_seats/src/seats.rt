@@ -1,5 +1,5 @@
 //! Readers or the handles of a server object.
-ghost use Rattle.std.specs.Prelude.{◌≡◌, ◌≢◌, ◌^◌, ◌↔◌, ◌∷◌, ◌++◌, ◌+◌, ◌<◌, ◌≤◌, [], IsTrue, Some, None, true, false, List, length, filter, IfOk, IfErr, IsOk, option_map, option_and_then, OnOk, OnErr, map};
+ghost use Rattle.std.specs.Prelude.{◌≡◌, ◌≢◌, ◌^◌, ◌↔◌, ◌∷◌, ◌++◌, ◌+◌, ◌<◌, ◌≤◌, ◌&&◌, nat_le, [], IsTrue, Some, None, true, false, List, length, filter, find, IfOk, IfErr, IsOk, option_map, option_and_then, OnOk, OnErr, map};
 ghost use Rattle.std.specs.Option.{option_copied, option_map_or};
 ghost use Rattle.std.specs.List.{AllByRecursion};
 ghost use Rattle.pps_types.specs.Reading as reading;
@@ -8,6 +8,7 @@ ghost use Rattle.pps_types.specs.Plan as planning;
 ghost use Rattle.pps_types.specs.Owed as owing;
 ghost use Rattle.pps_types.specs.History as history;
 ghost use Rattle.pps_types.specs.Content as content;
+ghost use Rattle.pps_types.specs.Checks as checking;
 ghost use Rattle.pps_types.specs.Names.{refusal_of};
 ghost use Rattle.pps_types.specs.declared.found.Found.TheVariants.{Object as FoundObject, Directory as FoundDirectory};
 ghost use Rattle.pps_types.specs.declared.refusal.Refusal.TheVariants.{OutOfMemory};
@@ -84,6 +85,16 @@ impl Seats {
         match self {
             Seats::Readers(target) => target.is_exact(),
             Seats::Service(service) => service.shares_no_list(),
+        }
+    }
+
+    /// How many records are held for readers. Of a server object none are: its handles have queues.
+    pub fn kept(&self) -> usize
+        ensures { result ≡ length (kept_of self.now) }
+    {
+        match self {
+            Seats::Readers(target) => target.kept() as usize,
+            Seats::Service(_) => 0,
         }
     }
 
@@ -356,6 +367,39 @@ impl Seats {
                     text: plan.text,
                 })
             }
+        }
+    }
+
+    /// Whether the server's handle, if it is here, is owed as many messages of a client as its limit. It is asked of a server
+    /// object.
+    pub fn is_server_full(&self, server: Handle, client: Handle) -> bool
+        ensures { is_service self.now ≡ true → result ≡ option_map_or (λ (h : reading.Open rests.Seen). nat_le h.limit (checking.count_owed (checking.is_message_of client) h)) (handle_at server (handles_of self.now)) false }
+    {
+        match self {
+            Seats::Readers(_) => false,
+            Seats::Service(service) => service.is_server_full(server, client),
+        }
+    }
+
+    /// Whether a client's handle, if it is here, is owed as many messages of its server as its limit. It is asked of a server
+    /// object.
+    pub fn is_client_full(&self, client: Handle) -> bool
+        ensures { is_service self.now ≡ true → result ≡ option_map_or (λ (h : reading.Open rests.Seen). nat_le h.limit (checking.count_owed checking.is_server_message h)) (handle_at client (handles_of self.now)) false }
+    {
+        match self {
+            Seats::Readers(_) => false,
+            Seats::Service(service) => service.is_client_full(client),
+        }
+    }
+
+    /// The first client, in rising number, that is owed as many messages of its server as its limit. It is asked of a server
+    /// object, and looks at its handles alone.
+    pub fn full_client(&self) -> Option<Handle>
+        ensures { is_service self.now ≡ true → result ≡ option_map (λ (h : reading.Open rests.Seen). h.number) (find (λ (h : reading.Open rests.Seen). checking.is_client h.kind && nat_le h.limit (checking.count_owed checking.is_server_message h)) (handles_of self.now)) }
+    {
+        match self {
+            Seats::Readers(_) => None,
+            Seats::Service(service) => service.full_client(),
         }
     }
 

@@ -11,6 +11,3 @@ mod woken;
 
 pub use service::Service;
 pub use shares::Shares;
-
-#[cfg(test)]
-mod tests;

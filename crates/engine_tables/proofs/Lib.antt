@@ -6,3 +6,4 @@ pub mod Rooms
 pub mod Begins
 pub mod Ready
 pub mod Replaces
+pub mod Copied

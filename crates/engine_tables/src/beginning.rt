@@ -3,7 +3,7 @@ ghost use Rattle.std.specs.Prelude.{◌≡◌, ◌∷◌, [], true, List, filter
 ghost use Rattle.std.specs.List.{flat_map, list_all};
 ghost use Rattle.pps_types.specs.declared.found.Found.{Found as FoundAt};
 ghost use Rattle.engine_targets.specs.declared.opening.Opening.{Opening as OpeningAs};
-ghost use Rattle.open_handles.specs.Whole.{handles_at, handles_in, is_on};
+ghost use Rattle.open_handles.specs.Whole.{KeepsSites, handles_at, handles_in, is_on};
 ghost use Rattle.engine_tables.specs.declared.beginning.Beginning.{Beginning as BeginningAs};
 ghost use Rattle.engine_tables.specs.Beginning.{moves_of, AreReady, is_keeping};
 ghost use Rattle.engine_tables.specs.Tied.{Moves, CanOpen};
@@ -39,6 +39,7 @@ impl Tables {
         ensures moves { Moves (moves_of beginning) self.old self.new }
         ensures ready { (xs : List BeginningAs) → AreReady (beginning ∷ xs) self.old → AreReady xs self.new }
         ensures opens { (f : FoundAt) (o : OpeningAs) → is_keeping beginning ≡ true → CanOpen f o self.old → CanOpen f o self.new }
+        ensures sites { is_keeping beginning ≡ true → KeepsSites self.old.handles self.new.handles }
     {
         self.handles_are_placed();
         match beginning {
@@ -62,6 +63,7 @@ impl Tables {
         requires { AreReady beginning.items self.old }
         ensures moves { Moves (flat_map moves_of beginning.items) self.old self.new }
         ensures opens { (f : FoundAt) (o : OpeningAs) → list_all is_keeping beginning.items ≡ true → CanOpen f o self.old → CanOpen f o self.new }
+        ensures sites { list_all is_keeping beginning.items ≡ true → KeepsSites self.old.handles self.new.handles }
     {
         'beginning: for each in beginning {
             self.begin(each);

@@ -3,6 +3,7 @@
 
 mod beginning;
 mod coming;
+mod copies;
 mod creating;
 mod directories;
 mod following;
@@ -14,6 +15,3 @@ mod waiting;
 pub use beginning::Beginning;
 pub use creating::{NewObject, Replacement};
 pub use tables::Tables;
-
-#[cfg(test)]
-mod tests;

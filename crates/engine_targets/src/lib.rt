@@ -19,6 +19,3 @@ pub use opening::{Opening, Pulse};
 pub use owed::Given;
 pub use sight::{given_block, is_visible};
 pub use target::Target;
-
-#[cfg(test)]
-mod tests;

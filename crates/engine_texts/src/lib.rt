@@ -15,7 +15,4 @@ pub use answer::{Answer, Effect, Fitted};
 pub use listed::{Listed, listing, listing_len, listings_are_told};
 pub use member::Member;
 pub use read::{answers_are_read, read_answer};
-pub use whole::Whole;
-
-#[cfg(test)]
-mod tests;
+pub use whole::{Whole, too_small};

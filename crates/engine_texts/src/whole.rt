@@ -71,8 +71,9 @@ fn push_members(
     }
 }
 
-// The refusal of a read that needs so many bytes, where that is a number.
-fn too_small(need: usize) -> Refusal
+/// The refusal of a read that needs so many bytes: TooSmall, with the size, or OutOfMemory where that is no number of 32
+/// bits. It takes no memory.
+pub fn too_small(need: usize) -> Refusal
     ensures small { result ≢ OutOfMemory → Some result ≡ refusal_in (reading.Needs need) }
     ensures memory { result ≡ OutOfMemory → wants_memory (reading.Needs need) ≡ true }
 {

@@ -1,6 +1,7 @@
 -- What a read answers, by what it is read from and what is owed.
-use Rattle.std.specs.Prelude.{◌≡◌, ◌≢◌, ◌⊎◌, ◌∷◌, [], ℕ, List, Bool, true, false, not, ◌&&◌, Option, Some, None, is_some, is_none, IfSome, IfOk, IfErr, Result, Ok, Err, map, option_map, if◌then◌else◌}
+use Rattle.std.specs.Prelude.{◌≡◌, ◌≢◌, ◌⊎◌, ◌∷◌, [], ℕ, List, Bool, true, false, not, ◌&&◌, Option, Some, None, is_some, is_none, IfSome, IfOk, IfErr, Result, Ok, Err, map, if◌then◌else◌}
 use Rattle.std.specs.Option.{option_map_or}
+use Rattle.std.specs.List.{filter_map}
 use Rattle.std.proofs.Common.{refl, sym, ◌∙◌, ap, subst, inl, inr}
 use Rattle.pps_types.specs.declared.refusal.Refusal.{Refusal}
 use Rattle.pps_types.specs.declared.refusal.Refusal.TheVariants.{OutOfMemory}
@@ -20,6 +21,7 @@ use Rattle.engine_texts.specs.declared.answer.Answer.{Answer}
 use Rattle.engine_texts.specs.declared.answer.Fitted.{Fitted}
 use Rattle.handle_requests.specs.declared.own.Own.{Own}
 use Rattle.handle_requests.specs.Own.{opened_as, IsOwn}
+use Rattle.handle_requests.specs.Directories.{directory_source}
 use Rattle.handle_requests.specs.Reads.{Refuses, takes_memory, IsReader}
 use Rattle.handle_requests.proofs.Owns.{own_numbered, own_known}
 use Rattle.handle_requests.proofs.Memory.{memory_or}
@@ -69,18 +71,22 @@ module _ (c : Content) (o : Option (Open Seen)) (size : ℕ) (a : reading.Answer
       by None is = tt
       by (Some h) is = given ∙ sym is
 
-  pub err_told : (result : Result Answer Refusal) → (refusal_of result ≢ Some OutOfMemory → refusal_of result ≡ refusal_in a) → (refusal_of result ≡ Some OutOfMemory → wants_memory a ≡ true)
+  pub err_taken : (result : Result Answer Refusal) → (refusal_of result ≢ Some OutOfMemory → refusal_of result ≡ refusal_in a) → (refusal_of result ≡ Some OutOfMemory → takes_memory a ≡ true)
       → IfSome o (λ h. read_answer c h size ≡ a) → IfErr result (λ r. IfSome o (λ h. Refuses (read_answer c h size) r))
-  err_told (Ok x) full lacking is = tt
-  err_told (Err r) full lacking is = by o is
+  err_taken (Ok x) full lacking is = tt
+  err_taken (Err r) full lacking is = by o is
     where
       refuses : (r ≡ OutOfMemory) ⊎ (Some r ≢ Some OutOfMemory) → Refuses a r
-      refuses (inl is) = inr (is, wanted a (lacking (ap Some is)))
+      refuses (inl is) = inr (is, lacking (ap Some is))
       refuses (inr other) = inl (sym (full other))
 
       by : (o : Option (Open Seen)) → IfSome o (λ h. read_answer c h size ≡ a) → IfSome o (λ h. Refuses (read_answer c h size) r)
       by None is = tt
       by (Some h) is = subst (λ b. Refuses b r) (sym is) (refuses (memory_or r))
+
+  pub err_told : (result : Result Answer Refusal) → (refusal_of result ≢ Some OutOfMemory → refusal_of result ≡ refusal_in a) → (refusal_of result ≡ Some OutOfMemory → wants_memory a ≡ true)
+      → IfSome o (λ h. read_answer c h size ≡ a) → IfErr result (λ r. IfSome o (λ h. Refuses (read_answer c h size) r))
+  err_told result full lacking is = err_taken result full (λ e. wanted a (lacking e)) is
 
 -- ---- what everything of an object is read from
 
@@ -93,6 +99,13 @@ object_source : (c : Content) (h : Open Seen) → is_directory_kind h.kind ≡ f
 object_source c h plain =
     ap (λ (b : Bool). record { kind = h.kind; parts = h.filter; over = is_over h.seen; alive = not (not b && is_none (object_numbered c h.target)); members = if b then map member (members c h.target) else record { name = h.name; lines = map line_of (attributes_of c h.target) } ∷ [] }) plain
     ∙ ap (λ (b : Bool). record { kind = h.kind; parts = h.filter; over = is_over h.seen; alive = b; members = record { name = h.name; lines = map line_of (attributes_of c h.target) } ∷ [] }) (alive_told (object_numbered c h.target))
+
+-- ---- what everything of a directory is read from
+
+directory_source_of : (c : Content) (h : Open Seen) → is_directory_kind h.kind ≡ true
+    → source_of c h ≡ record { kind = h.kind; parts = h.filter; over = is_over h.seen; alive = true; members = map member (members c h.target) }
+directory_source_of c h directory =
+    ap (λ (b : Bool). record { kind = h.kind; parts = h.filter; over = is_over h.seen; alive = not (not b && is_none (object_numbered c h.target)); members = if b then map member (members c h.target) else record { name = h.name; lines = map line_of (attributes_of c h.target) } ∷ [] }) directory
 
 module _ (t : Tabled) (next : ℕ) (rise : AreRising 0 (map (λ h. h.number) (content_in t).handles) next) (conn n : ℕ) (own : Own) (is : IsOwn t conn n own) where
   pub object_reader : own.opening.now.reads ≡ true → is_directory_kind own.opening.now.kind ≡ false → (over : Bool) → over ≡ option_map_or (λ (h : Open Seen). is_over h.seen) (handle_at n (content_in t).handles) false
@@ -144,3 +157,22 @@ module _ (t : Tabled) (next : ℕ) (rise : AreRising 0 (map (λ h. h.number) (co
           (record { kind = own.opening.now.kind; parts = own.opening.now.filter; over = over; alive = is_some known; members = m ∷ [] })
           (record { kind = h.kind; parts = h.filter; over = is_over h.seen; alive = is_some (object_numbered (content_in t) h.target); members = record { name = h.name; lines = map line_of (attributes_of (content_in t) h.target) } ∷ [] })
       alike = λ i. record { kind = sym kind-is i; parts = filter-told i; over = over-told i; alive = is_some (known-told i); members = record { name = name-told i; lines = lines-told i } ∷ [] }
+
+  pub directory_reader : own.opening.now.reads ≡ true → is_directory_kind own.opening.now.kind ≡ true → (over : Bool) → over ≡ option_map_or (λ (h : Open Seen). is_over h.seen) (handle_at n (content_in t).handles) false
+      → (os : List (Option Known)) → filter_map (λ o. o) os ≡ members (content_in t) (number_of own.found)
+      → IfSome (own_handle (content_in t) conn n) (IsReader (content_in t) own.opening.now.wait (directory_source own.opening.now.kind own.opening.now.filter over os))
+  directory_reader reads directory over over-is os lent =
+      let known = own_known (own_handle (content_in t) conn n) (opened_as t own) is in
+      let h = known.0 in
+      let same = known.1.1 in
+      let kind-is : h.kind ≡ own.opening.now.kind = ap (λ (x : Open (Unit {0})). x.kind) same in
+      let target-is : h.target ≡ number_of own.found = ap (λ (x : Open (Unit {0})). x.target) same in
+      let over-told : over ≡ is_over h.seen = over-is ∙ ap (λ o. option_map_or (λ (h : Open Seen). is_over h.seen) o false) (own_numbered (content_in t).handles next rise conn n h known.1.0) in
+      let members-told : map member (filter_map (λ o. o) os) ≡ map member (members (content_in t) h.target) = ap (map member) (lent ∙ ap (members (content_in t)) (sym target-is)) in
+      let filter-told : own.opening.now.filter ≡ h.filter = sym (ap (λ (x : Open (Unit {0})). x.filter) same) in
+      subst (λ o. IfSome o (IsReader (content_in t) own.opening.now.wait (directory_source own.opening.now.kind own.opening.now.filter over os))) (sym known.1.0)
+      (record {
+        reads = ap (λ (x : Open (Unit {0})). x.reads) same ∙ reads;
+        wait = ap (λ (x : Open (Unit {0})). x.wait) same;
+        source = (λ i. record { kind = sym kind-is i; parts = filter-told i; over = over-told i; alive = true; members = members-told i }) ∙ sym (directory_source_of (content_in t) h (ap is_directory_kind kind-is ∙ directory));
+      })

@@ -1,7 +1,8 @@
 -- How a read of the own handle is checked, and what it does.
-use Rattle.std.specs.Prelude.{◌≡◌, ◌≢◌, ◌⊎◌, ◌∷◌, [], ◌++◌, ◌^◌, ◌&&◌, ℕ, List, Bool, true, false, not, nat_le, Option, Some, None, is_some, option_map, IfSome, IsSomeAnd, IfOk, IfErr, Result, Ok, Err}
+use Rattle.std.specs.Prelude.{◌≡◌, ◌≢◌, ◌⊎◌, ◌∷◌, [], ◌++◌, ◌&&◌, ◌==◌, ℕ, List, Bool, true, false, not, nat_le, Option, Some, None, is_some, option_map, IfSome, IsSomeAnd, IfOk, IfErr, Result, Ok, Err}
 use Rattle.std.specs.Option.{option_map_or}
-use Rattle.std.proofs.Common.{refl, sym, ◌∙◌, ap, subst, inl, inr}
+use Rattle.std.proofs.Common.{refl, sym, ◌∙◌, ap, subst, inl, inr, arith}
+use Rattle.std.proofs.lemmas.Bool.Decides.{nat_tests}
 use Rattle.pps_types.specs.declared.refusal.Refusal.{Refusal}
 use Rattle.pps_types.specs.declared.refusal.Refusal.TheVariants.{OutOfMemory, BadHandle, BadMode, BadArgument, ReadPending}
 use Rattle.pps_types.specs.declared.event.Request.TheVariants.{Read}
@@ -13,14 +14,17 @@ use Rattle.pps_types.specs.Rests.{Seen}
 use Rattle.pps_types.specs.Outbox.{park_refusal}
 use Rattle.pps_types.specs.Content.{Content, own_handle, outbox_of, read_answer}
 use Rattle.pps_types.specs.Checks.{Check, Refuse, Memory, first_refusal, reaches_memory, refused, request_checks, answer_checks}
-use Rattle.pps_types.specs.Plan.{Move, effect, read_effect}
+use Rattle.pps_types.specs.Plan.{effect, read_effect}
 use Rattle.engine_texts.specs.Answered.{refusal_in, meant, moves_of}
 use Rattle.engine_texts.specs.declared.answer.Answer.{Answer}
 use Rattle.engine_texts.specs.declared.answer.Answer.TheVariants.{Everything, Blocks, Waits, Nothing}
 use Rattle.engine_texts.specs.declared.answer.Effect.{Effect}
 use Rattle.engine_texts.specs.declared.answer.Effect.TheVariants.{Parks}
+use Rattle.content_bounds.specs.Bounds.{IsBound}
+use Rattle.content_bounds.proofs.Effects.{bound-handle}
+use Rattle.content_bounds.proofs.Replies.{IsSmallNeed, small-read}
 use Rattle.handle_requests.specs.Refused.{Fails}
-use Rattle.handle_requests.specs.Reads.{Refuses, takes_memory, is_too_long, text_in, waits, IsRead, IsAnswered}
+use Rattle.handle_requests.specs.Reads.{Refuses, is_too_long, text_in, waits, IsRead, IsAnswered}
 use Rattle.engine_targets.specs.Opened.{as_opened}
 use Rattle.handle_requests.specs.declared.reading.ReadDone.{ReadDone}
 use Rattle.handle_requests.proofs.Owns.{own_is, own_known}
@@ -85,6 +89,22 @@ is_waiting (reading.Needs n) e = absurd (let bad = e in cc)
 is_waiting reading.TargetGone e = absurd (let bad = e in cc)
 is_waiting reading.Waits e = refl
 is_waiting reading.Nothing e = absurd (let bad = e in cc)
+
+-- what an answer needs is a number of 32 bits
+pub short_told : (c : Content) → IsBound c → (conn n size : ℕ) → IfSome (own_handle c conn n) (λ h. is_too_long (read_answer c h size) ≡ false)
+short_told c bound conn n size = by (own_handle c conn n) refl
+  where
+    short : (a : reading.Answer) → IsSmallNeed a → is_too_long a ≡ false
+    short (reading.Needs need) small = grind (arith, nat_tests, small)
+    short (reading.Everything text) small = refl
+    short (reading.Blocks count text) small = refl
+    short reading.TargetGone small = refl
+    short reading.Waits small = refl
+    short reading.Nothing small = refl
+
+    by : (o : Option (Open Seen)) → own_handle c conn n ≡ o → IfSome o (λ h. is_too_long (read_answer c h size) ≡ false)
+    by None e = tt
+    by (Some h) e = short (read_answer c h size) (small-read c h size bound (bound-handle c h (λ h. (h.number == n) && (h.connection == conn)) bound e))
 
 -- ---- its checks
 

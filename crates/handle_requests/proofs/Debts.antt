@@ -4,14 +4,14 @@ use Rattle.std.proofs.Common.{refl, sym, ap, inl, inr, arith}
 use Rattle.std.proofs.lemmas.Bool.Decides.{nat_tests}
 use Rattle.pps_types.specs.declared.refusal.Refusal.{Refusal}
 use Rattle.pps_types.specs.declared.refusal.Refusal.TheVariants.{OutOfMemory}
-use Rattle.pps_types.specs.Reading.{Open, Answer, Needs, fitting, blocks_answer, owed_answer, block, visible}
+use Rattle.pps_types.specs.Reading.{Open, Needs, fitting, blocks_answer, owed_answer, block, visible}
 use Rattle.pps_types.specs.Rests.{Seen, News, Unread, Over, Owed, answer, news_in}
 use Rattle.pps_types.specs.Owed.{owed_in_seen}
 use Rattle.server_queue.specs.Reads.{needed}
 use Rattle.engine_targets.specs.Blocks.{owed_blocks, refused_for, first_len}
-use Rattle.engine_texts.specs.Answered.{Owes, AreFitting, refusal_in}
+use Rattle.engine_texts.specs.Answered.{Owes, refusal_in}
 use Rattle.engine_texts.specs.declared.answer.Fitted.{Fitted}
-use Rattle.handle_requests.specs.Reads.{Refuses, takes_memory, is_given_all}
+use Rattle.handle_requests.specs.Reads.{Refuses, is_given_all}
 use Rattle.handle_requests.proofs.Memory.{memory_or}
 
 long_or : (k n : ℕ) → (n < k → ⊥) → nat_le k n ≡ true

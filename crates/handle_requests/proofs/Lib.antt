@@ -5,3 +5,4 @@ pub mod Memory
 pub mod Debts
 pub mod Answered
 pub mod Asked
+pub mod Parts

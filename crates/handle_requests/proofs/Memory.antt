@@ -1,10 +1,8 @@
 -- Whether a refusal is want of memory.
-use Rattle.std.specs.Prelude.{◌≡◌, ◌≢◌, ◌⊎◌, Bool, true, false, Option, Some, None}
+use Rattle.std.specs.Prelude.{◌≡◌, ◌≢◌, ◌⊎◌, Bool, true, false, Some}
 use Rattle.std.proofs.Common.{refl, sym, ◌∙◌, ap, inl, inr}
 use Rattle.pps_types.specs.declared.refusal.Refusal.{Refusal}
 use Rattle.pps_types.specs.declared.refusal.Refusal.TheVariants.{OutOfMemory}
-use Rattle.pps_types.specs.Checks.{Check, first_refusal, reaches_memory}
-use Rattle.handle_requests.specs.Refused.{Fails}
 
 abbrev is_memory : Refusal → Bool
 is_memory OutOfMemory = true

@@ -1,5 +1,5 @@
 -- How a notice of the own handle is checked, and what it does.
-use Rattle.std.specs.Prelude.{◌≡◌, ◌≢◌, ◌∷◌, [], ◌++◌, ◌⊎◌, ℕ, List, Bool, true, false, nat_lt, not, if◌then◌else◌, Option, Some, None, is_some, option_map, IfSome}
+use Rattle.std.specs.Prelude.{◌≡◌, ◌≢◌, ◌∷◌, [], ◌++◌, ◌⊎◌, ℕ, List, Bool, true, false, nat_lt, not, if◌then◌else◌, Option, Some, None, is_some, option_map}
 use Rattle.std.specs.Option.{option_map_or}
 use Rattle.std.proofs.Common.{refl, sym, ◌∙◌, ap, inl, inr}
 use Rattle.pps_types.specs.declared.refusal.Refusal.{Refusal}
@@ -9,7 +9,7 @@ use Rattle.pps_types.specs.Reading.{Open}
 use Rattle.pps_types.specs.Rests.{Seen}
 use Rattle.pps_types.specs.Outbox.{arms, arm_refusal}
 use Rattle.pps_types.specs.Content.{Content, own_handle, outbox_of, news}
-use Rattle.pps_types.specs.Checks.{Check, Refuse, Memory, first_refusal, reaches_memory, refused, on_handle, request_checks}
+use Rattle.pps_types.specs.Checks.{Check, Refuse, Memory, first_refusal, reaches_memory, refused, request_checks}
 use Rattle.pps_types.specs.Plan.{effect, Arms}
 use Rattle.pps_types.specs.declared.outcome.Outcome.TheVariants.{Input, Done}
 use Rattle.engine_targets.specs.Opened.{armed_pulse}

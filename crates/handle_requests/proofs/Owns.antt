@@ -2,7 +2,7 @@
 use Rattle.std.specs.Prelude.{◌≡◌, ◌==◌, ◌&&◌, ℕ, List, Bool, true, false, not, Option, Some, None, find, map, option_map, option_and_then, is_some, IfSome}
 use Rattle.std.specs.Option.{option_map_or}
 use Rattle.pps_types.specs.Content.{news}
-use Rattle.std.proofs.Common.{refl, sym, ◌∙◌, ap, cond}
+use Rattle.std.proofs.Common.{refl, sym, ◌∙◌, ap}
 use Rattle.std.proofs.lemmas.Bool.{eqb-true}
 use Rattle.pps_types.specs.Reading.{Open}
 use Rattle.pps_types.specs.Rests.{Seen}

@@ -2,3 +2,4 @@ pub mod Own
 pub mod Refused
 pub mod Notices
 pub mod Reads
+pub mod Directories

@@ -3,7 +3,7 @@ use Rattle.std.specs.Prelude.{◌≡◌, ◌⊎◌, ◌^◌, ◌&&◌, ℕ, List
 use Rattle.std.specs.Option.{option_map_or}
 use Rattle.pps_types.specs.declared.refusal.Refusal.{Refusal}
 use Rattle.pps_types.specs.declared.refusal.Refusal.TheVariants.{OutOfMemory}
-use Rattle.pps_types.specs.Reading.{Open, Answer, Everything, Blocks, Needs, TargetGone, Waits, Nothing}
+use Rattle.pps_types.specs.Reading.{Open, Answer, Everything, Blocks, Needs, Waits}
 use Rattle.pps_types.specs.Rests.{Seen}
 use Rattle.pps_types.specs.Owed.{owed_in_seen}
 use Rattle.pps_types.specs.Content.{Content, own_handle, read_answer, news}

@@ -2,6 +2,7 @@
 //! takes ahead. Nothing that stands changes yet.
 #![tactic(auto)]
 
+mod directories;
 mod notices;
 mod outboxes;
 mod owed;
@@ -12,4 +13,4 @@ mod sources;
 pub use notices::{Notified, notify};
 pub use outboxes::{attach, receive};
 pub use own::{Own, own_handle};
-pub use reading::{ReadDone, read_object};
+pub use reading::{ReadDone, read};

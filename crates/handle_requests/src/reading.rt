@@ -8,6 +8,7 @@ ghost use Rattle.pps_types.specs.Rests as rests;
 ghost use Rattle.pps_types.specs.Content as content;
 ghost use Rattle.pps_types.specs.Checks as checking;
 ghost use Rattle.pps_types.specs.Plan as planning;
+ghost use Rattle.content_bounds.specs.Bounds.{IsBound};
 ghost use Rattle.connection_laws.specs.Connections.{AreOwned};
 ghost use Rattle.engine_connections.specs.Standing.{CanPark};
 ghost use Rattle.engine_texts.specs.Answered.{meant, moves_of};
@@ -15,10 +16,10 @@ ghost use Rattle.engine_texts.specs.declared.answer.Effect.TheVariants.{Parks};
 ghost use Rattle.engine_tables.specs.Tables.{content_in};
 ghost use Rattle.handle_requests.specs.Own.{IsOwn};
 ghost use Rattle.handle_requests.specs.Refused.{Fails};
-ghost use Rattle.handle_requests.specs.Reads.{IsAnswered, is_too_long, text_in, waits};
+ghost use Rattle.handle_requests.specs.Reads.{IsAnswered, text_in, waits};
 
 use crate::own::{Own, is_parked, own_handle};
-use crate::sources::answer_of_object;
+use crate::sources::{answer_of_directory, answer_of_object};
 use engine_tables::Tables;
 use engine_texts::{Answer, Effect};
 use pps_types::{Conn, Handle, Outcome, Refusal, SharedBytes};
@@ -71,8 +72,7 @@ fn answer_to(
     handle: Handle,
     size: u32,
 ) -> Result<Answer, Refusal>
-    requires object { IfSome (content.own_handle (content_in tables.now) conn handle) (λ h. reading.is_directory_kind h.kind ≡ false) }
-    requires short { IfSome (content.own_handle (content_in tables.now) conn handle) (λ h. is_too_long (content.read_answer (content_in tables.now) h size) ≡ false) }
+    requires { IsBound (content_in tables.now) }
     ensures ok { IfOk result (λ a. IsAnswered (content_in tables.now) conn handle size (meant a)) }
     ensures err { IfErr result (λ r. Fails (checking.request_checks (content_in tables.now) conn (Read handle size)) r) }
 {
@@ -80,6 +80,9 @@ fn answer_to(
         Err(refusal) => return Err(refusal),
         Ok(own) => own,
     };
+    if own.is_on_directory() {
+        return answer_of_directory(tables, alloc, conn, handle, &own, size);
+    }
     answer_of_object(tables, alloc, conn, handle, &own, size)
 }
 
@@ -116,14 +119,13 @@ fn data(alloc: Global, text: Vec<u8>, effect: Effect) -> Result<ReadDone, Refusa
     }
 }
 
-/// What a read of at most so many bytes through an object's handle answers, and what it leaves of the handle, for which the
-/// memory is taken. What stands stays.
+/// What a read of at most so many bytes answers, and what it leaves of its handle, for which the memory is taken. What stands stays.
 ///
 /// It is BadHandle where the connection has no such handle, BadMode where the handle isn't open for reading, BadArgument
 /// where the size is none of 1 to 17,000,000, ReadPending where a read waits on the handle, TooSmall, with the size that is
 /// needed, where not even the first thing to give fits, Gone where nothing is owed of an object that is deleted, and
 /// OutboxFull where the read would wait and the connection has no place for it. Else OutOfMemory is the only error.
-pub fn read_object(
+pub fn read(
     tables: &mut Tables,
     alloc: Global,
     conn: Conn,
@@ -131,8 +133,7 @@ pub fn read_object(
     size: u32,
 ) -> Result<ReadDone, Refusal>
     requires owned { AreOwned (content_in tables.old) }
-    requires object { IfSome (content.own_handle (content_in tables.old) conn handle) (λ h. reading.is_directory_kind h.kind ≡ false) }
-    requires short { IfSome (content.own_handle (content_in tables.old) conn handle) (λ h. is_too_long (content.read_answer (content_in tables.old) h size) ≡ false) }
+    requires bound { IsBound (content_in tables.old) }
     ensures content { content_in tables.new ≡ content_in tables.old }
     ensures names { tables.new.names ≡ tables.old.names }
     ensures handles { tables.new.handles ≡ tables.old.handles }

@@ -10,12 +10,13 @@ ghost use Rattle.engine_tables.specs.Tables.{content_in};
 ghost use Rattle.handle_requests.specs.Own.{opened_as, IsOwn};
 ghost use Rattle.handle_requests.specs.Reads.{Refuses, IsReader};
 
+use crate::directories::answer_of;
 use crate::owed::owed_to;
 use crate::own::Own;
 use engine_names::NamedObject;
 use engine_tables::Tables;
 use engine_texts::{Answer, Member, Whole, answers_are_read, read_answer};
-use pps_types::{Conn, Handle, ObjId, Refusal};
+use pps_types::{Conn, DirId, Handle, ObjId, Refusal};
 use std::alloc::Global;
 
 // An object under a name, alive or deleted.
@@ -76,4 +77,40 @@ pub(crate) fn answer_of_object(
     let members = [member_of(handles.name_of(own.found()), known)];
     let whole = Whole::new(own.kind(), own.filter(), is_over, is_alive, &members);
     answered(tables, alloc, conn, handle, own.waits(), size, &whole)
+}
+
+/// What a read of a directory's handle answers, of which nothing is refused before.
+///
+/// It is TooSmall, with the size, where not even the first thing to give fits, before any memory is taken; else OutOfMemory
+/// is the only error, where there is something to give.
+pub(crate) fn answer_of_directory(
+    tables: &Tables,
+    alloc: Global,
+    conn: Conn,
+    handle: Handle,
+    own: &Own<'_>,
+    size: u32,
+) -> Result<Answer, Refusal>
+    requires own { IsOwn tables.now conn handle own.now }
+    requires reads { own.now.opening.now.reads ≡ true }
+    requires directory { reading.is_directory_kind own.now.opening.now.kind ≡ true }
+    ensures ok { IfOk result (λ a. IfSome (content.own_handle (content_in tables.now) conn handle) (λ h. meant a ≡ content.read_answer (content_in tables.now) h size)) }
+    ensures err { IfErr result (λ r. IfSome (content.own_handle (content_in tables.now) conn handle) (λ h. Refuses (content.read_answer (content_in tables.now) h size) r)) }
+{
+    answers_are_read();
+    let handles = tables.handles();
+    handles.handles_are_placed();
+    let is_over = handles.is_over(handle);
+    let objects = tables.names().lent_objects(DirId::new(own.target()));
+    let owed = owed_to(handles, alloc, handle, size)?;
+    answer_of(
+        alloc,
+        own.kind(),
+        own.filter(),
+        is_over,
+        &objects,
+        own.waits(),
+        size,
+        owed,
+    )
 }

@@ -76,7 +76,7 @@ went f old new whole none here rows elsewhere objects_rise directories_rise =
     let entries : new.rows.entries ≡ old.rows.entries = ap (λ (t : Numbered Found). t.entries) rows in
     let nobody : handles_at f new ≡ handles_at f old = ap handles_in_place here ∙ sym none in
     record {
-      whole = bare_whole old new whole f entries next elsewhere nobody objects_rise directories_rise (λ s at. absurd (let bad : None ≡ Some s = sym here ∙ at in cc));
+      whole = bare_whole old new whole f entries next elsewhere nobody objects_rise directories_rise (λ s at. absurd (let bad : None ≡ Some s = sym here ∙ at in cc)) (λ s at. absurd (let bad : None ≡ Some s = sym here ∙ at in cc));
       handles = bare_handles old new whole f entries next elsewhere nobody objects_rise directories_rise;
       gone = λ is. here;
       used = λ some. absurd (some none);

@@ -9,3 +9,4 @@ pub mod Goes
 pub mod Offers
 pub mod Reserves
 pub mod Wakes
+pub mod Copied

@@ -18,7 +18,7 @@ use Rattle.engine_seats.specs.declared.seats.Seats.{Seats}
 use Rattle.engine_seats.specs.declared.seats.Seats.TheVariants.{Readers, Service}
 use Rattle.engine_seats.specs.Seated.{target_of, handles_of, is_service, IsSameTarget, IsEnough, IsReady as IsReadyIn}
 use Rattle.open_handles.specs.declared.places.Places.{Places}
-use Rattle.open_handles.specs.Whole.{Whole, IsWhole, AreRowed, row_handle, place_at, with_place, handles_on, handles_in, handles_at, handles_in_place, seats_at, site_of, Site, IsSharedAt, HasRoom, HasRoomIn, HasRoomAt, is_told}
+use Rattle.open_handles.specs.Whole.{IsRight, Whole, IsWhole, AreRowed, row_handle, place_at, with_place, handles_on, handles_in, handles_at, handles_in_place, seats_at, site_of, Site, IsSharedAt, HasRoom, HasRoomIn, HasRoomAt, is_told}
 use Rattle.open_handles.proofs.Finds.{found_cases}
 use Rattle.open_handles.proofs.Rows.{mapped}
 use Rattle.open_handles.proofs.Standing.{with_found, with_placed, with_handles, old_handles, with_elsewhere, with_seated}
@@ -62,7 +62,7 @@ same_numbers e (h ∷ hs) = ap (λ ns. h.number ∷ ns) (same_numbers e hs)
 -- ---- in one place
 
 module _ (rows : Numbered Found) (p : Places) (whole : IsWhole (whole_of rows p)) (f : Found) (s t : Seats) (found : place_at f p ≡ Some s) (same : IsSameTarget s t)
-    (seated : AreSeated (is_directory (target_of t)) (number_of (target_of t)) (handles_of t)) (e : Entry) (is : handles_of t ≡ map (offer e) (handles_of s)) where
+    (right : IsRight t) (e : Entry) (is : handles_of t ≡ map (offer e) (handles_of s)) where
   pub offered_here : handles_on (with_place p f t) f ≡ map (offer e) (handles_on p f)
   offered_here = with_handles p f s t whole.placed found same.target ∙ is ∙ ap (map (offer e)) (sym (old_handles p f s t whole.placed found same.target))
 
@@ -75,8 +75,8 @@ module _ (rows : Numbered Found) (p : Places) (whole : IsWhole (whole_of rows p)
 
   pub offered_whole : IsWhole (whole_of rows (with_place p f t))
   offered_whole = record {
-    rowed = numbers_rowed (handles_on p) (handles_on (with_place p f t)) rows.entries rows.next kept_numbers (with_seated p f s t whole.placed found same.target seated whole.rowed.seated) whole.rowed;
-    placed = with_placed p f s t whole.placed found same.target;
+    rowed = numbers_rowed (handles_on p) (handles_on (with_place p f t)) rows.entries rows.next kept_numbers (with_seated p f s t whole.placed found same.target right whole.rowed.seated) whole.rowed;
+    placed = with_placed p f s t whole.placed found same.target right.exact;
   }
 
 pub room_after : (p : Places) (f : Found) (s t : Seats) (found : place_at f p ≡ Some s) (P : Seats → Type 0) → P t → IfSome (place_at f (with_place p f t)) P

@@ -10,15 +10,13 @@ use Rattle.pps_types.specs.Reading.{Open, visible}
 use Rattle.pps_types.specs.Rests.{Seen}
 use Rattle.pps_types.proofs.Finds.{all-imp}
 use Rattle.number_table.specs.Numbered.{Numbered}
-use Rattle.engine_targets.specs.Opened.{is_directory, number_of}
-use Rattle.engine_targets.specs.Seated.{AreSeated}
 use Rattle.server_queue.specs.Senders.{client_messages}
 use Rattle.engine_servers.specs.Standing.{Spare, HaveRoom, messages_in}
 use Rattle.engine_seats.specs.declared.seats.Seats.{Seats}
 use Rattle.engine_seats.specs.declared.seats.Seats.TheVariants.{Readers, Service}
 use Rattle.engine_seats.specs.Seated.{target_of, handles_of, places_of as places_for, IsReady, IsSameTarget, KeepsRoom}
 use Rattle.open_handles.specs.declared.places.Places.{Places}
-use Rattle.open_handles.specs.Whole.{Whole, IsWhole, place_at, with_place, seats_at, is_told, HasRoom, IsReadyAt, IsReadyFor, IsReserved, KeepsTable}
+use Rattle.open_handles.specs.Whole.{IsRight, Whole, IsWhole, place_at, with_place, seats_at, is_told, HasRoom, IsReadyAt, IsReadyFor, IsReserved, KeepsTable}
 use Rattle.open_handles.proofs.Finds.{found_cases}
 use Rattle.open_handles.proofs.Standing.{with_found, with_other}
 use Rattle.open_handles.proofs.Turns.{whole_of, same_turned, turn_sites, turn_places, turn_records}
@@ -66,10 +64,10 @@ ready_fewer q es (Service s) ready = have_fewer q es s.handles s.spares ready
 -- ---- one place
 
 module _ (rows : Numbered Found) (p : Places) (whole : IsWhole (whole_of rows p)) (f : Found) (s t : Seats) (found : place_at f p ≡ Some s) (same : IsSameTarget s t)
-    (seated : AreSeated (is_directory (target_of t)) (number_of (target_of t)) (handles_of t)) (is : handles_of t ≡ handles_of s) (room : KeepsRoom s t) (places : places_for t ≡ places_for s) where
+    (right : IsRight t) (is : handles_of t ≡ handles_of s) (room : KeepsRoom s t) (places : places_for t ≡ places_for s) where
   pub reserved_here : IsReserved (whole_of rows p) (whole_of rows (with_place p f t))
   reserved_here = record {
-    handles = same_turned rows p whole f s t found same seated rows refl refl is;
+    handles = same_turned rows p whole f s t found same right rows refl refl is;
     sites = turn_sites p f s t found same rows rows;
     rows = refl;
     places = turn_places p f s t found same (omega (arith, places)) rows rows;

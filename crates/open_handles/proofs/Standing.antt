@@ -10,7 +10,7 @@ use Rattle.engine_targets.specs.Seated.{AreSeated}
 use Rattle.engine_seats.specs.declared.seats.Seats.{Seats}
 use Rattle.engine_seats.specs.Seated.{target_of, handles_of}
 use Rattle.open_handles.specs.declared.places.Places.{Places}
-use Rattle.open_handles.specs.Whole.{place_at, with_place, handles_on, handles_in_place, ArePlaced}
+use Rattle.open_handles.specs.Whole.{place_at, with_place, handles_on, handles_in_place, ArePlaced, HoldsWhatIsOwed, IsRight}
 use Rattle.open_handles.proofs.Finds.{some_is, found_cases}
 
 module _ {T : Type 0} where
@@ -75,13 +75,18 @@ module _ (p : Places) (f : Found) (s t : Seats) (placed : ArePlaced p) (found : 
   pub with_on : target_of t ≡ f
   with_on = target ∙ placed.on f s found
 
-  pub with_placed : ArePlaced (with_place p f t)
-  with_placed = record {
+  pub with_placed : HoldsWhatIsOwed t → ArePlaced (with_place p f t)
+  with_placed exact = record {
     objects_rise = with_objects_rise p f t placed.objects_rise;
     directories_rise = with_directories_rise p f t placed.directories_rise;
     on = λ g u at. by g u at (found_cases g f);
+    exact = λ g u at. held g u at (found_cases g f);
   }
     where
+      held : (g : Found) (u : Seats) → place_at g (with_place p f t) ≡ Some u → (g ≡ f) ⊎ (g ≡ f → ⊥) → HoldsWhatIsOwed u
+      held g u at (inl here) = subst HoldsWhatIsOwed (some_is t u (sym (subst (λ g. place_at g (with_place p f t) ≡ Some t) (sym here) (with_found p f s t found)) ∙ at)) exact
+      held g u at (inr other) = placed.exact g u (sym (with_other p g f t other) ∙ at)
+
       by : (g : Found) (u : Seats) → place_at g (with_place p f t) ≡ Some u → (g ≡ f) ⊎ (g ≡ f → ⊥) → target_of u ≡ g
       by g u at (inl here) = ap target_of (some_is u t (sym at ∙ subst (λ g. place_at g (with_place p f t) ≡ Some t) (sym here) (with_found p f s t found))) ∙ with_on ∙ sym here
       by g u at (inr other) = placed.on g u (sym (with_other p g f t other) ∙ at)
@@ -95,11 +100,11 @@ module _ (p : Places) (f : Found) (s t : Seats) (placed : ArePlaced p) (found : 
   pub with_elsewhere : (g : Found) → (g ≡ f → ⊥) → handles_on (with_place p f t) g ≡ handles_on p g
   with_elsewhere g other = ap handles_in_place (with_other p g f t other)
 
-  module _ (seated : AreSeated (is_directory (target_of t)) (number_of (target_of t)) (handles_of t)) (old : (g : Found) → AreSeated (is_directory g) (number_of g) (handles_on p g)) where
+  module _ (right : IsRight t) (old : (g : Found) → AreSeated (is_directory g) (number_of g) (handles_on p g)) where
     pub with_seated : (g : Found) → AreSeated (is_directory g) (number_of g) (handles_on (with_place p f t) g)
     with_seated g = by (found_cases g f)
       where
         by : (g ≡ f) ⊎ (g ≡ f → ⊥) → AreSeated (is_directory g) (number_of g) (handles_on (with_place p f t) g)
         by (inl here) = subst (λ g. AreSeated (is_directory g) (number_of g) (handles_on (with_place p f t) g)) (sym here)
-            (subst (AreSeated (is_directory f) (number_of f)) (sym with_handles) (subst (λ f. AreSeated (is_directory f) (number_of f) (handles_of t)) with_on seated))
+            (subst (AreSeated (is_directory f) (number_of f)) (sym with_handles) (subst (λ f. AreSeated (is_directory f) (number_of f) (handles_of t)) with_on right.seated))
         by (inr other) = subst (AreSeated (is_directory g) (number_of g)) (sym (with_elsewhere g other)) (old g)

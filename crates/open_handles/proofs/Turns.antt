@@ -19,7 +19,7 @@ use Rattle.engine_seats.specs.Seated.{target_of, handles_of, places_of as places
 use Rattle.open_handles.specs.declared.change.Change.{Change}
 use Rattle.open_handles.specs.declared.change.Change.TheVariants.{CatchUp, Pass, Park, Arm}
 use Rattle.open_handles.specs.declared.places.Places.{Places}
-use Rattle.open_handles.specs.Whole.{Whole, IsWhole, AreRowed, row_handle, place_at, with_place, handles_on, handles_in, handles_in_place, name_at, Site, site_of, KeepsSites, KeepsTable, KeepsPlaces, KeepsRecords, HasRoomAt, is_on, changed as changed_by}
+use Rattle.open_handles.specs.Whole.{IsRight, Whole, IsWhole, AreRowed, row_handle, place_at, with_place, handles_on, handles_in, handles_in_place, name_at, Site, site_of, KeepsSites, KeepsTable, KeepsPlaces, KeepsRecords, HasRoomAt, is_on, changed as changed_by}
 use Rattle.open_handles.proofs.Finds.{some_is, found_cases, NoneNumbered, none_found, change_none, without_none}
 use Rattle.open_handles.proofs.Rows.{found_in, changed, changed_rowed, closed, closed_rowed}
 use Rattle.open_handles.proofs.Comes.{opened, opened_rowed, below_at}
@@ -107,9 +107,9 @@ module _ (p : Places) (f : Found) (s t : Seats) (found : place_at f p ≡ Some s
       by (inr other) = room g u (sym (with_other p g f t other) ∙ at)
 
 module _ (rows : Numbered Found) (p : Places) (whole : IsWhole (whole_of rows p)) (f : Found) (s t : Seats) (found : place_at f p ≡ Some s) (same : IsSameTarget s t)
-    (seated : AreSeated (is_directory (target_of t)) (number_of (target_of t)) (handles_of t)) where
+    (right : IsRight t) where
   then_seated : (g : Found) → AreSeated (is_directory g) (number_of g) (handles_on (with_place p f t) g)
-  then_seated = with_seated p f s t whole.placed found same.target seated whole.rowed.seated
+  then_seated = with_seated p f s t whole.placed found same.target right whole.rowed.seated
 
   elsewhere : (g : Found) → (g ≡ f → ⊥) → handles_on (with_place p f t) g ≡ handles_on p g
   elsewhere = with_elsewhere p f s t whole.placed found same.target
@@ -125,13 +125,13 @@ module _ (rows : Numbered Found) (p : Places) (whole : IsWhole (whole_of rows p)
   module _ (more : Numbered Found) (entries : more.entries ≡ rows.entries) (next : more.next ≡ rows.next) (is : handles_of t ≡ handles_of s) where
     pub same_turned : handles_in (whole_of more (with_place p f t)) ≡ handles_in (whole_of rows p)
     same_turned =
-        let placed = with_placed p f s t whole.placed found same.target in
+        let placed = with_placed p f s t whole.placed found same.target right.exact in
         bare_handles (whole_of rows p) (whole_of more (with_place p f t)) whole f entries next (λ g other. with_other p g f t other) (here ∙ is ∙ sym before) placed.objects_rise placed.directories_rise
 
     pub same_turned_whole : IsWhole (whole_of more (with_place p f t))
     same_turned_whole =
-        let placed = with_placed p f s t whole.placed found same.target in
-        bare_whole (whole_of rows p) (whole_of more (with_place p f t)) whole f entries next (λ g other. with_other p g f t other) (here ∙ is ∙ sym before) placed.objects_rise placed.directories_rise (placed.on f)
+        let placed = with_placed p f s t whole.placed found same.target right.exact in
+        bare_whole (whole_of rows p) (whole_of more (with_place p f t)) whole f entries next (λ g other. with_other p g f t other) (here ∙ is ∙ sym before) placed.objects_rise placed.directories_rise (placed.on f) (placed.exact f)
 
   -- ---- one handle changes
 
@@ -146,7 +146,7 @@ module _ (rows : Numbered Found) (p : Places) (whole : IsWhole (whole_of rows p)
       pub turned_whole : IsWhole (whole_of rows (with_place p f t))
       turned_whole = record {
         rowed = changed_rowed (handles_on p) (handles_on (with_place p f t)) rows.entries rows.next whole.rowed n f under elsewhere change keeps is_changed then_seated;
-        placed = with_placed p f s t whole.placed found same.target;
+        placed = with_placed p f s t whole.placed found same.target right.exact;
       }
 
     -- ---- one handle leaves
@@ -162,7 +162,7 @@ module _ (rows : Numbered Found) (p : Places) (whole : IsWhole (whole_of rows p)
       left_whole = record {
         rowed = subst (λ m. AreRowed (handles_on (with_place p f t)) more.entries m) (sym next) (subst (λ es. AreRowed (handles_on (with_place p f t)) es rows.next) (sym entries)
             (closed_rowed (handles_on p) (handles_on (with_place p f t)) rows.entries rows.next whole.rowed n f under elsewhere is_closed then_seated));
-        placed = with_placed p f s t whole.placed found same.target;
+        placed = with_placed p f s t whole.placed found same.target right.exact;
       }
 
   -- ---- one handle comes
@@ -181,7 +181,7 @@ module _ (rows : Numbered Found) (p : Places) (whole : IsWhole (whole_of rows p)
     come_whole = record {
       rowed = subst (λ k. AreRowed (handles_on (with_place p f t)) more.entries k) (sym (next ∙ ap (λ k. k + 1) is_n)) (subst (λ es. AreRowed (handles_on (with_place p f t)) es (n + 1)) (sym are)
           (opened_rowed (handles_on p) (handles_on (with_place p f t)) rows.entries rows.next whole.rowed n f above elsewhere h numbered is_opened then_seated));
-      placed = with_placed p f s t whole.placed found same.target;
+      placed = with_placed p f s t whole.placed found same.target right.exact;
     }
 
 -- all in a place are lower than a number that comes
@@ -223,15 +223,14 @@ module _ (rows : Numbered Found) (p : Places) (whole : IsWhole (whole_of rows p)
   pub on_it : filter (is_on f) (handles_in (whole_of rows p)) ≡ handles_on p f
   on_it = those_on (handles_on p) rows.entries rows.next whole.rowed f
 
-  pub exact_here : (o : Option Seats) → o ≡ place_at f p → ((s : Seats) → o ≡ Some s → kept_of s ≡ longest_rest (is_directory (target_of s)) (number_of (target_of s)) (handles_of s))
-      → option_map_or kept_of (place_at f p) [] ≡ longest_rest (is_directory f) (number_of f) (handles_in (whole_of rows p))
-  exact_here o at law = by o at law ∙ sym (longest_on f (handles_in (whole_of rows p)) ∙ ap (longest_rest (is_directory f) (number_of f)) on_it)
+  pub exact_here : option_map_or kept_of (place_at f p) [] ≡ longest_rest (is_directory f) (number_of f) (handles_in (whole_of rows p))
+  exact_here = by (place_at f p) refl ∙ sym (longest_on f (handles_in (whole_of rows p)) ∙ ap (longest_rest (is_directory f) (number_of f)) on_it)
     where
-      by : (o : Option Seats) → o ≡ place_at f p → ((s : Seats) → o ≡ Some s → kept_of s ≡ longest_rest (is_directory (target_of s)) (number_of (target_of s)) (handles_of s)) → option_map_or kept_of (place_at f p) [] ≡ longest_rest (is_directory f) (number_of f) (handles_on p f)
-      by None at law = ap (λ o. option_map_or kept_of o []) (sym at) ∙ ap (λ o. longest_rest (is_directory f) (number_of f) (handles_in_place o)) at
-      by (Some s) at law =
-          let on : target_of s ≡ f = whole.placed.on f s (sym at) in
-          ap (λ o. option_map_or kept_of o []) (sym at) ∙ law s refl ∙ (λ i. longest_rest (is_directory (on i)) (number_of (on i)) (handles_in_place (at i)))
+      by : (o : Option Seats) → place_at f p ≡ o → option_map_or kept_of (place_at f p) [] ≡ longest_rest (is_directory f) (number_of f) (handles_on p f)
+      by None at = ap (λ o. option_map_or kept_of o []) at ∙ ap (λ o. longest_rest (is_directory f) (number_of f) (handles_in_place o)) (sym at)
+      by (Some s) at =
+          let on : target_of s ≡ f = whole.placed.on f s at in
+          ap (λ o. option_map_or kept_of o []) at ∙ whole.placed.exact f s at ∙ (λ i. longest_rest (is_directory (on i)) (number_of (on i)) (handles_in_place (sym at i)))
 
 pub opening_here : (rows : Numbered Found) (p : Places) (whole : IsWhole (whole_of rows p)) (n : ℕ) (f : Found) (s : Seats) (o : Option Opening) → value_under n rows.entries ≡ Some f → place_at f p ≡ Some s
     → option_map (opened_as (number_of (target_of s)) (name_of s)) o ≡ option_map as_opened (handle_at n (handles_of s))

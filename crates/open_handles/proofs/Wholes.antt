@@ -10,8 +10,10 @@ use Rattle.pps_types.specs.Rests.{Seen}
 use Rattle.pps_types.specs.WellFormed.{AreRising}
 use Rattle.number_table.specs.Numbered.{Entry as Numbering, Numbered, value_under}
 use Rattle.engine_seats.specs.declared.seats.Seats.{Seats}
-use Rattle.engine_seats.specs.Seated.{target_of, handles_of, places_of as places_for}
-use Rattle.open_handles.specs.Whole.{Whole, IsWhole, AreRowed, row_handle, handles_in, handles_at, seats_at, handles_in_place, handle_of_row, room_at, KeepsPlaces, KeepsRecords, HasRoomAt, Fresh, IsFresh, site_of}
+use Rattle.pps_types.specs.Owed.{longest_rest}
+use Rattle.engine_targets.specs.Opened.{is_directory, number_of}
+use Rattle.engine_seats.specs.Seated.{target_of, handles_of, kept_of, places_of as places_for}
+use Rattle.open_handles.specs.Whole.{Whole, IsWhole, HoldsWhatIsOwed, AreRowed, row_handle, handles_in, handles_at, seats_at, handles_in_place, handle_of_row, room_at, KeepsPlaces, KeepsRecords, HasRoomAt, Fresh, IsFresh, site_of}
 use Rattle.open_handles.proofs.Finds.{some_is, found_cases}
 use Rattle.open_handles.proofs.Comes.{under_push, under_new, under_none, rise_push}
 
@@ -37,6 +39,7 @@ module _ (old new : Whole) (rows : new.rows.entries ≡ old.rows.entries) (next 
       objects_rise = subst (λ m. AreRising 0 (map (λ (e : Numbering Seats). e.number) new.objects.entries) m) (sym next_object) (subst (λ es. AreRising 0 (map (λ (e : Numbering Seats). e.number) es) old.objects.next) (sym objects) w.placed.objects_rise);
       directories_rise = subst (λ m. AreRising 0 (map (λ (e : Numbering Seats). e.number) new.directories.entries) m) (sym next_directory) (subst (λ es. AreRising 0 (map (λ (e : Numbering Seats). e.number) es) old.directories.next) (sym directories) w.placed.directories_rise);
       on = λ f s at. w.placed.on f s (sym (same_seats f) ∙ at);
+      exact = λ f s at. w.placed.exact f s (sym (same_seats f) ∙ at);
     };
   }
 
@@ -106,17 +109,22 @@ module _ (old new : Whole) (whole : IsWhole old) (f : Found) (rows : new.rows.en
   pub bare_handles : handles_in new ≡ handles_in old
   bare_handles = ap (λ es. filter_map (handle_of_row new) es) rows ∙ same_filter (λ f. handles_at f old) (λ f. handles_at f new) old.rows.entries bare_at
 
-  pub bare_whole : ((s : Seats) → seats_at f new ≡ Some s → target_of s ≡ f) → IsWhole new
-  bare_whole on = record {
+  pub bare_whole : ((s : Seats) → seats_at f new ≡ Some s → target_of s ≡ f) → ((s : Seats) → seats_at f new ≡ Some s → HoldsWhatIsOwed s) → IsWhole new
+  bare_whole on exact = record {
     rowed = subst (λ m. AreRowed (λ f. handles_at f new) new.rows.entries m) (sym next) (subst (λ es. AreRowed (λ f. handles_at f new) es old.rows.next) (sym rows)
         (same_rowed (λ f. handles_at f old) (λ f. handles_at f new) old.rows.entries old.rows.next bare_at whole.rowed));
     placed = record {
       objects_rise = objects_rise;
       directories_rise = directories_rise;
       on = λ g s at. by g s at (found_cases g f);
+      exact = λ g s at. held g s at (found_cases g f);
     };
   }
     where
+      held : (g : Found) (s : Seats) → seats_at g new ≡ Some s → (g ≡ f) ⊎ (g ≡ f → ⊥) → HoldsWhatIsOwed s
+      held g s at (inl here) = exact s (subst (λ g. seats_at g new ≡ Some s) here at)
+      held g s at (inr other) = whole.placed.exact g s (sym (elsewhere g other) ∙ at)
+
       by : (g : Found) (s : Seats) → seats_at g new ≡ Some s → (g ≡ f) ⊎ (g ≡ f → ⊥) → target_of s ≡ g
       by g s at (inl here) = on s (subst (λ g. seats_at g new ≡ Some s) here at) ∙ sym here
       by g s at (inr other) = whole.placed.on g s (sym (elsewhere g other) ∙ at)
@@ -139,6 +147,10 @@ module _ (old new : Whole) (whole : IsWhole old) (f : Found) (rows : new.rows.en
 
 -- ---- a place comes
 
+-- without handles no records are to be held
+pub bare_exact : (s : Seats) → handles_of s ≡ [] → kept_of s ≡ [] → HoldsWhatIsOwed s
+bare_exact s bare empty = empty ∙ sym (ap (longest_rest (is_directory (target_of s)) (number_of (target_of s))) bare)
+
 pub record IsAdded (f : Found) (s : Seats) (old new : Whole) : Type 0 where
   pub whole : IsWhole new
   pub handles : handles_in new ≡ handles_in old
@@ -147,15 +159,16 @@ pub record IsAdded (f : Found) (s : Seats) (old new : Whole) : Type 0 where
   pub places : KeepsPlaces old new
   pub records : KeepsRecords old new
 
-added : (old new : Whole) (whole : IsWhole old) (f : Found) (s : Seats) → handles_of s ≡ [] → target_of s ≡ f → new.rows ≡ old.rows → seats_at f old ≡ None → seats_at f new ≡ Some s
+added : (old new : Whole) (whole : IsWhole old) (f : Found) (s : Seats) → handles_of s ≡ [] → kept_of s ≡ [] → target_of s ≡ f → new.rows ≡ old.rows → seats_at f old ≡ None → seats_at f new ≡ Some s
     → ((g : Found) → (g ≡ f → ⊥) → seats_at g new ≡ seats_at g old) → AreRising 0 (map (λ (e : Numbering Seats). e.number) new.objects.entries) new.objects.next → AreRising 0 (map (λ (e : Numbering Seats). e.number) new.directories.entries) new.directories.next → IsAdded f s old new
-added old new whole f s bare target rows fresh here elsewhere objects_rise directories_rise =
+added old new whole f s bare empty target rows fresh here elsewhere objects_rise directories_rise =
     let next : new.rows.next ≡ old.rows.next = ap (λ (t : Numbered Found). t.next) rows in
     let entries : new.rows.entries ≡ old.rows.entries = ap (λ (t : Numbered Found). t.entries) rows in
     let none : handles_at f old ≡ [] = ap handles_in_place fresh in
     let nobody : handles_at f new ≡ handles_at f old = ap handles_in_place here ∙ bare ∙ sym none in
     record {
-      whole = bare_whole old new whole f entries next elsewhere nobody objects_rise directories_rise (λ t at. ap target_of (some_is t s (sym at ∙ here)) ∙ target);
+      whole = bare_whole old new whole f entries next elsewhere nobody objects_rise directories_rise (λ t at. ap target_of (some_is t s (sym at ∙ here)) ∙ target)
+          (λ t at. subst HoldsWhatIsOwed (some_is s t (sym here ∙ at)) (bare_exact s bare empty));
       handles = bare_handles old new whole f entries next elsewhere nobody objects_rise directories_rise;
       here = here;
       others = elsewhere;
@@ -163,7 +176,7 @@ added old new whole f s bare target rows fresh here elsewhere objects_rise direc
       records = bare_records old new whole f entries next elsewhere nobody objects_rise directories_rise none;
     }
 
-module _ (rows : Numbered Found) (objects directories : Numbered Seats) (whole : IsWhole (record { rows = rows; objects = objects; directories = directories })) (n m : ℕ) (same : m ≡ n) (s : Seats) (bare : handles_of s ≡ []) (more : Numbered Seats) where
+module _ (rows : Numbered Found) (objects directories : Numbered Seats) (whole : IsWhole (record { rows = rows; objects = objects; directories = directories })) (n m : ℕ) (same : m ≡ n) (s : Seats) (bare : handles_of s ≡ []) (empty : kept_of s ≡ []) (more : Numbered Seats) where
   pub added_object : objects.next ≤ n → target_of s ≡ FoundObject n → more.entries ≡ objects.entries ++ record { number = m; value = s } ∷ [] → more.next ≡ m + 1
       → IsAdded (FoundObject n) s (record { rows = rows; objects = objects; directories = directories }) (record { rows = rows; objects = more; directories = directories })
   added_object above target entries next =
@@ -171,7 +184,7 @@ module _ (rows : Numbered Found) (objects directories : Numbered Seats) (whole :
       let new : Whole = record { rows = rows; objects = more; directories = directories } in
       let are : more.entries ≡ objects.entries ++ record { number = n; value = s } ∷ [] = entries ∙ ap (λ k. objects.entries ++ record { number = k; value = s } ∷ []) same in
       let goes : more.next ≡ n + 1 = next ∙ ap (λ k. k + 1) same in
-      added old new whole (FoundObject n) s bare target refl (object_fresh old new whole n s above are goes) (object_here old new whole n s above are goes) (object_elsewhere old new whole n s above are goes refl) (object_rises old new whole n s above are goes) whole.placed.directories_rise
+      added old new whole (FoundObject n) s bare empty target refl (object_fresh old new whole n s above are goes) (object_here old new whole n s above are goes) (object_elsewhere old new whole n s above are goes refl) (object_rises old new whole n s above are goes) whole.placed.directories_rise
 
   pub added_directory : directories.next ≤ n → target_of s ≡ FoundDirectory n → more.entries ≡ directories.entries ++ record { number = m; value = s } ∷ [] → more.next ≡ m + 1
       → IsAdded (FoundDirectory n) s (record { rows = rows; objects = objects; directories = directories }) (record { rows = rows; objects = objects; directories = more })
@@ -180,7 +193,7 @@ module _ (rows : Numbered Found) (objects directories : Numbered Seats) (whole :
       let new : Whole = record { rows = rows; objects = objects; directories = more } in
       let are : more.entries ≡ directories.entries ++ record { number = n; value = s } ∷ [] = entries ∙ ap (λ k. directories.entries ++ record { number = k; value = s } ∷ []) same in
       let goes : more.next ≡ n + 1 = next ∙ ap (λ k. k + 1) same in
-      added old new whole (FoundDirectory n) s bare target refl (directory_fresh old new whole n s above are goes) (directory_here old new whole n s above are goes) (directory_elsewhere old new whole n s above are goes refl) whole.placed.objects_rise (directory_rises old new whole n s above are goes)
+      added old new whole (FoundDirectory n) s bare empty target refl (directory_fresh old new whole n s above are goes) (directory_here old new whole n s above are goes) (directory_elsewhere old new whole n s above are goes refl) whole.placed.objects_rise (directory_rises old new whole n s above are goes)
 
 -- a new object comes
 pub added_fresh : (rows : Numbered Found) (objects directories : Numbered Seats) → IsWhole (record { rows = rows; objects = objects; directories = directories }) → (x : Fresh) (n m : ℕ) (s : Seats) → record { object = n; site = site_of s } ≡ x → IsFresh n s → m ≡ n → (more : Numbered Seats)
@@ -188,4 +201,4 @@ pub added_fresh : (rows : Numbered Found) (objects directories : Numbered Seats)
     → IsAdded (FoundObject x.object) s (record { rows = rows; objects = objects; directories = directories }) (record { rows = rows; objects = more; directories = directories })
 added_fresh rows objects directories whole x n m s is fresh same more above entries next =
     let at : n ≡ x.object = ap (λ (y : Fresh). y.object) is in
-    added_object rows objects directories whole x.object m (same ∙ at) s fresh.bare more above (fresh.on ∙ ap FoundObject at) entries next
+    added_object rows objects directories whole x.object m (same ∙ at) s fresh.bare fresh.empty more above (fresh.on ∙ ap FoundObject at) entries next

@@ -9,6 +9,7 @@ use Rattle.pps_types.specs.History.{Entry}
 use Rattle.pps_types.specs.Reading.{Open, reseen, visible}
 use Rattle.pps_types.specs.Plan.{caught_up, left}
 use Rattle.pps_types.specs.Rests.{Seen}
+use Rattle.pps_types.specs.Owed.{longest_rest}
 use Rattle.pps_types.specs.WellFormed.{AreRising}
 use Rattle.settling_laws.specs.Concerned.{is_on_object, is_on_directory}
 use Rattle.number_table.specs.Numbered.{Entry as Numbering, Numbered, value_under, value_at, with_value}
@@ -67,11 +68,21 @@ seats_at f w = place_at f (places_of w)
 abbrev pub handles_at : Found → Whole → List (Open Seen)
 handles_at f w = handles_on (places_of w) f
 
--- each is where it says, and no number of an object or a directory comes twice
+-- just those records are held for readers that have to be kept: the longest rest that a handle is owed
+abbrev pub HoldsWhatIsOwed : Seats → Type 0
+HoldsWhatIsOwed s = kept_of s ≡ longest_rest (is_directory (target_of s)) (number_of (target_of s)) (handles_of s)
+
+-- its handles are on it, and it holds what they are owed
+pub record IsRight (s : Seats) : Type 0 where
+  pub seated : AreSeated (is_directory (target_of s)) (number_of (target_of s)) (handles_of s)
+  pub exact : HoldsWhatIsOwed s
+
+-- each is where it says and holds what is owed, and no number of an object or a directory comes twice
 pub record ArePlaced (p : Places) : Type 0 where
   pub objects_rise : AreRising 0 (map (λ e. e.number) p.objects.entries) p.objects.next
   pub directories_rise : AreRising 0 (map (λ e. e.number) p.directories.entries) p.directories.next
   pub on : (f : Found) (s : Seats) → place_at f p ≡ Some s → target_of s ≡ f
+  pub exact : (f : Found) (s : Seats) → place_at f p ≡ Some s → HoldsWhatIsOwed s
 
 -- ---- the whole
 
@@ -101,10 +112,11 @@ pub record Fresh : Type 0 where
   pub object : ℕ
   pub site : Site
 
--- it is that object, without handles, and has room for one
+-- it is that object, without handles and records, and has room for one
 pub record IsFresh (object : ℕ) (s : Seats) : Type 0 where
   pub on : target_of s ≡ FoundObject object
   pub bare : handles_of s ≡ []
+  pub empty : kept_of s ≡ []
   pub room : 0 < places_for s
 
 -- a place where handles can be opened, if there is one

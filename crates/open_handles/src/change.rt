@@ -7,9 +7,8 @@ ghost use Rattle.pps_types.specs.Plan as planning;
 ghost use Rattle.pps_types.specs.Reading as reading;
 ghost use Rattle.pps_types.specs.Rests as rests;
 ghost use Rattle.engine_targets.specs.Opened.{opened, is_directory, number_of};
-ghost use Rattle.engine_targets.specs.Seated.{AreSeated};
 ghost use Rattle.engine_seats.specs.Seated.{target_of, name_of, handles_of, places_of, IsSameTarget, IsReady, IsEnough, KeepsRoom, Suits};
-ghost use Rattle.open_handles.specs.Whole.{changed};
+ghost use Rattle.open_handles.specs.Whole.{changed, IsRight};
 
 use engine_seats::Seats;
 use engine_servers::Shares;
@@ -36,7 +35,7 @@ pub(crate) fn change_in(seats: &mut Seats, number: Handle, change: Change)
     ensures same { IsSameTarget seats.old seats.new }
     ensures handles { handles_of seats.new ≡ planning.on_numbered number (changed change) (handles_of seats.old) }
     ensures places { places_of seats.new ≡ places_of seats.old }
-    ensures seated { AreSeated (is_directory (target_of seats.new)) (number_of (target_of seats.new)) (handles_of seats.new) }
+    ensures seated { IsRight seats.new }
 {
     match change {
         Change::CatchUp => seats.catch_up(number),
@@ -45,6 +44,7 @@ pub(crate) fn change_in(seats: &mut Seats, number: Handle, change: Change)
         Change::Arm(pulse) => seats.arm(number, pulse),
     }
     seats.handles_are_seated();
+    seats.is_exact();
 }
 
 /// Closes a handle in its place.
@@ -53,10 +53,11 @@ pub(crate) fn close_in(seats: &mut Seats, number: Handle)
     ensures handles { handles_of seats.new ≡ planning.without_number number (handles_of seats.old) }
     ensures room { KeepsRoom seats.old seats.new }
     ensures places { places_of seats.old ≤ places_of seats.new }
-    ensures seated { AreSeated (is_directory (target_of seats.new)) (number_of (target_of seats.new)) (handles_of seats.new) }
+    ensures seated { IsRight seats.new }
 {
     seats.close(number);
     seats.handles_are_seated();
+    seats.is_exact();
 }
 
 /// Makes room for one more handle in a place.
@@ -67,10 +68,11 @@ pub(crate) fn reserve_in(seats: &mut Seats) -> Result<(), AllocError>
     ensures places { OnOk result (0 < places_of seats.new) }
     ensures more { places_of seats.old ≤ places_of seats.new }
     ensures lacking { OnErr result (places_of seats.old ≡ 0) }
-    ensures seated { AreSeated (is_directory (target_of seats.new)) (number_of (target_of seats.new)) (handles_of seats.new) }
+    ensures seated { IsRight seats.new }
 {
     let made = seats.reserve_handle();
     seats.handles_are_seated();
+    seats.is_exact();
     made
 }
 
@@ -82,10 +84,11 @@ pub(crate) fn open_in(seats: &mut Seats, opening: Opening)
     ensures same { IsSameTarget seats.old seats.new }
     ensures handles { handles_of seats.new ≡ handles_of seats.old ++ reading.reseen (λ h. planning.first_seen h (reading.style h.kind)) (opened (number_of (target_of seats.old)) (name_of seats.old) opening) ∷ [] }
     ensures places { places_of seats.new + 1 ≡ places_of seats.old }
-    ensures seated { AreSeated (is_directory (target_of seats.new)) (number_of (target_of seats.new)) (handles_of seats.new) }
+    ensures seated { IsRight seats.new }
 {
     seats.open_reserved(opening);
     seats.handles_are_seated();
+    seats.is_exact();
 }
 
 /// Offers a record in a place, where there is room for it if handles are there.
@@ -96,14 +99,16 @@ pub(crate) fn offer_in(seats: &mut Seats, shares: Shares)
     ensures handles { handles_of seats.new ≡ map (planning.offer shares.entry) (handles_of seats.old) }
     ensures room { (entries : List Told) → 0 < length (handles_of seats.old) → IsReady (shares.entry ∷ entries) seats.old → IsReady entries seats.new }
     ensures places { places_of seats.new ≡ places_of seats.old }
-    ensures seated { AreSeated (is_directory (target_of seats.new)) (number_of (target_of seats.new)) (handles_of seats.new) }
+    ensures seated { IsRight seats.new }
 {
     if seats.is_empty() {
         seats.handles_are_seated();
+        seats.is_exact();
         return;
     }
     seats.offer(shares);
     seats.handles_are_seated();
+    seats.is_exact();
 }
 
 /// Makes room for records in a place.
@@ -113,9 +118,10 @@ pub(crate) fn reserve_records_in(seats: &mut Seats, entries: &[Entry]) -> Result
     ensures room { KeepsRoom seats.old seats.new }
     ensures places { places_of seats.new ≡ places_of seats.old }
     ensures ready { OnOk result (IsReady entries.now seats.new) }
-    ensures seated { AreSeated (is_directory (target_of seats.new)) (number_of (target_of seats.new)) (handles_of seats.new) }
+    ensures seated { IsRight seats.new }
 {
     let made = seats.reserve(entries);
     seats.handles_are_seated();
+    seats.is_exact();
     made
 }

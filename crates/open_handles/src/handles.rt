@@ -1,5 +1,5 @@
 //! All open handles.
-ghost use Rattle.std.specs.Prelude.{◌≡◌, ◌≢◌, ◌↔◌, ◌+◌, ◌<◌, ◌≤◌, ◌^◌, ◌∷◌, ◌++◌, [], Some, None, true, false, List, is_some, length, map, filter, IsTrue, IfOk, OnOk, OnErr, option_map, option_and_then};
+ghost use Rattle.std.specs.Prelude.{◌≡◌, ◌≢◌, ◌↔◌, ◌+◌, ◌<◌, ◌≤◌, ◌^◌, ◌∷◌, ◌++◌, ◌&&◌, nat_le, [], Some, None, true, false, List, is_some, length, map, filter, find, IsTrue, IfOk, IfSome, OnOk, OnErr, option_map, option_and_then};
 ghost use Rattle.std.specs.Option.{option_copied, option_map_or};
 ghost use Rattle.pps_types.specs.declared.found.Found.{Found as FoundAt};
 ghost use Rattle.pps_types.specs.declared.found.Found.TheVariants.{Object as FoundObject, Directory as FoundDirectory};
@@ -12,6 +12,7 @@ ghost use Rattle.pps_types.specs.Reading as reading;
 ghost use Rattle.pps_types.specs.Rests as rests;
 ghost use Rattle.pps_types.specs.Owed as owing;
 ghost use Rattle.pps_types.specs.Content as content;
+ghost use Rattle.pps_types.specs.Checks as checking;
 ghost use Rattle.pps_types.specs.Names.{refusal_of};
 ghost use Rattle.pps_types.specs.declared.refusal.Refusal.TheVariants.{OutOfMemory};
 ghost use Rattle.engine_targets.specs.Woken as waking;
@@ -66,8 +67,8 @@ fn row_of(found: &Found) -> Found
 /// none and cannot fail.
 #[derive(Drop)]
 pub struct Handles {
-    rows: Table<Found>,
-    places: Places,
+    pub(crate) rows: Table<Found>,
+    pub(crate) places: Places,
 }
 
 impl Model for Handles {
@@ -422,6 +423,40 @@ impl Handles {
         }
     }
 
+    /// Whether the server's handle on a server object, if it is open, is owed as many messages of a client as its limit.
+    pub fn is_server_full(&self, object: ObjId, server: Handle, client: Handle) -> bool
+        ensures { IfSome (site_at (FoundObject object) self.now) (λ s. s.service ≡ true
+            → result ≡ option_map_or (λ (h : reading.Open rests.Seen). nat_le h.limit (checking.count_owed (checking.is_message_of client) h)) (handle_at server (handles_at (FoundObject object) self.now)) false) }
+    {
+        match self.places.get(Found::Object(object)) {
+            None => false,
+            Some(seats) => seats.is_server_full(server, client),
+        }
+    }
+
+    /// Whether a client's handle on a server object, if it is open, is owed as many messages of its server as its limit.
+    pub fn is_client_full(&self, object: ObjId, client: Handle) -> bool
+        ensures { IfSome (site_at (FoundObject object) self.now) (λ s. s.service ≡ true
+            → result ≡ option_map_or (λ (h : reading.Open rests.Seen). nat_le h.limit (checking.count_owed checking.is_server_message h)) (handle_at client (handles_at (FoundObject object) self.now)) false) }
+    {
+        match self.places.get(Found::Object(object)) {
+            None => false,
+            Some(seats) => seats.is_client_full(client),
+        }
+    }
+
+    /// The first client on a server object, in rising number, that is owed as many messages of its server as its limit. It
+    /// looks at the handles on that object alone.
+    pub fn full_client(&self, object: ObjId) -> Option<Handle>
+        ensures { IfSome (site_at (FoundObject object) self.now) (λ s. s.service ≡ true
+            → result ≡ option_map (λ (h : reading.Open rests.Seen). h.number) (find (λ (h : reading.Open rests.Seen). checking.is_client h.kind && nat_le h.limit (checking.count_owed checking.is_server_message h)) (handles_at (FoundObject object) self.now))) }
+    {
+        match self.places.get(Found::Object(object)) {
+            None => None,
+            Some(seats) => seats.full_client(),
+        }
+    }
+
     // Whom records wake of the handles on an object or a directory.
     fn woken_at(
         &self,
@@ -492,14 +527,21 @@ impl Handles {
         let _count = self.rows.len();
     }
 
-    /// Does nothing. Its contract is the law that just those records are held for the readers of an object or a directory that
+    /// Does nothing. Its contract is the law that just those records are held for the readers of each object and directory that
     /// have to be kept: the longest rest that a handle on it is owed.
-    pub fn is_exact(&self, found: Found)
-        ensures { kept_at found self.now ≡ owing.longest_rest (is_directory found) (number_of found) (handles_in self.now) }
+    pub fn is_exact(&self)
+        ensures { (f : FoundAt) → kept_at f self.now ≡ owing.longest_rest (is_directory f) (number_of f) (handles_in self.now) }
+    {
+        let _count = self.rows.len();
+    }
+
+    /// How many records are held for the readers of an object or a directory.
+    pub fn kept(&self, found: Found) -> usize
+        ensures { result ≡ length (kept_at found self.now) }
     {
         match self.places.get(found) {
-            None => {}
-            Some(seats) => seats.is_exact(),
+            None => 0,
+            Some(seats) => seats.kept(),
         }
     }
 

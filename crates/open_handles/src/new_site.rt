@@ -1,7 +1,7 @@
 //! An object that is to be added.
 ghost use Rattle.std.specs.Prelude.{◌≡◌, [], IfOk};
 ghost use Rattle.pps_types.specs.declared.found.Found.TheVariants.{Object as FoundObject};
-ghost use Rattle.engine_seats.specs.Seated.{target_of, name_of, handles_of, is_service};
+ghost use Rattle.engine_seats.specs.Seated.{target_of, name_of, handles_of, kept_of, is_service};
 
 use engine_seats::Seats;
 use pps_types::{Bytes, ObjId};
@@ -13,6 +13,7 @@ fn seats_of(alloc: Global, object: ObjId, name: Bytes, is_served: bool) -> Seats
     ensures target { target_of result ≡ FoundObject object }
     ensures name { name_of result ≡ name }
     ensures handles { handles_of result ≡ [] }
+    ensures kept { kept_of result ≡ [] }
     ensures service { is_service result ≡ is_served }
 {
     if is_served {

@@ -1,7 +1,5 @@
 //! Queued items, armed pulses and parked reads.
 
-mod random;
-
 use crate::samples::shared;
 use notify_box::Outbox;
 use pps_types::{Handle, Item, Refusal, SharedBytes};

@@ -1,5 +1,5 @@
 //! Tests of the parts that the service is made of, or will be, by their public calls: with ample memory, what they answer
-//! at the edges, beside plain lists, and devices whose calls fail.
+//! at the edges, and devices whose calls fail.
 #![tactic(auto)]
 
 #[cfg(test)]

@@ -1,7 +1,5 @@
 //! The attributes of one object.
 
-mod random_writes;
-
 use crate::samples::{deletion, set_line};
 use attr_text::read_write;
 use object_state::{AttributeRef, Object};

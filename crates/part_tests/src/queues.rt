@@ -1,7 +1,5 @@
 //! What servers and clients are owed.
 
-mod random;
-
 use crate::samples::{bytes, one_line, record_of, set_line};
 use pps_types::{Handle, Kind, Lines, Refusal};
 use server_queue::{Entry, Queue, Sender};

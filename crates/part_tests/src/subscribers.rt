@@ -1,6 +1,5 @@
 //! What subscribers are owed and given, by a small engine of one chain.
 
-mod random;
 mod topic;
 
 use crate::samples::{deletion, one_line, record_of, set_line};

@@ -1,5 +1,5 @@
 use Rattle.std.specs.Prelude.{◌≡◌, IfSome}
-use Rattle.std.proofs.Common.{◌∙◌, ap, subst}
+use Rattle.std.proofs.Common.{subst}
 use Rattle.pps_types.specs.Content.{news}
 use Rattle.open_handles.specs.Whole.{Whole, handles_in}
 use Rattle.handle_requests.proofs.Owns.{own_among, own_news}

@@ -1,5 +1,5 @@
 use Rattle.std.specs.Prelude.{◌≡◌, is_some, IfSome}
-use Rattle.std.proofs.Common.{◌∙◌, ap, subst}
+use Rattle.std.proofs.Common.{subst}
 use Rattle.open_handles.specs.Whole.{Whole, handles_in}
 use Rattle.handle_requests.proofs.Owns.{own_among, own_parked}
 use Rattle.handle_requests.proofs.own.is_parked.Goals as goal

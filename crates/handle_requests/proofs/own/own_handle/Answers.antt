@@ -1,13 +1,9 @@
-use Rattle.std.specs.Prelude.{◌≡◌, ℕ, Some, None, option_map}
+use Rattle.std.specs.Prelude.{◌≡◌, Some, None, option_map}
 use Rattle.std.proofs.Common.{sym, ◌∙◌, ap, subst}
-use Rattle.pps_types.specs.Reading.{Open}
-use Rattle.pps_types.specs.Content as content
 use Rattle.engine_targets.specs.Opened.{opened, as_opened, number_of}
 use Rattle.open_handles.specs.Whole.{Whole, handles_in, name_at}
 use Rattle.open_handles.specs.declared.handles.Opened.{Opened as OpenedAs}
-use Rattle.engine_tables.specs.Tables.{content_in}
 use Rattle.handle_requests.proofs.Owns.{own_among, alike, unlike, opened_none, opened_other, opened_here}
-use Rattle.handle_requests.specs.Own.{opened_as}
 use Rattle.handle_requests.proofs.own.own_handle.Goals as goal
 
 pub returns-in_default : goal.returns-in_default

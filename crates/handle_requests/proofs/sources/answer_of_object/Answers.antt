@@ -1,4 +1,4 @@
-use Rattle.std.specs.Prelude.{◌≡◌, ◌∷◌, [], ℕ, Bool, false, Option, Some, None, is_some, map, option_map, IfSome}
+use Rattle.std.specs.Prelude.{◌≡◌, ◌∷◌, [], Bool, false, Option, Some, None, is_some, map, option_map, IfSome}
 use Rattle.std.specs.Option.{option_copied, option_map_or}
 use Rattle.std.proofs.Common.{Bor, refl, ◌∙◌, sym, ap, subst}
 use Rattle.pps_types.specs.Reading.{Open}
@@ -9,7 +9,6 @@ use Rattle.engine_targets.specs.Opened.{handle_at}
 use Rattle.open_handles.specs.Whole.{Whole, handles_in, name_at}
 use Rattle.engine_names.specs.Standing.{Named, known_of, standing_of, content_of}
 use Rattle.engine_tables.specs.Tables.{content_in}
-use Rattle.engine_texts.specs.Whole.{Source}
 use Rattle.handle_requests.specs.Reads.{IsReader}
 use Rattle.handle_requests.proofs.Answered.{object_reader}
 use Rattle.handle_requests.proofs.sources.answer_of_object.Goals as goal

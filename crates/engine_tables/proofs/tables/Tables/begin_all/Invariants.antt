@@ -3,6 +3,7 @@ use Rattle.std.specs.List.{flat_map, list_all}
 use Rattle.pps_types.specs.Plan as planning
 use Rattle.pps_types.specs.declared.found.Found.{Found}
 use Rattle.engine_targets.specs.declared.opening.Opening.{Opening}
+use Rattle.open_handles.specs.Whole.{KeepsSites}
 use Rattle.engine_tables.specs.Beginning.{moves_of, AreReady, is_keeping}
 use Rattle.engine_tables.specs.Tables.{content_in}
 use Rattle.engine_tables.specs.Tied.{CanOpen}
@@ -13,4 +14,5 @@ invariant-beginning l = record {
   moved : planning.apply_all_seen (flat_map moves_of l.each-iterator.rest.items) (content_in l.self) ≡ planning.apply_all_seen (flat_map moves_of l.fn.beginning.items) (content_in l.initial.self);
   ready : AreReady l.each-iterator.rest.items l.self;
   opens : (f : Found) (o : Opening) → list_all is_keeping l.fn.beginning.items ≡ true → CanOpen f o l.initial.self → CanOpen f o l.self × (list_all is_keeping l.each-iterator.rest.items ≡ true);
+  sites : list_all is_keeping l.fn.beginning.items ≡ true → KeepsSites l.initial.self.handles l.self.handles × (list_all is_keeping l.each-iterator.rest.items ≡ true);
 }

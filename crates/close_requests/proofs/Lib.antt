@@ -1,0 +1,4 @@
+pub mod Orphans
+pub mod Begins
+pub mod Plans
+pub mod Readied

@@ -1,0 +1,57 @@
+//! The room for what closing handles begin with.
+ghost use Rattle.std.specs.Prelude.{◌≡◌, ◌⊎◌, ◌++◌, true, false, length, IfErr, OnOk};
+ghost use Rattle.std.specs.List.{AllByRecursion, list_all};
+ghost use Rattle.pps_types.specs.declared.refusal.Refusal.TheVariants.{OutOfMemory, TableFull};
+ghost use Rattle.settling_laws.specs.Targets.{last_number_passed};
+ghost use Rattle.engine_tables.specs.Beginning.{CanBeginAll, AreReady, IsSharedBy, entries_in, is_plain};
+ghost use Rattle.engine_tables.specs.Tables.{content_in};
+
+use crate::gathering::entries_in;
+use engine_tables::{Beginning, Tables};
+use pps_types::Refusal;
+use std::alloc::Global;
+
+/// Does nothing. Its contract is the law that no number is past the last.
+pub fn numbers_are_within(tables: &Tables)
+    ensures { last_number_passed (content_in tables.now) 0 0 0 ≡ false }
+{
+    let _records = tables.records();
+    let _next_object = tables.names().next_object();
+    let _next_directory = tables.names().next_directory();
+}
+
+// Whether so many more records would pass the last number.
+fn passes_last_number(tables: &Tables, records: usize) -> bool
+    ensures { result ≡ last_number_passed (content_in tables.now) records 0 0 }
+{
+    let _next_object = tables.names().next_object();
+    let _next_directory = tables.names().next_directory();
+    (records as u64) > u64::MAX - tables.records()
+}
+
+/// Takes the memory for what an event begins with, where no record changes attributes by lines. What stands stays.
+///
+/// It is TableFull where the records would pass the last number, and else OutOfMemory is the only error.
+pub fn begin_ready(
+    tables: &mut Tables,
+    alloc: Global,
+    beginning: &[Beginning],
+) -> Result<(), Refusal>
+    requires able { CanBeginAll (content_in tables.old) beginning.now }
+    requires plain { list_all is_plain beginning.now ≡ true }
+    requires shared { AllByRecursion (IsSharedBy tables.old.handles) beginning.now }
+    ensures content { content_in tables.new ≡ content_in tables.old }
+    ensures names { tables.new.names ≡ tables.old.names }
+    ensures ready { OnOk result (AreReady beginning.now tables.new) }
+    ensures within { OnOk result (last_number_passed (content_in tables.old) (length (entries_in beginning.now)) 0 0 ≡ false) }
+    ensures err { IfErr result (λ r. (r ≡ OutOfMemory) ⊎ ((r ≡ TableFull) × (last_number_passed (content_in tables.old) (length (entries_in beginning.now)) 0 0 ≡ true))) }
+{
+    tables.handles().handles_are_placed();
+    let entries = entries_in(alloc, beginning)?;
+    if passes_last_number(tables, entries.len()) {
+        return Err(Refusal::TableFull);
+    }
+    tables.records_ready(&entries)?;
+    tables.handles().handles_are_placed();
+    Ok(())
+}

@@ -1,0 +1,147 @@
+//! Everything of a directory. Its length is told before any memory is taken.
+ghost use Rattle.std.specs.Prelude.{◌≡◌, ◌≢◌, ◌≤◌, ◌++◌, ◌^◌, true, false, Some, length, map, IfOk, IfSome, IfNone};
+ghost use Rattle.std.specs.Option.{option_copied};
+ghost use Rattle.std.specs.List.{filter_map};
+ghost use Rattle.pps_types.specs.Names.{refusal_of};
+ghost use Rattle.pps_types.specs.Reading as reading;
+ghost use Rattle.pps_types.specs.Content.{member};
+ghost use Rattle.pps_types.specs.declared.refusal.Refusal.TheVariants.{OutOfMemory};
+ghost use Rattle.engine_names.specs.Standing.{known_of};
+ghost use Rattle.engine_texts.specs.Whole.{everything, print_one, print_opening};
+ghost use Rattle.engine_texts.specs.Answered.{answer_by, meant, refusal_in};
+ghost use Rattle.handle_requests.specs.Directories.{parts_of, directory_source};
+ghost use Rattle.handle_requests.specs.Reads.{takes_memory};
+
+use engine_names::{NamedObject, Objects};
+use engine_texts::{Answer, Fitted, Member, Whole, read_answer, too_small};
+use pps_filter::Filter;
+use pps_types::{HandleKind, Refusal};
+use std::alloc::{AllocError, Global};
+
+// An alive object.
+fn member_of(object: &NamedObject) -> Member<'_>
+    ensures { result ≡ member (known_of object.now) }
+{
+    Member::alive(object.name(), object.attributes())
+}
+
+// The length of an object's part of everything.
+fn part_len(kind: HandleKind, filter: Option<&Filter>, object: &NamedObject) -> Option<usize>
+    requires { reading.is_directory_kind kind ≡ true }
+    ensures some { IfSome result (λ len. len ≡ length (print_one kind (option_copied filter.entry) false true (member (known_of object.now)))) }
+    ensures none { IfNone result (2 ^ 64 ≤ length (print_one kind (option_copied filter.entry) false true (member (known_of object.now)))) }
+{
+    let members = [member_of(object)];
+    Whole::new(kind, filter, false, true, &members).len()
+}
+
+// The length of the parts of all objects.
+fn parts_len(kind: HandleKind, filter: Option<&Filter>, objects: &Objects<'_>) -> Option<usize>
+    requires { reading.is_directory_kind kind ≡ true }
+    ensures some { IfSome result (λ len. len ≡ length (parts_of kind (option_copied filter.entry) objects.now)) }
+    ensures none { IfNone result (2 ^ 64 ≤ length (parts_of kind (option_copied filter.entry) objects.now)) }
+{
+    let mut total: usize = 0;
+    'places: for place in 0..objects.len() {
+        if let Some(object) = objects.get(place) {
+            let len = part_len(kind, filter, object)?;
+            total = total.checked_add(len)?;
+        }
+    }
+    Some(total)
+}
+
+// The length of what stands before the parts.
+fn opening_len(kind: HandleKind, filter: Option<&Filter>, over: bool) -> Option<usize>
+    requires { reading.is_directory_kind kind ≡ true }
+    ensures some { IfSome result (λ len. len ≡ length (print_opening kind over)) }
+    ensures none { IfNone result (2 ^ 64 ≤ length (print_opening kind over)) }
+{
+    Whole::new(kind, filter, over, true, &[]).len()
+}
+
+// How many bytes everything has, where that is a number of 64 bits. It takes no memory.
+fn everything_len(
+    kind: HandleKind,
+    filter: Option<&Filter>,
+    over: bool,
+    objects: &Objects<'_>,
+) -> Option<usize>
+    requires { reading.is_directory_kind kind ≡ true }
+    ensures some { IfSome result (λ len. len ≡ length (everything (directory_source kind (option_copied filter.entry) over objects.now))) }
+    ensures none { IfNone result (2 ^ 64 ≤ length (everything (directory_source kind (option_copied filter.entry) over objects.now))) }
+{
+    let opening = opening_len(kind, filter, over)?;
+    let parts = parts_len(kind, filter, objects)?;
+    opening.checked_add(parts)
+}
+
+// All objects, in their order.
+fn members_of<'a>(alloc: Global, objects: &Objects<'a>) -> Result<Vec<Member<'a>>, AllocError>
+    ensures { IfOk result (λ members. members.items ≡ map member (filter_map (λ o. o) objects.now)) }
+{
+    let mut members = Vec::new(alloc);
+    'places: for place in 0..objects.len() {
+        if let Some(object) = objects.get(place) {
+            members.push(member_of(object))?;
+        }
+    }
+    Ok(members)
+}
+
+// Everything, where at most so many bytes are read. It is TooSmall, with the size, where it does not fit, before any memory
+// is taken; else OutOfMemory is the only error.
+fn everything_of(
+    alloc: Global,
+    kind: HandleKind,
+    filter: Option<&Filter>,
+    over: bool,
+    objects: &Objects<'_>,
+    size: u32,
+) -> Result<Vec<u8>, Refusal>
+    requires { reading.is_directory_kind kind ≡ true }
+    ensures ok { IfOk result (λ given. reading.Everything given.items ≡ reading.whole_answer (everything (directory_source kind (option_copied filter.entry) over objects.now)) size) }
+    ensures refusal { refusal_of result ≢ Some OutOfMemory → refusal_of result ≡ refusal_in (reading.whole_answer (everything (directory_source kind (option_copied filter.entry) over objects.now)) size) }
+    ensures memory { refusal_of result ≡ Some OutOfMemory → takes_memory (reading.whole_answer (everything (directory_source kind (option_copied filter.entry) over objects.now)) size) ≡ true }
+{
+    let Some(len) = everything_len(kind, filter, over, objects) else {
+        return Err(Refusal::OutOfMemory);
+    };
+    if len > size as usize {
+        return Err(too_small(len));
+    }
+    let members = members_of(alloc, objects)?;
+    Whole::new(kind, filter, over, true, &members).answer(alloc, size)
+}
+
+/// What a read of a directory answers by what is owed: everything where no blocks are lent, and else the blocks, or where
+/// there are none, that the read waits, if such reads wait, or nothing.
+///
+/// It is TooSmall, with the size, where everything does not fit, before any memory is taken; else OutOfMemory is the only
+/// error, where everything is to be given.
+pub(crate) fn answer_of(
+    alloc: Global,
+    kind: HandleKind,
+    filter: Option<&Filter>,
+    over: bool,
+    objects: &Objects<'_>,
+    waits: bool,
+    size: u32,
+    owed: Option<Fitted>,
+) -> Result<Answer, Refusal>
+    requires { reading.is_directory_kind kind ≡ true }
+    ensures ok { IfOk result (λ a. meant a ≡ answer_by (directory_source kind (option_copied filter.entry) over objects.now) waits size owed) }
+    ensures refusal { refusal_of result ≢ Some OutOfMemory → refusal_of result ≡ refusal_in (answer_by (directory_source kind (option_copied filter.entry) over objects.now) waits size owed) }
+    ensures memory { refusal_of result ≡ Some OutOfMemory → takes_memory (answer_by (directory_source kind (option_copied filter.entry) over objects.now) waits size owed) ≡ true }
+{
+    match owed {
+        None => match everything_of(alloc, kind, filter, over, objects, size) {
+            Err(refusal) => Err(refusal),
+            Ok(text) => Ok(Answer::Everything(text)),
+        },
+        Some(owed) => {
+            let whole = Whole::new(kind, filter, over, true, &[]);
+            read_answer(alloc, &whole, waits, size, Some(owed))
+        }
+    }
+}

@@ -1,0 +1,10 @@
+pub mod Places
+pub mod Refusing
+pub mod Going
+pub mod Counted
+pub mod Carried
+pub mod Readied
+pub mod Among
+pub mod Passing
+pub mod Deciding
+pub mod Stepped

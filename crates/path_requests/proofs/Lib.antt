@@ -1,0 +1,3 @@
+pub mod Checked
+pub mod Gone
+pub mod Deleted

@@ -1,0 +1,59 @@
+//! Listing a directory.
+ghost use Rattle.std.specs.Prelude.{◌≡◌, ◌++◌, [], None, map, IfOk, IfErr, OnOk};
+ghost use Rattle.std.specs.List.{concat};
+ghost use Rattle.pps_types.specs.declared.event.Request.TheVariants.{List as ListRequest};
+ghost use Rattle.pps_types.specs.Checks as checking;
+ghost use Rattle.pps_types.specs.Plan as planning;
+ghost use Rattle.engine_tables.specs.Tables.{content_in};
+ghost use Rattle.handle_requests.specs.Refused.{Fails};
+ghost use Rattle.path_requests.specs.Listed.{line_listed};
+
+use crate::paths::read_names;
+use alloc_tree::Member;
+use engine_names::{members_are_listed, questions_are_told};
+use engine_tables::Tables;
+use pps_types::{Bytes, Conn, Found, Outcome, Refusal, SharedBytes};
+use std::alloc::{AllocError, Global};
+
+// Puts a member's name behind a text, with `/` where it is a directory's, and a line feed.
+fn put_name(text: &mut Vec<u8>, member: &Member<Global>) -> Result<(), AllocError>
+    ensures { OnOk result (text.new.items ≡ text.old.items ++ line_listed member.now) }
+{
+    text.extend_from_slice(member.name())?;
+    match member.found() {
+        Found::Object(_) => {}
+        Found::Directory(_) => text.push(b'/')?,
+    }
+    text.push(b'\n')?;
+    Ok(())
+}
+
+// The names of members, each in a line.
+fn names_listed(alloc: Global, members: &[Member<Global>]) -> Result<Vec<u8>, AllocError>
+    ensures { IfOk result (λ text. text.items ≡ concat (map line_listed members.now)) }
+{
+    let mut text = Vec::new(alloc);
+    'members: for member in members {
+        put_name(&mut text, member)?;
+    }
+    Ok(text)
+}
+
+/// The names of what stands directly in the directory at a path, a directory's with `/` behind it, in byte order, each in a
+/// line. What stands stays.
+///
+/// It is BadPath where the text is no path, NotFound where nothing stands there, and NotDirectory where an object stands there
+/// or on the way. Else OutOfMemory is the only error.
+pub fn list(tables: &Tables, alloc: Global, conn: Conn, path: &Bytes) -> Result<Outcome, Refusal>
+    ensures passes { OnOk result (checking.first_refusal (checking.request_checks (content_in tables.now) conn (ListRequest path.now)) ≡ None) }
+    ensures does { IfOk result (λ outcome. planning.effect (content_in tables.now) conn (ListRequest path.now) ≡ (outcome, [])) }
+    ensures err { IfErr result (λ r. Fails (checking.request_checks (content_in tables.now) conn (ListRequest path.now)) r) }
+{
+    members_are_listed();
+    questions_are_told();
+    let names = read_names(alloc, path)?;
+    let members = tables.names().members(&names)?;
+    let text = names_listed(alloc, &members)?;
+    let data = SharedBytes::new(alloc, text)?;
+    Ok(Outcome::Data(data))
+}

@@ -1,0 +1,178 @@
+//! Removing what stands at a path.
+ghost use Rattle.std.specs.Prelude.{◌≡◌, ◌⊎◌, None, Some, Ok, [], not, true, false, is_some, length, map, option_map, IfOk, IfErr, OnOk};
+ghost use Rattle.std.specs.Option.{option_map_or};
+ghost use Rattle.std.specs.List.{AllByRecursion};
+ghost use Rattle.pps_types.specs.declared.event.Request.TheVariants.{Unlink};
+ghost use Rattle.pps_types.specs.declared.outcome.Outcome.TheVariants.{Done};
+ghost use Rattle.pps_types.specs.declared.record.Kind.TheVariants.{Deleted};
+ghost use Rattle.pps_types.specs.declared.found.Found.TheVariants.{Directory as FoundDirectory};
+ghost use Rattle.pps_types.specs.Bytes.{is_empty};
+ghost use Rattle.pps_types.specs.Names as names;
+ghost use Rattle.pps_types.specs.Content as content;
+ghost use Rattle.pps_types.specs.Checks as checking;
+ghost use Rattle.pps_types.specs.Plan as planning;
+ghost use Rattle.pps_types.specs.WellFormed.{IsContent};
+ghost use Rattle.engine_names.specs.Listed.{objects_at};
+ghost use Rattle.engine_tables.specs.Beginning.{IsSharedBy};
+ghost use Rattle.engine_tables.specs.Tables.{content_in};
+ghost use Rattle.handle_requests.specs.Refused.{Fails, all_request_checks};
+ghost use Rattle.close_requests.specs.Begun.{bare, telling};
+ghost use Rattle.path_requests.specs.Removed.{moves_in, IsReady};
+
+use crate::paths::read_names;
+use close_requests::{begin_ready, numbers_are_within, record_of, tell};
+use engine_names::questions_are_told;
+use engine_tables::{Beginning, Tables};
+use pps_types::{Bytes, Conn, DirId, Found, Kind, ObjId, Refusal};
+use settling_laws::events_are_settled;
+use std::alloc::{AllocError, Global};
+
+/// What an Unlink removes.
+#[derive(Drop)]
+pub enum Unlinked {
+    /// An object is deleted, and its record is told.
+    Object(Vec<Beginning>),
+    /// A directory in which nothing stands.
+    Directory(DirId),
+}
+
+// Whether the object of that number is a server's.
+fn is_served(tables: &Tables, object: ObjId) -> bool
+    ensures { result ≡ option_map_or (λ (o : content.Known). is_some o.object.server) (content.object_numbered (content_in tables.now) object) false }
+{
+    match tables.names().object(object) {
+        None => false,
+        Some(known) => known.server().is_some(),
+    }
+}
+
+// Whether an object stands directly in the directory at a path.
+fn has_objects(tables: &Tables, path: &[Bytes]) -> bool
+    ensures { result ≡ not (is_empty (objects_at (content_in tables.now) path.now)) }
+{
+    tables.names().objects_in(path) > 0
+}
+
+// Whether a directory stands directly in the one at a path.
+fn has_directories(tables: &Tables, path: &[Bytes]) -> bool
+    ensures { result ≡ not (is_empty (content.subdirectories (content_in tables.now) path.now)) }
+{
+    tables.names().directories_in(path) > 0
+}
+
+// Whether a handle is on a directory.
+fn is_used(tables: &Tables, directory: DirId) -> bool
+    ensures { result ≡ content.has_directory_handle (content_in tables.now) directory }
+{
+    tables.handles().has_handles(Found::Directory(directory))
+}
+
+// Whether the directory at a path may be removed.
+fn check_directory(tables: &Tables, path: &[Bytes], directory: DirId) -> Result<(), Refusal>
+    requires { option_map (λ (d : content.Directory). d.number) (content.directory_at (content_in tables.now) path.now) ≡ Some directory }
+    ensures { names.refusal_of result ≡ checking.first_refusal (checking.unlink_found (content_in tables.now) path.now (FoundDirectory directory)) }
+{
+    if has_objects(tables, path) {
+        return Err(Refusal::NotEmpty);
+    }
+    if has_directories(tables, path) {
+        return Err(Refusal::NotEmpty);
+    }
+    if is_used(tables, directory) {
+        return Err(Refusal::Busy);
+    }
+    Ok(())
+}
+
+// Whether what is found at a path may be removed.
+fn check_found(tables: &Tables, path: &[Bytes], found: Found) -> Result<(), Refusal>
+    requires { content.at (content_in tables.now) path.now ≡ Some found }
+    ensures { names.refusal_of result ≡ checking.first_refusal (checking.unlink_found (content_in tables.now) path.now found) }
+{
+    match found {
+        Found::Directory(directory) => check_directory(tables, path, directory),
+        Found::Object(object) => {
+            if is_served(tables, object) {
+                return Err(Refusal::Busy);
+            }
+            Ok(())
+        }
+    }
+}
+
+// What stands at a path.
+fn find(tables: &Tables, path: &[Bytes]) -> Result<Found, Refusal>
+    ensures { result ≡ names.find_at (content.at (content_in tables.now)) path.now }
+{
+    questions_are_told();
+    tables.names().find(path)
+}
+
+// Whether what stands at a path may be removed.
+fn check_unlink(tables: &Tables, path: &[Bytes]) -> Result<(), Refusal>
+    ensures { names.refusal_of result ≡ checking.first_refusal (checking.unlink_checks (content_in tables.now) path.now) }
+{
+    if path.is_empty() {
+        return Err(Refusal::Busy);
+    }
+    match find(tables, path) {
+        Err(refusal) => Err(refusal),
+        Ok(found) => check_found(tables, path, found),
+    }
+}
+
+// What the deletion of the object at a path begins with. AllocError comes only where memory is wanting.
+fn deletion(tables: &Tables, alloc: Global, path: &[Bytes]) -> Result<Vec<Beginning>, AllocError>
+    ensures begun { IfOk result (λ beginning. map bare beginning.items ≡ telling (option_map (λ (o : content.Known). planning.entry_of o.object Deleted None) (content.object_at (content_in tables.now) path.now))) }
+    ensures shared { IfOk result (λ beginning. AllByRecursion (IsSharedBy tables.now.handles) beginning.items) }
+{
+    questions_are_told();
+    let mut beginning = Vec::new(alloc);
+    let Some(known) = tables.names().find_object(path) else {
+        return Ok(beginning);
+    };
+    let entry = record_of(alloc, known, Kind::Deleted)?;
+    tell(&mut beginning, tables, alloc, entry)?;
+    Ok(beginning)
+}
+
+// The directory at a path, if there is one.
+fn directory_at(tables: &Tables, path: &[Bytes]) -> Option<DirId>
+    ensures { result ≡ option_map (λ (d : content.Directory). d.number) (content.directory_at (content_in tables.now) path.now) }
+{
+    match tables.names().find_directory(path) {
+        None => None,
+        Some(directory) => Some(directory.number()),
+    }
+}
+
+/// What an Unlink of a path removes, with all memory taken for it. What stands stays.
+///
+/// It is BadPath where the text is no path, Busy at the root, NotFound or NotDirectory where nothing stands at the path, Busy
+/// where the object there is a server's, NotEmpty where something stands in the directory there, Busy where a handle is on
+/// that directory, and TableFull where the record of an object's deletion would pass the last number. Else OutOfMemory is the
+/// only error.
+pub fn unlink(
+    tables: &mut Tables,
+    alloc: Global,
+    conn: Conn,
+    path: &Bytes,
+) -> Result<Unlinked, Refusal>
+    requires { IsContent (content_in tables.old) }
+    ensures content { content_in tables.new ≡ content_in tables.old }
+    ensures passes { OnOk result (checking.first_refusal (all_request_checks (content_in tables.old) conn (Unlink path.now)) ≡ None) }
+    ensures does { IfOk result (λ unlinked. planning.effect (content_in tables.old) conn (Unlink path.now) ≡ (Done, moves_in unlinked)) }
+    ensures ready { IfOk result (λ unlinked. IsReady unlinked tables.new) }
+    ensures err { IfErr result (λ r. Fails (all_request_checks (content_in tables.old) conn (Unlink path.now)) r) }
+{
+    events_are_settled();
+    numbers_are_within(tables);
+    let names = read_names(alloc, path)?;
+    check_unlink(tables, &names)?;
+    if let Some(directory) = directory_at(tables, &names) {
+        return Ok(Unlinked::Directory(directory));
+    }
+    let beginning = deletion(tables, alloc, &names)?;
+    begin_ready(tables, alloc, &beginning)?;
+    Ok(Unlinked::Object(beginning))
+}

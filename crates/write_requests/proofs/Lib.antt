@@ -1,0 +1,5 @@
+pub mod Backlogs
+pub mod Refusals
+pub mod Drafts
+pub mod Texts
+pub mod Writers

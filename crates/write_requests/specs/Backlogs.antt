@@ -1,0 +1,22 @@
+-- Who has not read enough of a server object's messages.
+use Rattle.std.specs.Prelude.{ℕ, List, [], ◌∷◌, Bool, nat_le, Option, option_and_then}
+use Rattle.std.specs.Option.{option_map_or}
+use Rattle.pps_types.specs.declared.refusal.Refusal.TheVariants.{Backlogged}
+use Rattle.pps_types.specs.Reading.{Open}
+use Rattle.pps_types.specs.Rests.{Seen}
+use Rattle.pps_types.specs.Content.{Content, object_numbered, handle_numbered}
+use Rattle.pps_types.specs.Checks.{Check, Refuse, is_server_message, is_message_of, count_owed}
+
+-- a client that is owed as many messages as its limit
+abbrev pub is_behind : Open Seen → Bool
+is_behind h = nat_le h.limit (count_owed is_server_message h)
+
+-- the handle that owns an object, where it is a server's
+abbrev pub server_in : Content → ℕ → Option ℕ
+server_in c object = option_and_then (λ o. o.object.server) (object_numbered c object)
+
+-- a client's message is refused where the server is owed as many of that client as its limit
+abbrev pub server_checks : Content → ℕ → ℕ → List Check
+server_checks c object client =
+    option_map_or (λ s. Refuse (nat_le s.limit (count_owed (is_message_of client) s)) (Backlogged s.number) ∷ [])
+    (option_and_then (λ o. option_and_then (handle_numbered c) o.object.server) (object_numbered c object)) []
