@@ -1,0 +1,4 @@
+pub mod Lists
+pub mod Tells
+pub mod Plans
+pub mod Within
