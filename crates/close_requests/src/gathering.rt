@@ -105,7 +105,7 @@ pub(crate) fn close_all(
 }
 
 /// The records among what is begun, in their order. AllocError comes only where memory is wanting.
-pub(crate) fn entries_in(alloc: Global, beginning: &[Beginning]) -> Result<Vec<Entry>, AllocError>
+pub fn entries_in(alloc: Global, beginning: &[Beginning]) -> Result<Vec<Entry>, AllocError>
     ensures { IfOk result (λ entries. entries.items ≡ entries_in beginning.now) }
 {
     let mut entries = Vec::new(alloc);

@@ -8,9 +8,8 @@ mod room;
 mod told;
 
 pub use closes::{Closing, close, detach};
-pub use gathering::tell;
+pub use gathering::{entries_in, tell};
 pub use room::{begin_ready, numbers_are_within};
-pub use told::record_of;
 
 #[cfg(test)]
 mod tests;

@@ -1,14 +1,12 @@
 //! What the close of a handle tells.
 ghost use Rattle.std.specs.Prelude.{◌≡◌, ◌&&◌, true, is_some, IfOk, OnErr};
-ghost use Rattle.pps_types.specs.Plan as planning;
 ghost use Rattle.engine_tables.specs.Tables.{content_in};
 ghost use Rattle.handle_requests.specs.Own.{opened_as};
 ghost use Rattle.close_requests.specs.Told.{kind_told, told_of, is_orphan, told_behind};
 
-use engine_names::NamedObject;
-use engine_tables::Tables;
+use engine_tables::{Tables, record_of};
 use handle_requests::{Own, own_handle};
-use pps_types::{Bytes, Conn, HandleKind, Kind, ObjId, Record};
+use pps_types::{Conn, HandleKind, Kind, ObjId};
 use server_queue::Entry;
 use std::alloc::{AllocError, Global};
 
@@ -31,19 +29,6 @@ fn kind_told(own: &Own<'_>) -> Option<Kind>
     }
 }
 
-/// A record of an object that nobody wrote. AllocError comes only where memory is wanting.
-pub fn record_of(alloc: Global, object: &NamedObject, kind: Kind) -> Result<Entry, AllocError>
-    ensures { IfOk result (λ entry. entry ≡ planning.entry_of object.now.object kind None) }
-{
-    let name = Bytes::from_slice(alloc, object.name())?;
-    let made = Record {
-        object: object.number(),
-        kind,
-        writer: None,
-    };
-    Entry::new(alloc, object.directory().number(), name, made)
-}
-
 /// The record that the close of a handle tells, where its object is alive and its kind tells one. AllocError comes only where
 /// there is one.
 pub(crate) fn told_of(
@@ -60,7 +45,7 @@ pub(crate) fn told_of(
     let Some(object) = tables.names().object(ObjId::new(own.target())) else {
         return Ok(None);
     };
-    match record_of(alloc, object, kind) {
+    match record_of(alloc, object, kind, None) {
         Err(error) => Err(error),
         Ok(entry) => Ok(Some(entry)),
     }

@@ -6,27 +6,14 @@ ghost use Rattle.engine_tables.specs.Tables.{content_in};
 ghost use Rattle.engine_events.specs.Told.{closes_in, entries_opened, closes_opened, entries_of, closes_of, takes_memory, IsSettled};
 
 use crate::doing::Doing;
+use close_requests::entries_in;
 use engine_replies::Following;
 use engine_tables::{Beginning, Tables};
 use event_settling::settle;
 use open_requests::Opens;
 use pps_types::Handle;
-use server_queue::Entry;
 use settling_laws::{events_are_settled, moves_are_settled};
 use std::alloc::{AllocError, Global};
-
-// The records of what an event begins with.
-fn records_of(alloc: Global, beginning: &[Beginning]) -> Result<Vec<Entry>, AllocError>
-    ensures { IfOk result (λ entries. entries.items ≡ entries_in beginning.now) }
-{
-    let mut entries = Vec::new(alloc);
-    'beginning: for each in beginning {
-        if let Beginning::Happens(told) = each {
-            entries.push(told.entry().share()?)?;
-        }
-    }
-    Ok(entries)
-}
 
 // The handles that close as an event begins.
 fn handles_of(alloc: Global, beginning: &[Beginning]) -> Result<Vec<Handle>, AllocError>
@@ -50,7 +37,7 @@ fn settled_begun(
     requires { IsContent (content_in tables.now) }
     ensures { IfOk result (λ following. IsSettled (content_in tables.now) (entries_in beginning.now) (closes_in beginning.now) following.items) }
 {
-    let entries = records_of(alloc, beginning)?;
+    let entries = entries_in(alloc, beginning)?;
     let closing = handles_of(alloc, beginning)?;
     settle(tables, alloc, &entries, &closing)
 }

@@ -7,8 +7,10 @@ mod laws;
 mod members;
 mod named;
 mod names;
+mod paths;
 
 pub use laws::{members_are_listed, moves_are_told, questions_are_told};
 pub use members::Objects;
 pub use named::{NamedDirectory, NamedObject};
 pub use names::Names;
+pub use paths::parent;

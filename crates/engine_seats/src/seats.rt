@@ -16,11 +16,11 @@ ghost use Rattle.engine_targets.specs.Blocks.{owed_blocks, refused_for, first_le
 ghost use Rattle.engine_targets.specs.Opened.{opened, as_opened, armed_pulse, handle_at, is_directory, number_of};
 ghost use Rattle.engine_targets.specs.Seated.{AreSeated};
 ghost use Rattle.engine_targets.specs.Woken as waking;
-ghost use Rattle.engine_seats.specs.Seated.{target_of, name_of, handles_of, kept_of, places_of, is_service, IsReady, Suits, IsSameTarget, KeepsRoom, IsEnough};
+ghost use Rattle.engine_seats.specs.Seated.{target_of, name_of, handles_of, kept_of, places_of, is_queue_style, is_service, IsReady, Suits, IsSameTarget, KeepsRoom, IsEnough};
 
 use engine_servers::{Service, Shares};
 use engine_targets::{Given, Opening, Pulse, Target};
-use pps_types::{Bytes, DirId, Handle, ObjId, Refusal};
+use pps_types::{Bytes, DirId, Found, Handle, ObjId, Refusal};
 use server_queue::Entry;
 use std::alloc::{AllocError, Global};
 
@@ -74,6 +74,17 @@ impl Seats {
         match self {
             Seats::Readers(target) => target.handles_are_seated(),
             Seats::Service(service) => service.handles_are_seated(),
+        }
+    }
+
+    /// Does nothing. Its contract is the law that its handles suit it, and have its name.
+    pub fn handles_suit(&self)
+        ensures suit { AllByRecursion (λ (h : reading.Open rests.Seen). is_queue_style (reading.style h.kind) ≡ is_service self.now) (handles_of self.now) }
+        ensures named { AllByRecursion (λ (h : reading.Open rests.Seen). h.name ≡ name_of self.now) (handles_of self.now) }
+    {
+        match self {
+            Seats::Readers(target) => target.handles_are_readers(),
+            Seats::Service(service) => service.handles_are_queued(),
         }
     }
 
@@ -431,6 +442,29 @@ impl Seats {
                 Seats::Readers(_) => false,
                 Seats::Service(served) => service.same(served),
             },
+        }
+    }
+    /// Whether both have the same handles, which are owed the same. It takes no memory.
+    pub fn same_handles(&self, other: &Seats) -> bool
+        ensures { IsTrue result ↔ (handles_of self.now ≡ handles_of other.now) }
+    {
+        self.handles_are_seated();
+        other.handles_are_seated();
+        self.handles_suit();
+        other.handles_suit();
+        if self.is_empty() {
+            return other.is_empty();
+        }
+        self.same(other)
+    }
+
+    /// The object or directory that they are on.
+    pub fn target(&self) -> Found
+        ensures { result ≡ target_of self.now }
+    {
+        match self {
+            Seats::Readers(target) => target.of(),
+            Seats::Service(service) => Found::Object(service.object()),
         }
     }
 }

@@ -3,7 +3,8 @@ use Rattle.std.proofs.Common.{◌≡◌, ℕ, Bool, true, false, List, [], ◌�
 use Rattle.std.specs.List.{AllByRecursion}
 use Rattle.pps_types.specs.declared.handle_kind.HandleKind.{HandleKind}
 use Rattle.pps_types.specs.declared.handle_kind.HandleKind.TheVariants.{Object as ObjectHandle, Directory as DirectoryHandle, Names as NamesHandle, Server as ServerHandle, Client as ClientHandle}
-use Rattle.pps_types.specs.Reading.{Queue, style, is_directory_kind}
+use Rattle.pps_types.specs.Reading.{Open, Queue, style, is_directory_kind}
+use Rattle.pps_types.specs.Rests.{Seen}
 use Rattle.pps_types.specs.Owed.{is_of, longest_rest}
 use Rattle.notify_box.specs.Rising.{IsRising, AllAbove}
 use Rattle.engine_targets.specs.Seated.{IsSeated, AreSeated}
@@ -37,6 +38,16 @@ module _ (object : ℕ) (name : List ℕ) where
 
   pub are-seated : (xs : List Holder) → IsService object xs → AreSeated false object (map (handle_of object name) xs)
   are-seated xs is = record { each = all-seated xs is.each; rising = rising-seated xs is.rising }
+
+  -- ---- of which kind they are, and what they are called
+
+  pub all-queued : (xs : List Holder) → AllByRecursion (IsHolder object) xs → AllByRecursion (λ (h : Open Seen). style h.kind ≡ Queue) (map (handle_of object name) xs)
+  all-queued [] all = tt
+  all-queued (x ∷ xs) all = (all.0.kind, all-queued xs all.1)
+
+  pub all-named : (xs : List Holder) → AllByRecursion (λ (h : Open Seen). h.name ≡ name) (map (handle_of object name) xs)
+  all-named [] = tt
+  all-named (x ∷ xs) = (refl, all-named xs)
 
 -- none of them is owed records of a shared list
 no-rest : (object : ℕ) (name : List ℕ) (d : Bool) (t : ℕ) (x : Holder) → IsHolder object x → is_of d t (handle_of object name x) ≡ false

@@ -76,6 +76,13 @@ impl Service {
         }
     }
 
+    /// The number of the object.
+    pub fn object(&self) -> ObjId
+        ensures { result ≡ self.now.object }
+    {
+        self.object
+    }
+
     /// Whether it has no handle.
     pub fn is_empty(&self) -> bool
         ensures { IsTrue result ↔ (self.now.handles ≡ []) }
@@ -362,6 +369,14 @@ impl Service {
     /// Does nothing. Its contract is the law that its handles are on it, and stand in rising number.
     pub fn handles_are_seated(&self)
         ensures { AreSeated false self.now.object self.now.handles }
+    {
+        let _count = self.holders.len();
+    }
+
+    /// Does nothing. Its contract is the law that its handles are its server's and its clients', and have its name.
+    pub fn handles_are_queued(&self)
+        ensures queued { AllByRecursion (λ (h : reading.Open rests.Seen). reading.style h.kind ≡ reading.Queue) self.now.handles }
+        ensures named { AllByRecursion (λ (h : reading.Open rests.Seen). h.name ≡ self.now.name) self.now.handles }
     {
         let _count = self.holders.len();
     }

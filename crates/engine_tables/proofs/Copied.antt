@@ -10,7 +10,7 @@ use Rattle.engine_connections.specs.Standing.{standing_in}
 use Rattle.engine_connections.specs.Laws.{queues_of}
 use Rattle.connection_laws.specs.Connections.{connections_of, ConnectionsRise}
 use Rattle.open_handles.specs.Whole.{handles_in, site_at}
-use Rattle.engine_tables.specs.Tables.{Tabled, content_in, AreTied, IsOpenable, IsOpenableDirectory}
+use Rattle.engine_tables.specs.Tables.{Tabled, content_in, AreTied, AreAlike, IsOpenable, IsOpenableDirectory}
 
 module _ (t u : Tabled) (limit : u.default_limit ≡ t.default_limit) (records : u.records ≡ t.records) (names : standing_of u.names ≡ standing_of t.names)
     (handles : handles_in u.handles ≡ handles_in t.handles) (next : u.handles.rows.next ≡ t.handles.rows.next) (connections : standing_in u.connections ≡ standing_in t.connections) where
@@ -38,3 +38,13 @@ module _ (t u : Tabled) (limit : u.default_limit ≡ t.default_limit) (records :
     next_object = next_object ∙ tied.next_object ∙ ap (λ (c : Content). c.next_object) (sym copied_content);
     next_directory = next_directory ∙ tied.next_directory ∙ ap (λ (c : Content). c.next_directory) (sym copied_content);
   }
+
+-- tables of which the same stands have the same parts
+pub same_parts : (t u : Tabled) → AreTied t → AreTied u → content_in t ≡ content_in u → AreAlike t u
+same_parts t u tied other same = (
+  ap (λ (c : Content). c.default_limit) same,
+  ap (λ (c : Content). c.records) same,
+  λ i. record { objects = (same i).objects; next_object = (same i).next_object; directories = (same i).directories; next_directory = (same i).next_directory },
+  (ap (λ (c : Content). c.handles) same, ap (λ (c : Content). c.next_handle) same),
+  tied.connected ∙ ap connections_of same ∙ sym other.connected,
+)

@@ -50,3 +50,14 @@ pub record AreTied (t : Tabled) : Type 0 where
   pub directories : AllByRecursion (IsOpenableDirectory t.handles) (content_in t).directories
   pub next_object : t.handles.objects.next ≡ (content_in t).next_object
   pub next_directory : t.handles.directories.next ≡ (content_in t).next_directory
+
+-- ---- compared
+
+-- each part is the same
+abbrev pub AreAlike : Tabled → Tabled → Type 0
+AreAlike t u =
+    (t.default_limit ≡ u.default_limit)
+    × (t.records ≡ u.records)
+    × (standing_of t.names ≡ standing_of u.names)
+    × ((handles_in t.handles ≡ handles_in u.handles) × (t.handles.rows.next ≡ u.handles.rows.next))
+    × (standing_in t.connections ≡ standing_in u.connections)

@@ -1,11 +1,11 @@
 //! Copies of all that stands, and what is held of it.
-ghost use Rattle.std.specs.Prelude.{◌≡◌, IfOk, IfErr};
+ghost use Rattle.std.specs.Prelude.{◌≡◌, ◌↔◌, IsTrue, IfOk, IfErr};
 ghost use Rattle.pps_types.specs.declared.found.Found.{Found as FoundAt};
 ghost use Rattle.pps_types.specs.declared.refusal.Refusal.TheVariants.{OutOfMemory};
 ghost use Rattle.pps_types.specs.Owed.{kept_records_seen};
 ghost use Rattle.engine_targets.specs.Opened.{is_directory, number_of};
 ghost use Rattle.open_handles.specs.Whole.{kept_at};
-ghost use Rattle.engine_tables.specs.Tables.{content_in};
+ghost use Rattle.engine_tables.specs.Tables.{content_in, AreAlike};
 
 use crate::tables::Tables;
 use pps_types::Refusal;
@@ -27,6 +27,26 @@ impl Tables {
             handles,
             connections,
         })
+    }
+
+    // Whether each part is the same in both.
+    fn has_same_parts(&self, other: &Tables) -> bool
+        ensures { IsTrue result ↔ AreAlike self.now other.now }
+    {
+        self.default_limit == other.default_limit
+            && self.records == other.records
+            && self.names.same(&other.names)
+            && self.handles.same(&other.handles)
+            && self.connections.same(&other.connections)
+    }
+
+    /// Whether the same stands in both. It takes no memory.
+    pub fn same(&self, other: &Tables) -> bool
+        ensures { IsTrue result ↔ (content_in self.now ≡ content_in other.now) }
+    {
+        self.are_tied();
+        other.are_tied();
+        self.has_same_parts(other)
     }
 
     /// Does nothing. Its contract is the law that of each object and directory just those records are held that have to be

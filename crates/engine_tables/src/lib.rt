@@ -6,6 +6,7 @@ mod coming;
 mod copies;
 mod creating;
 mod directories;
+mod entries;
 mod following;
 mod room;
 mod tables;
@@ -14,4 +15,5 @@ mod waiting;
 
 pub use beginning::Beginning;
 pub use creating::{NewObject, Replacement};
+pub use entries::{entry_about, record_of};
 pub use tables::Tables;

@@ -1,10 +1,10 @@
 -- The handles of a target, as they stand on it.
-use Rattle.std.proofs.Common.{◌≡◌, ◌≤◌, ℕ, ◌-◌, Bool, true, false, List, [], ◌∷◌, map, length, drop, refl, arith}
+use Rattle.std.proofs.Common.{◌≡◌, ◌≤◌, ℕ, ◌-◌, Bool, true, false, ◌||◌, List, [], ◌∷◌, map, length, drop, refl, arith}
 use Rattle.std.specs.Prelude.{filter}
 use Rattle.std.proofs.lemmas.Bool.{le-ltb}
 use Rattle.std.specs.List.{AllByRecursion}
 use Rattle.pps_types.specs.History.{Entry}
-use Rattle.pps_types.specs.Reading.{Style, Full, Delta, Queue, style, is_delta_style, is_directory_kind, visible}
+use Rattle.pps_types.specs.Reading.{Open, Style, Full, Delta, Queue, style, is_full_style, is_delta_style, is_directory_kind, visible}
 use Rattle.pps_types.specs.Rests.{Seen, News as SeenNews, Unread, Over as SeenOver, Owed, stand, over_limit, seen_of}
 use Rattle.pps_types.specs.Owed.{same_flag}
 use Rattle.pps_types.specs.WellFormed.{IsWhole}
@@ -12,7 +12,7 @@ use Rattle.notify_box.specs.Rising.{IsRising, AllAbove}
 use Rattle.engine_targets.specs.declared.place.Place.{Place}
 use Rattle.engine_targets.specs.declared.place.Place.TheVariants.{News, Fresh, Over, Idle, At}
 use Rattle.engine_targets.specs.declared.reader.Reader.{Reader}
-use Rattle.engine_targets.specs.Opened.{opened}
+use Rattle.engine_targets.specs.Opened.{opened, is_reader}
 use Rattle.engine_targets.specs.Places.{seen_at, handle_of, IsPlace, IsReader}
 use Rattle.engine_targets.specs.Standing.{number_in}
 use Rattle.engine_targets.specs.Seated.{IsSeated, AreSeated}
@@ -22,6 +22,10 @@ flag-is true true is = refl
 flag-is true false is = absurd cc
 flag-is false true is = absurd cc
 flag-is false false is = refl
+
+either : (a b : Bool) → b ≡ true → a || b ≡ true
+either true b is = refl
+either false b is = is
 
 -- within the limit, in delta mode
 stand-owed : (s : Style) (reads over : Bool) (rest : List Entry) → is_delta_style s ≡ true → over ≡ false → stand s reads over rest ≡ Owed rest
@@ -72,3 +76,20 @@ module _ (t : ℕ) (name : List ℕ) (start : ℕ) (entries : List Entry) where
 
   pub are-seated : (d : Bool) (rs : List Reader) → AllByRecursion (IsReader d t name start entries) rs → IsRising number_in rs → AreSeated d t (map (handle_of t name start entries) rs)
   are-seated d rs each rising = record { each = all-seated d rs each; rising = rising-seated rs rising }
+
+  -- ---- of which kind they are, and what they are called
+
+  reads : (r : Reader) (p : Place) → IsPlace (opened t name r.opening) start entries p → is_reader r.opening.kind ≡ true
+  reads r (News b) is = rw is refl
+  reads r Fresh is = either (is_full_style (style r.opening.kind)) (is_delta_style (style r.opening.kind)) is
+  reads r Over is = either (is_full_style (style r.opening.kind)) (is_delta_style (style r.opening.kind)) is
+  reads r Idle is = either (is_full_style (style r.opening.kind)) (is_delta_style (style r.opening.kind)) is
+  reads r (At first owed) is = either (is_full_style (style r.opening.kind)) (is_delta_style (style r.opening.kind)) is.delta
+
+  pub all-read : (d : Bool) (rs : List Reader) → AllByRecursion (IsReader d t name start entries) rs → AllByRecursion (λ (h : Open Seen). is_reader h.kind ≡ true) (map (handle_of t name start entries) rs)
+  all-read d [] all = tt
+  all-read d (r ∷ rs) all = (reads r r.place all.0.place, all-read d rs all.1)
+
+  pub all-named : (rs : List Reader) → AllByRecursion (λ (h : Open Seen). h.name ≡ name) (map (handle_of t name start entries) rs)
+  all-named [] = tt
+  all-named (r ∷ rs) = (refl, all-named rs)

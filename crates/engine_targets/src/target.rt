@@ -114,6 +114,13 @@ impl Target {
         }
     }
 
+    /// The object or directory that it is.
+    pub fn of(&self) -> Found
+        ensures { result ≡ self.now.of }
+    {
+        self.of
+    }
+
     /// Whether it has no handle.
     pub fn is_empty(&self) -> bool
         ensures { IsTrue result ↔ (self.now.handles ≡ []) }
@@ -399,6 +406,14 @@ impl Target {
     /// rising number.
     pub fn handles_are_seated(&self)
         ensures { AreSeated (is_directory self.now.of) (number_of self.now.of) self.now.handles }
+    {
+        let _held = self.records.start();
+    }
+
+    /// Does nothing. Its contract is the law that its handles read in full or delta mode, and have its name.
+    pub fn handles_are_readers(&self)
+        ensures readers { AllByRecursion (λ (h : reading.Open rests.Seen). is_reader h.kind ≡ true) self.now.handles }
+        ensures named { AllByRecursion (λ (h : reading.Open rests.Seen). h.name ≡ self.now.name) self.now.handles }
     {
         let _held = self.records.start();
     }

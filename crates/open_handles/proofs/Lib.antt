@@ -10,3 +10,4 @@ pub mod Offers
 pub mod Reserves
 pub mod Wakes
 pub mod Copied
+pub mod Sames

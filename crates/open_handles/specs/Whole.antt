@@ -68,6 +68,10 @@ seats_at f w = place_at f (places_of w)
 abbrev pub handles_at : Found → Whole → List (Open Seen)
 handles_at f w = handles_on (places_of w) f
 
+-- others have the same handles on what these are on
+abbrev pub HasSame : Places → Seats → Type 0
+HasSame p s = handles_on p (target_of s) ≡ handles_of s
+
 -- just those records are held for readers that have to be kept: the longest rest that a handle is owed
 abbrev pub HoldsWhatIsOwed : Seats → Type 0
 HoldsWhatIsOwed s = kept_of s ≡ longest_rest (is_directory (target_of s)) (number_of (target_of s)) (handles_of s)

@@ -2,6 +2,7 @@
 #![tactic(auto)]
 
 mod change;
+mod compared;
 mod copies;
 mod handles;
 mod new_site;

@@ -8,7 +8,7 @@ ghost use Rattle.pps_types.specs.Checks as checking;
 ghost use Rattle.engine_tables.specs.Tables.{content_in};
 ghost use Rattle.open_requests.specs.Asked.{IsAsked, found_by, is_all};
 
-use engine_names::questions_are_told;
+use engine_names::{parent, questions_are_told};
 use engine_tables::Tables;
 use open_options::OpenSpec;
 use pps_types::{Bytes, DirId, Found, Handle, Mode, ObjId, Refusal};
@@ -45,16 +45,6 @@ pub(crate) fn letters_fit(mode: Mode) -> bool
     ensures { result ≡ checking.letters_fit mode }
 {
     (mode.r || mode.w) && (!mode.t || mode.w)
-}
-
-/// The path of the directory that holds a path's last name. The root's is the root.
-pub(crate) fn parent(path: &[Bytes]) -> &[Bytes]
-    ensures { result.now ≡ paths.parent path.now }
-{
-    match path.split_last() {
-        None => path,
-        Some((_, above)) => above,
-    }
 }
 
 // `.all` is only read, and a server reads and writes.

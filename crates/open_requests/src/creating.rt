@@ -14,9 +14,9 @@ ghost use Rattle.engine_tables.specs.Tables.{content_in};
 ghost use Rattle.open_requests.specs.Planned.{moves_of, IsReady};
 
 use crate::planned::Opens;
-use crate::records::{entry_about, told};
+use crate::records::told;
 use engine_names::questions_are_told;
-use engine_tables::{NewObject, Tables};
+use engine_tables::{NewObject, Tables, entry_about};
 use engine_targets::Opening;
 use open_handles::NewSite;
 use pps_types::{Bytes, Conn, DirId, Found, Handle, Kind, ObjId, Refusal};
@@ -93,7 +93,7 @@ pub(crate) fn creating(
     object_ready(tables, &path, number, opening.connection)?;
     let name = last_name(&path);
     let site = NewSite::of_object(alloc, number, Bytes::from_slice(alloc, name)?, is_served)?;
-    let entry = entry_about(alloc, number, directory, name, Kind::Created)?;
+    let entry = entry_about(alloc, number, directory, name, Kind::Created, None)?;
     let creation = told(tables, alloc, entry)?;
     let object = NewObject {
         path,

@@ -7,31 +7,11 @@ ghost use Rattle.open_handles.specs.Whole.{HasRoom, IsShared, KeepsSites};
 ghost use Rattle.engine_tables.specs.Tables.{content_in};
 ghost use Rattle.engine_tables.specs.Tied.{KeepsHandleRoom};
 
-use engine_tables::Tables;
+use engine_tables::{Tables, record_of};
 use open_handles::Told;
-use pps_types::{Bytes, DirId, Kind, ObjId, Record, Refusal};
+use pps_types::{Kind, ObjId, Refusal};
 use server_queue::Entry;
 use std::alloc::Global;
-
-/// A record of an object, which no handle wrote. OutOfMemory is the only error.
-pub(crate) fn entry_about(
-    alloc: Global,
-    object: ObjId,
-    directory: DirId,
-    name: &[u8],
-    kind: Kind,
-) -> Result<Entry, Refusal>
-    ensures ok { IfOk result (λ e. e ≡ record { directory = directory; name = name.now; record_of = record { object = object; kind = kind; writer = None } }) }
-    ensures err { IfErr result (λ r. r ≡ OutOfMemory) }
-{
-    let name = Bytes::from_slice(alloc, name)?;
-    let record = Record {
-        object,
-        kind,
-        writer: None,
-    };
-    Ok(Entry::new(alloc, directory.number(), name, record)?)
-}
 
 /// A record of an object that is alive. OutOfMemory is the only error.
 pub(crate) fn entry_of(
@@ -47,7 +27,7 @@ pub(crate) fn entry_of(
     let Some(known) = tables.names().object(object) else {
         unreachable!();
     };
-    entry_about(alloc, known.number(), known.directory(), known.name(), kind)
+    Ok(record_of(alloc, known, kind, None)?)
 }
 
 /// A record that is to be told, with all memory for that. What stands stays. OutOfMemory is the only error.

@@ -15,8 +15,8 @@ ghost use Rattle.engine_tables.specs.Tied.{KeepsHandleRoom};
 ghost use Rattle.open_requests.specs.Planned.{moves_of, IsReady};
 
 use crate::planned::Opens;
-use crate::records::{entry_about, entry_of};
-use engine_tables::{Replacement, Tables};
+use crate::records::entry_of;
+use engine_tables::{Replacement, Tables, entry_about};
 use engine_targets::Opening;
 use open_handles::{NewSite, Told};
 use pps_types::{Bytes, Conn, Found, Kind, ObjId, Refusal};
@@ -74,13 +74,14 @@ fn creation_of(tables: &Tables, alloc: Global, gone: ObjId, number: ObjId) -> Re
     let Some(known) = tables.names().object(gone) else {
         unreachable!();
     };
-    entry_about(
+    Ok(entry_about(
         alloc,
         number,
         known.directory(),
         known.name(),
         Kind::Created,
-    )
+        None,
+    )?)
 }
 
 // The place of a server's object in another's place.

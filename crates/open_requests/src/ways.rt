@@ -11,9 +11,9 @@ ghost use Rattle.engine_tables.specs.Tables.{content_in};
 ghost use Rattle.open_requests.specs.Asked.{IsAsked};
 ghost use Rattle.open_requests.specs.Ways.{IsWay, step_on, step_records, step_objects};
 
-use crate::checks::{Asked, Spot, is_served, parent};
+use crate::checks::{Asked, Spot, is_served};
 use crate::handle::kind_opened;
-use engine_names::questions_are_told;
+use engine_names::{parent, questions_are_told};
 use engine_tables::Tables;
 use open_options::OpenSpec;
 use pps_types::{Bytes, DirId, Found, Handle, HandleKind, Kind, Mode, ObjId, Refusal};

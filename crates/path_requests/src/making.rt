@@ -11,8 +11,8 @@ ghost use Rattle.engine_names.specs.Standing.{IsReadyToMake};
 ghost use Rattle.engine_tables.specs.Tables.{content_in};
 ghost use Rattle.handle_requests.specs.Refused.{Fails, all_request_checks};
 
-use crate::paths::{parent, read_names};
-use engine_names::questions_are_told;
+use crate::paths::read_names;
+use engine_names::{parent, questions_are_told};
 use engine_tables::Tables;
 use pps_types::{Bytes, Conn, Refusal};
 use settling_laws::events_are_settled;

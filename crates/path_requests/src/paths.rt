@@ -1,7 +1,6 @@
 //! Paths as texts.
 ghost use Rattle.std.specs.Prelude.{◌≡◌, Some, IfOk, IfErr};
 ghost use Rattle.pps_types.specs.OpenText as meant;
-ghost use Rattle.pps_types.specs.Names as names;
 ghost use Rattle.open_options.specs.Refused.{IsPathRefusal};
 
 use open_options::read_path;
@@ -16,15 +15,5 @@ pub(crate) fn read_names(alloc: Global, text: &Bytes) -> Result<Vec<Bytes>, Refu
     match read_path(alloc, text.as_slice()) {
         Err(refusal) => Err(refusal),
         Ok(path) => Ok(path.into_names()),
-    }
-}
-
-/// The path of the directory that holds a path's last name. The root's is the root.
-pub(crate) fn parent(path: &[Bytes]) -> &[Bytes]
-    ensures { result.now ≡ names.parent path.now }
-{
-    match path.split_last() {
-        None => path,
-        Some((_, above)) => above,
     }
 }

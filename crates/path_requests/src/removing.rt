@@ -20,9 +20,9 @@ ghost use Rattle.close_requests.specs.Begun.{bare, telling};
 ghost use Rattle.path_requests.specs.Removed.{moves_in, IsReady};
 
 use crate::paths::read_names;
-use close_requests::{begin_ready, numbers_are_within, record_of, tell};
+use close_requests::{begin_ready, numbers_are_within, tell};
 use engine_names::questions_are_told;
-use engine_tables::{Beginning, Tables};
+use engine_tables::{Beginning, Tables, record_of};
 use pps_types::{Bytes, Conn, DirId, Found, Kind, ObjId, Refusal};
 use settling_laws::events_are_settled;
 use std::alloc::{AllocError, Global};
@@ -131,7 +131,7 @@ fn deletion(tables: &Tables, alloc: Global, path: &[Bytes]) -> Result<Vec<Beginn
     let Some(known) = tables.names().find_object(path) else {
         return Ok(beginning);
     };
-    let entry = record_of(alloc, known, Kind::Deleted)?;
+    let entry = record_of(alloc, known, Kind::Deleted, None)?;
     tell(&mut beginning, tables, alloc, entry)?;
     Ok(beginning)
 }

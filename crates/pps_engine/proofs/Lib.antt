@@ -1,5 +1,3 @@
-pub mod Taken
-pub mod Steps
 pub mod Marks
-pub mod Lists
 pub mod Plans
+pub mod Lists

@@ -1,4 +1,3 @@
 pub mod Serving
-pub mod Planned
-pub mod Carried
+pub mod Standing
 pub mod Private

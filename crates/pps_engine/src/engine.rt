@@ -6,12 +6,12 @@ ghost use Rattle.pps_types.specs.Owed.{kept_seen, owed_by_seen};
 ghost use Rattle.pps_types.specs.Plan.{may_lack_memory};
 ghost use Rattle.pps_types.specs.Stands.{Stands, Steps, StepsSeen, Runs, RunsSeen};
 ghost use Rattle.pps_engine.specs.Serving.{Prepares, IsExact};
+ghost use Rattle.pps_engine.specs.Standing.{HoldsJust};
 ghost use Rattle.pps_types.specs.Runs.{answered};
 
-use crate::carrying::plan_event;
-use crate::in_place::{Step, take_step};
-use engine_questions::{kept, owed, same};
-use engine_state::{Copied, State};
+use engine_events::{Pending, Planned, carry_out, plan};
+use engine_names::questions_are_told;
+use engine_tables::Tables;
 use open_options::Path;
 use pps_types::{Event, Handle, Outcome, Refusal};
 use std::alloc::{AllocError, Global};
@@ -19,6 +19,28 @@ use std::marker::Model;
 
 /// The limit of handles that name none, where the engine is made with no other.
 const DEFAULT_LIMIT: u32 = 256;
+
+// Does nothing. Its contract is the law that just the records are held that have to be kept.
+fn are_cut(tables: &Tables)
+    ensures { HoldsJust tables.now }
+{
+    tables.holds_what_is_owed();
+    tables.handles().places_rise();
+}
+
+// Nothing is pending any more.
+fn forget(pending: &mut Option<Pending>)
+    ensures { pending.new ≡ None }
+{
+    *pending = None;
+}
+
+// This is pending from now on.
+fn keep(pending: &mut Option<Pending>, planned: Pending)
+    ensures { pending.new ≡ Some planned }
+{
+    *pending = Some(planned);
+}
 
 /// What an event will answer. What it will change is held by the engine that has planned it.
 #[derive(Drop)]
@@ -36,34 +58,37 @@ impl Plan {
 }
 
 /// The service. It stands for the machine that keeps every accepted change for good.
+///
+/// What stands is held in tables that are changed in place: a message costs what it touches.
 #[derive(Drop)]
 pub struct Engine {
     alloc: Global,
-    state: State,
-    /// What the latest plan will change, where it is ready.
-    pending: Option<Step>,
+    tables: Tables,
+    /// What the latest plan will do, where it is ready.
+    pending: Option<Pending>,
 }
 
 impl Model for Engine {
     ghost use Rattle.std.specs.Prelude.{option_map};
+    ghost use Rattle.engine_tables.specs.Tables.{content_in};
     ghost use Rattle.pps_engine.specs.Serving.{Serving};
-    ghost use Rattle.pps_engine.specs.Planned.{after_step, chains_of, IsSound, IsPending};
+    ghost use Rattle.pps_engine.specs.Standing.{after, chains_of, IsSound, IsPending};
 
     ghost Value = { Serving };
 
-    ghost view = { λ a. record { content = a.state; next = option_map (after_step a.state) a.pending; chains = chains_of a.state.handles } };
+    ghost view = { λ a. record { content = content_in a.tables; next = option_map (after a.tables) a.pending; chains = chains_of a.tables } };
 
-    ghost invariant = { λ a. IsSound a.state × IsPending a.state a.pending };
+    ghost invariant = { λ a. IsSound (content_in a.tables) × IsPending a.tables a.pending };
 }
 
 impl Engine {
     fn starting(alloc: Global, first_handle: u32, default_limit: u32) -> Result<Engine, AllocError>
         ensures { IfOk result (λ engine. Stands engine.content (start first_handle default_limit)) }
     {
-        let state = State::new(alloc, first_handle, default_limit)?;
+        let tables = Tables::new(alloc, first_handle, default_limit)?;
         Ok(Engine {
             alloc,
-            state,
+            tables,
             pending: None,
         })
     }
@@ -95,7 +120,7 @@ impl Engine {
     pub fn limit(&self) -> u32
         ensures { result ≡ self.now.content.default_limit }
     {
-        self.state.default_limit()
+        self.tables.default_limit()
     }
 
     /// What an event will answer, or why it is refused. It takes all the memory that the event wants, and changes nothing
@@ -109,18 +134,12 @@ impl Engine {
         ensures sends { IfOk result (λ plan. IsSendable (Ok plan.reply)) }
         ensures cut { IsExact self.new }
     {
-        match plan_event(self.alloc, &self.state, event) {
-            Err(refusal) => {
-                self.pending = None;
-                Err(refusal)
-            }
-            Ok(prepared) => {
-                self.pending = Some(prepared.step);
-                Ok(Plan {
-                    reply: prepared.reply,
-                })
-            }
-        }
+        forget(&mut self.pending);
+        let planned = plan(&mut self.tables, self.alloc, event);
+        are_cut(&self.tables);
+        let Planned { reply, pending } = planned?;
+        keep(&mut self.pending, pending);
+        Ok(Plan { reply })
     }
 
     /// Carries the latest plan out, and gives its answer. It takes no memory.
@@ -133,8 +152,9 @@ impl Engine {
     {
         match self.pending.take() {
             None => unreachable!(),
-            Some(step) => take_step(&mut self.state, step),
+            Some(pending) => carry_out(&mut self.tables, pending),
         }
+        are_cut(&self.tables);
         plan.reply
     }
 
@@ -148,10 +168,8 @@ impl Engine {
         ensures sends { IsSendable result }
         ensures cut { IsExact self.new }
     {
-        match self.plan(event) {
-            Err(refusal) => Err(refusal),
-            Ok(plan) => Ok(self.commit(plan)),
-        }
+        let plan = self.plan(event)?;
+        Ok(self.commit(plan))
     }
 
     /// The events in their order, and an answer for each; an event's own OutOfMemory is its answer. It is OutOfMemory
@@ -165,10 +183,8 @@ impl Engine {
         ensures kept { OnErr result (self.new.content ≡ self.old.content) }
         ensures cut { IsExact self.new }
     {
-        let mut replies = match Vec::with_capacity(self.alloc, events.len()) {
-            Err(_) => return Err(Refusal::OutOfMemory),
-            Ok(replies) => replies,
-        };
+        are_cut(&self.tables);
+        let mut replies = Vec::with_capacity(self.alloc, events.len())?;
         'events: for event in events {
             let reply = self.step(event);
             replies.push_reserved(reply);
@@ -180,14 +196,17 @@ impl Engine {
     pub fn kept(&self, path: &Path) -> Option<usize>
         ensures { result ≡ kept_seen self.now.content path.now }
     {
-        kept(&self.state, path.names())
+        questions_are_told();
+        self.tables.holds_what_is_owed();
+        let found = self.tables.names().at(path.names())?;
+        Some(self.tables.handles().kept(found))
     }
 
     /// How many records a handle is owed: none of no such handle, in full mode, before its first read and past its limit.
     pub fn owed(&self, handle: Handle) -> Option<usize>
         ensures { result ≡ owed_by_seen self.now.content handle }
     {
-        owed(&self.state, handle)
+        self.tables.handles().owed(handle)
     }
 
     /// Does nothing. Its contract is the law that an engine holds just the records that have to be kept, whether it was
@@ -195,14 +214,14 @@ impl Engine {
     pub fn holds_what_is_owed(&self)
         ensures { IsExact self.now }
     {
-        let _ = &self.state;
+        are_cut(&self.tables);
     }
 
     /// Whether both stand for the same. It takes no memory.
     pub fn same(&self, other: &Engine) -> bool
         ensures { IsTrue result ↔ (self.now.content ≡ other.now.content) }
     {
-        same(&self.state, &other.state)
+        self.tables.same(&other.tables)
     }
 
     /// One more engine that stands for the same. No plan of it is ready.
@@ -210,10 +229,12 @@ impl Engine {
         ensures content { IfOk result (λ engine. engine.content ≡ self.now.content) }
         ensures ready { IfOk result (λ engine. engine.next ≡ None) }
     {
-        let state = self.state.copied(self.alloc)?;
+        let Ok(tables) = self.tables.copy() else {
+            return Err(AllocError);
+        };
         Ok(Engine {
             alloc: self.alloc,
-            state,
+            tables,
             pending: None,
         })
     }

@@ -13,10 +13,9 @@ ghost use Rattle.open_handles.specs.Whole.{HasRoom, IsShared};
 ghost use Rattle.write_requests.specs.Writes.{late_refusal, HasLinesAt, told_by, tells, is_past};
 
 use crate::draft::Draft;
-use engine_names::NamedObject;
-use engine_tables::{Beginning, Tables};
+use engine_tables::{Beginning, Tables, record_of};
 use open_handles::Told;
-use pps_types::{Bytes, Handle, Kind, ObjId, Record, Refusal};
+use pps_types::{Handle, Kind, ObjId, Refusal};
 use server_queue::Entry;
 use std::alloc::{AllocError, Global};
 
@@ -44,28 +43,10 @@ pub(crate) fn lines_ready(tables: &mut Tables, draft: &Draft) -> Result<(), Refu
     }
 }
 
-// A record of an object through a handle that writes.
-fn entry_of(
-    alloc: Global,
-    object: &NamedObject,
-    handle: Handle,
-    kind: Kind,
-) -> Result<Entry, AllocError>
-    ensures { IfOk result (λ entry. entry ≡ planning.entry_of object.now.object kind (Some handle)) }
-{
-    let name = Bytes::from_slice(alloc, object.name())?;
-    let made = Record {
-        object: object.number(),
-        kind,
-        writer: Some(handle),
-    };
-    Entry::new(alloc, object.directory().number(), name, made)
-}
-
 /// The record of a write through a handle, where it has lines.
 ///
 /// AllocError comes only where memory is wanting.
-pub(crate) fn record_of(
+pub(crate) fn record_written(
     tables: &Tables,
     alloc: Global,
     handle: Handle,
@@ -80,7 +61,7 @@ pub(crate) fn record_of(
     let Some(object) = tables.names().object(draft.object) else {
         return Ok(None);
     };
-    let entry = entry_of(alloc, object, handle, draft.kind)?;
+    let entry = record_of(alloc, object, draft.kind, Some(handle))?;
     Ok(Some(entry))
 }
 

@@ -11,7 +11,7 @@ ghost use Rattle.engine_tables.specs.Beginning.{moves_of, AreReady};
 ghost use Rattle.handle_requests.specs.Refused.{Fails, all_request_checks};
 
 use crate::draft::drafted;
-use crate::ready::{begun, lines_ready, record_of};
+use crate::ready::{begun, lines_ready, record_written};
 use engine_tables::{Beginning, Tables};
 use pps_types::{Bytes, Conn, Handle, Outcome, Refusal};
 use std::alloc::Global;
@@ -51,7 +51,7 @@ pub fn write(
 {
     let draft = drafted(tables, alloc, conn, handle, bytes)?;
     lines_ready(tables, &draft)?;
-    let entry = record_of(tables, alloc, handle, draft)?;
+    let entry = record_written(tables, alloc, handle, draft)?;
     let beginning = begun(tables, alloc, entry)?;
     Ok(Written {
         reply: Outcome::Wrote(bytes.len() as u32),

@@ -1,27 +1,27 @@
-use Rattle.std.proofs.Common.{sym}
-use Rattle.pps_engine.specs.Planned.{after_step}
-use Rattle.pps_engine.proofs.Plans.{exact}
-use Rattle.pps_engine.proofs.Steps.{planned-reply, planned-sound, planned-sends}
+use Rattle.std.proofs.Common.{◌≡◌, true, subst}
+use Rattle.pps_types.specs.Outcome.{has_bytes}
+use Rattle.pps_types.specs.Plan.{may_lack_memory, apply_all_seen}
+use Rattle.engine_tables.specs.Tables.{content_in}
+use Rattle.engine_events.specs.Events.{moves_pending}
+use Rattle.pps_engine.specs.Serving.{Serving}
 use Rattle.pps_engine.proofs.Marks.{bytes-may-lack}
+use Rattle.pps_engine.proofs.Plans.{planned-reply, planned-pending, planned-sends}
 use Rattle.pps_engine.proofs.engine.Engine.plan.Goals as goal
 
-pub invariant_of-self-in-Ok : goal.invariant_of-self-in-Ok
-invariant_of-self-in-Ok c =
-    let state = c.self.inside.state in
-    (c.self.invariant.0, (planned-sound state (after_step state c.in-Ok.prepared.step) c.args.event.now c.in-Ok.prepared.reply c.self.invariant.0 c.in-Ok.ensures.ok, c.in-Ok.ensures.ready))
+pub invariant_of-self-2 : goal.invariant_of-self-2
+invariant_of-self-2 c =
+    let p = c.in_ok-reply.field-0 in
+    planned-pending c.self.inside.tables c.plan-planned.new.tables c.args.event.now p.reply p.pending c.keep.new.pending c.self.invariant.0 c.plan-planned.ensures.content c.in_ok-reply.ensures.plans c.in_ok-reply.ensures.ready c.keep.ensures
 
-pub returns-in-Ok-clause-marks : goal.returns-in-Ok-clause-marks
-returns-in-Ok-clause-marks c =
-    let state = c.self.inside.state in
-    rw (sym c.self.view_is) (bytes-may-lack state c.args.event.now c.in-Ok.prepared.reply (planned-reply state (after_step state c.in-Ok.prepared.step) c.args.event.now c.in-Ok.prepared.reply c.in-Ok.ensures.ok))
+pub returns-clause-marks : goal.returns-clause-marks
+returns-clause-marks c =
+    let p = c.in_ok-reply.field-0 in
+    let before = content_in c.self.inside.tables in
+    subst (λ (s : Serving). has_bytes p.reply ≡ true → may_lack_memory s.content c.args.event.now ≡ true) c.self.view_is
+    (bytes-may-lack before c.args.event.now p.reply (planned-reply before (apply_all_seen (moves_pending p.pending c.plan-planned.new.tables) before) c.args.event.now p.reply c.in_ok-reply.ensures.plans))
 
-pub returns-in-Ok-clause-sends : goal.returns-in-Ok-clause-sends
-returns-in-Ok-clause-sends c =
-    let state = c.self.inside.state in
-    planned-sends state (after_step state c.in-Ok.prepared.step) c.args.event.now c.in-Ok.prepared.reply c.self.invariant.0.bound c.in-Ok.ensures.ok
-
-pub returns-in-Ok-clause-cut : goal.returns-in-Ok-clause-cut
-returns-in-Ok-clause-cut c directory target = exact directory target c.self.inside.state.handles
-
-pub returns-in-Err-clause-cut : goal.returns-in-Err-clause-cut
-returns-in-Err-clause-cut c directory target = exact directory target c.self.inside.state.handles
+pub returns-clause-sends : goal.returns-clause-sends
+returns-clause-sends c =
+    let p = c.in_ok-reply.field-0 in
+    let before = content_in c.self.inside.tables in
+    planned-sends before (apply_all_seen (moves_pending p.pending c.plan-planned.new.tables) before) c.args.event.now p.reply c.self.invariant.0.bound c.in_ok-reply.ensures.plans

@@ -1,21 +1,8 @@
-use Rattle.std.proofs.Common.{rules, arith, sym}
+use Rattle.std.proofs.Common.{arith}
 use Rattle.pps_types.proofs.StandsLaw.{runs-stand}
 use Rattle.pps_types.specs.Runs.{answered}
 use Rattle.pps_engine.proofs.Lists.{runs-all}
-use Rattle.pps_engine.proofs.Plans.{exact}
 use Rattle.pps_engine.proofs.engine.Engine.run_list.Goals as goal
-
-pub returns-in-Err-clause-cut : goal.returns-in-Err-clause-cut
-returns-in-Err-clause-cut c directory target = rw (sym c.self.view_is) (exact directory target c.self.inside.state.handles)
-
-pub events-init : goal.events-init
-events-init c = record {
-  runs = search rules;
-  sends = search rules;
-  count = search rules;
-  cut = λ directory target. rw (sym c.self.view_is) (exact directory target c.self.inside.state.handles);
-  room = search rules;
-}
 
 pub returns-clause-seen : goal.returns-clause-seen
 returns-clause-seen c = runs-all c.args.self.now.content c.events.self.content c.args.events.now c.events.event-index c.events.replies.items (omega (arith, c.events-test.false)) c.events.invariant.runs

@@ -1,4 +1,0 @@
-pub mod Ends
-pub mod Ways
-pub mod Lists
-pub mod OnPath

@@ -1,4 +1,0 @@
-pub mod Places
-pub mod Firsts
-pub mod Touches
-pub mod PathEnds

@@ -1,4 +1,0 @@
-pub mod Queue
-pub mod Handle
-pub mod Objects
-pub mod Opening

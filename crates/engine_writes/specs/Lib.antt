@@ -1,2 +1,0 @@
-pub mod Addressed
-pub mod Written

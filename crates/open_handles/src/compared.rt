@@ -1,0 +1,49 @@
+//! Whether the same handles are open.
+ghost use Rattle.std.specs.Prelude.{◌≡◌, ◌↔◌, IsTrue};
+ghost use Rattle.std.specs.List.{AllByRecursion};
+ghost use Rattle.open_handles.specs.Whole.{handles_in, HasSame};
+
+use crate::handles::Handles;
+use crate::places::Places;
+use engine_seats::Seats;
+use number_table::Iter;
+
+impl Places {
+    // Whether the same handles are on what these are on.
+    fn has_same(&self, seats: &Seats) -> bool
+        ensures { IsTrue result ↔ HasSame self.now seats.now }
+    {
+        match self.get(seats.target()) {
+            None => seats.is_empty(),
+            Some(other) => other.same_handles(seats),
+        }
+    }
+
+    // Whether the same handles are on what each of these are on.
+    fn has_all(&self, seats: Iter<'_, Seats>) -> bool
+        ensures { IsTrue result ↔ AllByRecursion (HasSame self.now) seats.entry }
+    {
+        let mut rest = seats;
+        while let Some(each) = rest.next() {
+            if !self.has_same(each) {
+                return false;
+            }
+        }
+        true
+    }
+}
+
+impl Handles {
+    /// Whether the same handles are open in both, which have seen the same, and the same number is next. It takes no memory.
+    pub fn same(&self, other: &Handles) -> bool
+        ensures { IsTrue result ↔ ((handles_in self.now ≡ handles_in other.now) × (self.now.rows.next ≡ other.now.rows.next)) }
+    {
+        if !self.rows.same(&other.rows) {
+            return false;
+        }
+        if !other.places.has_all(self.places.objects.iter()) {
+            return false;
+        }
+        other.places.has_all(self.places.directories.iter())
+    }
+}

@@ -1,0 +1,42 @@
+-- What this body holds, and what will stand.
+use Rattle.std.specs.Prelude.{◌≡◌, ℕ, List, ◌++◌, Bool, true, false, Option, Some, None, map}
+use Rattle.pps_types.specs.Content.{Content}
+use Rattle.pps_types.specs.Owed.{kept_records_seen}
+use Rattle.pps_types.specs.Plan.{apply_all_seen}
+use Rattle.pps_types.specs.WellFormed.{IsContent}
+use Rattle.content_bounds.specs.Bounds.{IsBound}
+use Rattle.number_table.specs.Numbered.{Entry as Numbering}
+use Rattle.engine_seats.specs.declared.seats.Seats.{Seats}
+use Rattle.engine_seats.specs.Seated.{kept_of}
+use Rattle.engine_tables.specs.Tables.{Tabled, content_in}
+use Rattle.engine_events.specs.declared.planned.Pending.{Pending}
+use Rattle.engine_events.specs.Events.{moves_pending, CanCarry}
+use Rattle.pps_engine.specs.Serving.{Chained, held_records}
+
+-- it is well formed, and within its bounds
+pub record IsSound (c : Content) : Type 0 where
+  pub formed : IsContent c
+  pub bound : IsBound c
+
+-- what stands once it is carried out
+abbrev pub after : Tabled → Pending → Content
+after t p = apply_all_seen (moves_pending p t) (content_in t)
+
+-- where a plan is pending it can be carried out, and what stands then is sound
+abbrev pub IsPending : Tabled → Option Pending → Type 0
+IsPending t None = Unit {0}
+IsPending t (Some p) = CanCarry p t × IsSound (after t p)
+
+-- ---- what is held
+
+-- the list of records of an object or a directory
+abbrev pub chain_of : Bool → Numbering Seats → Chained
+chain_of directory e = record { directory = directory; target = e.number; records = kept_of e.value }
+
+-- of all objects and of all directories
+abbrev pub chains_of : Tabled → List Chained
+chains_of t = map (chain_of false) t.handles.objects.entries ++ map (chain_of true) t.handles.directories.entries
+
+-- just the records that have to be kept
+abbrev pub HoldsJust : Tabled → Type 0
+HoldsJust t = (directory : Bool) (target : ℕ) → held_records directory target (chains_of t) ≡ kept_records_seen (content_in t) directory target
