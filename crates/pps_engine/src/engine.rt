@@ -63,9 +63,9 @@ impl Plan {
 #[derive(Drop)]
 pub struct Engine {
     alloc: Global,
-    tables: Tables,
+    tables: Box<Tables>,
     /// What the latest plan will do, where it is ready.
-    pending: Option<Pending>,
+    pending: Box<Option<Pending>>,
 }
 
 impl Model for Engine {
@@ -76,9 +76,9 @@ impl Model for Engine {
 
     ghost Value = { Serving };
 
-    ghost view = { λ a. record { content = content_in a.tables; next = option_map (after a.tables) a.pending; chains = chains_of a.tables } };
+    ghost view = { λ a. record { content = content_in a.tables.value; next = option_map (after a.tables.value) a.pending.value; chains = chains_of a.tables.value } };
 
-    ghost invariant = { λ a. IsSound (content_in a.tables) × IsPending a.tables a.pending };
+    ghost invariant = { λ a. IsSound (content_in a.tables.value) × IsPending a.tables.value a.pending.value };
 }
 
 impl Engine {
@@ -88,8 +88,8 @@ impl Engine {
         let tables = Tables::new(alloc, first_handle, default_limit)?;
         Ok(Engine {
             alloc,
-            tables,
-            pending: None,
+            tables: Box::new(alloc, tables)?,
+            pending: Box::new(alloc, None)?,
         })
     }
 
@@ -197,9 +197,10 @@ impl Engine {
         ensures { result ≡ kept_seen self.now.content path.now }
     {
         questions_are_told();
-        self.tables.holds_what_is_owed();
-        let found = self.tables.names().at(path.names())?;
-        Some(self.tables.handles().kept(found))
+        let tables: &Tables = &self.tables;
+        tables.holds_what_is_owed();
+        let found = tables.names().at(path.names())?;
+        Some(tables.handles().kept(found))
     }
 
     /// How many records a handle is owed: none of no such handle, in full mode, before its first read and past its limit.
@@ -234,8 +235,8 @@ impl Engine {
         };
         Ok(Engine {
             alloc: self.alloc,
-            tables,
-            pending: None,
+            tables: Box::new(self.alloc, tables)?,
+            pending: Box::new(self.alloc, None)?,
         })
     }
 }
