@@ -12,5 +12,5 @@ pub use print::{
     client_header_len, header_len, line_len, print_header, print_line, push_client_header,
     push_header, push_line, push_set, set_len,
 };
-pub use read::{WRITE_LIMIT, WriteLines, WriteText, first_line, read_write, read_write_line};
+pub use read::{WRITE_LIMIT, WriteText, first_line, read_write, read_write_line};
 pub use show::show_value;

@@ -7,7 +7,6 @@ ghost use Rattle.attr_text.specs.ReadWrite.{first_line_of, IsLinesRefusal, IsTex
 
 use crate::parts::{is_encoding, split_at_colon, split_at_line_feed};
 use pps_types::{Bytes, Mark, Refusal, WriteLine};
-use smallvec::SmallVec;
 use std::alloc::{AllocError, Global};
 use std::marker::Model;
 use text_parts::is_attribute_name;
@@ -15,14 +14,11 @@ use text_parts::is_attribute_name;
 /// The most bytes of a write.
 pub const WRITE_LIMIT: usize = 65_536;
 
-/// The lines of a write. A few of them take no memory of their own.
-pub type WriteLines = SmallVec<WriteLine, 4>;
-
 /// What a written text says: its header, and its lines.
 #[derive(Debug, Drop)]
 pub struct WriteText {
     header: Option<Bytes>,
-    lines: WriteLines,
+    lines: Vec<WriteLine>,
 }
 
 impl Model for WriteText {
@@ -49,7 +45,7 @@ impl WriteText {
     }
 
     /// The header and the lines. It takes no memory.
-    pub fn into_parts(self) -> (Option<Bytes>, WriteLines)
+    pub fn into_parts(self) -> (Option<Bytes>, Vec<WriteLine>)
         ensures header { result.0 ≡ self.header }
         ensures lines { result.1.items ≡ self.lines }
     {
@@ -125,12 +121,12 @@ pub fn first_line(bytes: &[u8]) -> (&[u8], &[u8])
 }
 
 /// Reads the lines of the bytes, the first of which has that number.
-fn read_lines(alloc: Global, first: u32, bytes: &[u8]) -> Result<WriteLines, Refusal>
+fn read_lines(alloc: Global, first: u32, bytes: &[u8]) -> Result<Vec<WriteLine>, Refusal>
     requires { first + length bytes.now < 2 ^ 32 }
     ensures ok { IfOk result (λ lines. text.write_lines first (text.lines_of bytes.now) ≡ Ok lines.items) }
     ensures err { IfErr result (λ refusal. IsLinesRefusal first bytes.now refusal) }
 {
-    let mut lines = WriteLines::new(alloc);
+    let mut lines = Vec::new(alloc);
     let mut number = first;
     let mut rest = bytes;
     while !rest.is_empty() {

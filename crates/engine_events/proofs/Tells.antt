@@ -97,7 +97,7 @@ pub entries_are : (t : Tabled) (d : Doing) → CanDo d t → entries_told (moves
 entries_are t Nothing can = refl
 entries_are t (Begins beginning) can = begins_tell beginning.items
 entries_are t (Leaves beginning conn) can = behind_tells beginning.items (planning.Leaves conn) refl
-entries_are t (Opens o) can = opens_tell t o can
+entries_are t (Opens o) can = opens_tell t o.value can
 entries_are t (Attaches conn outbox) can = refl
 entries_are t (Closes conn handle parked) can = closing_tells conn handle parked
 entries_are t (Reads conn handle effect) can = reads_tell handle effect
@@ -110,7 +110,7 @@ pub closes_are : (t : Tabled) (d : Doing) → handles_closed (moves_in d t) ≡ 
 closes_are t Nothing = refl
 closes_are t (Begins beginning) = begins_close beginning.items
 closes_are t (Leaves beginning conn) = behind_closes beginning.items (planning.Leaves conn) refl
-closes_are t (Opens o) = opens_close t o
+closes_are t (Opens o) = opens_close t o.value
 closes_are t (Attaches conn outbox) = refl
 closes_are t (Closes conn handle parked) = closing_closes conn handle parked
 closes_are t (Reads conn handle effect) = reads_close handle effect

@@ -1,16 +1,16 @@
 -- Moves that tell no record and make nothing pass no last number; and where no record is told nothing follows.
-use Rattle.std.proofs.Common.{◌≡◌, ℕ, false, List, [], ◌∷◌, ◌++◌, Option, Some, None, refl, sym, ap, subst, ◌∙◌}
+use Rattle.std.proofs.Common.{◌≡◌, ℕ, Bool, true, false, List, [], ◌∷◌, ◌++◌, Option, Some, None, refl, sym, ap, subst, ◌∙◌, inr}
 use Rattle.pps_types.specs.declared.event.Request.{Request}
 use Rattle.pps_types.specs.declared.event.Request.TheVariants.{Attach, Receive}
 use Rattle.pps_types.specs.declared.outcome.Item.{Item}
 use Rattle.pps_types.specs.declared.outcome.Outcome.{Outcome}
 use Rattle.pps_types.specs.declared.outcome.Outcome.TheVariants.{Done, Opened, Data, Wrote, Parked, Input, Item as ItemOutcome, Empty}
 use Rattle.pps_types.specs.declared.refusal.Refusal.{Refusal}
-use Rattle.pps_types.specs.declared.refusal.Refusal.TheVariants.{TableFull}
+use Rattle.pps_types.specs.declared.refusal.Refusal.TheVariants.{OutOfMemory, TableFull}
 use Rattle.pps_types.specs.Content.{Content, queue_of}
 use Rattle.pps_types.specs.Outbox.{first_of}
 use Rattle.pps_types.specs.WellFormed.{IsContent}
-use Rattle.pps_types.specs.Checks.{Check, Refuse, checks, attach_checks, first_refusal, request_checks}
+use Rattle.pps_types.specs.Checks.{Check, Refuse, Memory, checks, attach_checks, first_refusal, reaches_memory, request_checks}
 use Rattle.pps_types.specs.Plan.{Move, effect, apply_all_seen, Attaches, Takes, received, all_checks_of, passes_last_number}
 use Rattle.settling_laws.specs.Laws.{EventsAreSettled, MovesAreSettled}
 use Rattle.settling_laws.specs.Targets.{last_number_passed, last_number_passed_after}
@@ -85,6 +85,11 @@ received_here c conn reply is = received_is conn (first_of (queue_of c conn)) �
 
 -- ---- of a connection that attaches
 
+wanted_behind : (a b : Bool) (r s : Refusal) → first_refusal (Refuse a r ∷ Refuse b s ∷ Memory ∷ []) ≡ None → reaches_memory (Refuse a r ∷ Refuse b s ∷ Memory ∷ []) ≡ true
+wanted_behind true b r s e = absurd (let bad = e in cc)
+wanted_behind false true r s e = absurd (let bad = e in cc)
+wanted_behind false false r s e = refl
+
 module _ (c : Content) (conn : ℕ) where
   pub attach_does : effect c conn Attach ≡ (Done, Attaches conn ∷ [])
   unfolding effect
@@ -100,6 +105,10 @@ module _ (c : Content) (conn : ℕ) where
   pub attach_fails : (r : Refusal) → Fails (attach_checks c conn) r → Fails (all_checks_of c (record { conn = conn; request = Attach })) r
   unfolding effect
   attach_fails r fails = subst (λ cs. Fails (cs ++ last_of_attach) r) (sym attaching) (fails_before (attach_checks c conn) last_of_attach r fails)
+
+  -- no check refuses it, so that it may want memory
+  pub attach_lacks : first_refusal (attach_checks c conn) ≡ None → Fails (attach_checks c conn) OutOfMemory
+  attach_lacks passes = inr (refl, wanted_behind _ _ _ _ passes)
 
   pub attach_passes : EventsAreSettled → last_number_passed c 0 0 0 ≡ false → first_refusal (attach_checks c conn) ≡ None → first_refusal (all_checks_of c (record { conn = conn; request = Attach })) ≡ None
   unfolding effect

@@ -31,7 +31,7 @@ abbrev pub moves_in : Doing → Tabled → List Move
 moves_in Nothing t = []
 moves_in (Begins beginning) t = flat_map moves_of beginning.items
 moves_in (Leaves beginning conn) t = flat_map moves_of beginning.items ++ planning.Leaves conn ∷ []
-moves_in (Opens o) t = opens.moves_of o t
+moves_in (Opens o) t = opens.moves_of o.value t
 moves_in (Attaches conn outbox) t = planning.Attaches conn ∷ []
 moves_in (Closes conn handle parked) t = closing conn handle parked
 moves_in (Reads conn handle effect) t = reads.moves_of handle effect
@@ -87,8 +87,8 @@ abbrev pub CanDo : Doing → Tabled → Type 0
 CanDo Nothing t = Unit {0}
 CanDo (Begins beginning) t = AreReady beginning.items t
 CanDo (Leaves beginning conn) t = AreReady beginning.items t
-CanDo (Opens o) t = opens.IsReady o t
-CanDo (Attaches conn outbox) t = CanAttach conn outbox t
+CanDo (Opens o) t = opens.IsReady o.value t
+CanDo (Attaches conn outbox) t = CanAttach conn outbox.value t
 CanDo (Closes conn handle parked) t = CanBegin (content_in t) (BeginningCloses conn handle parked)
 CanDo (Reads conn handle effect) t = CanRead conn handle effect t
 CanDo (Arms conn handle pulse) t = CanNotice conn handle pulse t

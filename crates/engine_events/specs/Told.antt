@@ -47,13 +47,13 @@ closes_opened opens = []
 abbrev pub entries_of : Doing → List Entry
 entries_of (Begins beginning) = entries_in beginning.items
 entries_of (Leaves beginning conn) = entries_in beginning.items
-entries_of (Opens opens) = entries_opened opens
+entries_of (Opens opens) = entries_opened opens.value
 entries_of d = []
 
 abbrev pub closes_of : Doing → List ℕ
 closes_of (Begins beginning) = closes_in beginning.items
 closes_of (Leaves beginning conn) = closes_in beginning.items
-closes_of (Opens opens) = closes_opened opens
+closes_of (Opens opens) = closes_opened opens.value
 closes_of (Closes conn handle parked) = handle ∷ []
 closes_of d = []
 

@@ -8,7 +8,7 @@ ghost use Rattle.engine_tables.specs.Tables.{content_in};
 ghost use Rattle.engine_events.specs.Events.{is_attach, IsAsked, IsDone, IsRefusedTo, IsRefused};
 
 use crate::doing::Doing;
-use crate::done::Done;
+use crate::done::{Done, boxed};
 use crate::requests;
 use close_requests::numbers_are_within;
 use engine_tables::Tables;
@@ -27,6 +27,7 @@ fn attach(tables: &mut Tables, alloc: Global, conn: Conn) -> Result<Done, Refusa
     events_are_settled();
     numbers_are_within(tables);
     let outbox = handle_requests::attach(tables, alloc, conn)?;
+    let outbox = boxed(alloc, outbox)?;
     Ok(Done {
         reply: Outcome::Done,
         doing: Doing::Attaches { conn, outbox },

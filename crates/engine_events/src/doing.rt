@@ -25,12 +25,12 @@ pub(crate) enum Doing {
         beginning: Vec<Beginning>,
         conn: Conn,
     },
-    /// A handle opens.
-    Opens(Opens),
+    /// A handle opens. The box keeps what other events do small.
+    Opens(Box<Opens>),
     /// A connection attaches, with an outbox that is empty.
     Attaches {
         conn: Conn,
-        outbox: Outbox,
+        outbox: Box<Outbox>,
     },
     /// A handle closes, and nobody is told. A read waits on it, or not.
     Closes {
@@ -100,8 +100,8 @@ pub(crate) fn carry_out(tables: &mut Tables, doing: Doing)
         Doing::Nothing => {}
         Doing::Begins(beginning) => tables.begin_all(beginning),
         Doing::Leaves { beginning, conn } => begin_and_leave(tables, beginning, conn),
-        Doing::Opens(opens) => open_requests::carry_out(tables, opens),
-        Doing::Attaches { conn, outbox } => tables.attach(conn, outbox),
+        Doing::Opens(opens) => open_requests::carry_out(tables, Box::into_inner(opens)),
+        Doing::Attaches { conn, outbox } => tables.attach(conn, Box::into_inner(outbox)),
         Doing::Closes {
             conn,
             handle,

@@ -9,7 +9,7 @@ ghost use Rattle.engine_events.specs.Events.{IsAsked, IsRefusedTo};
 ghost use Rattle.engine_events.specs.Told.{number_opened};
 
 use crate::doing::Doing;
-use crate::done::Done;
+use crate::done::{Done, boxed};
 use close_requests::{Closing, numbers_are_within};
 use engine_tables::Tables;
 use engine_targets::Pulse;
@@ -84,9 +84,10 @@ pub(crate) fn open(
     ensures err { IfErr result (λ r. IsRefusedTo (content_in tables.old) conn (Open mode text.now) r) }
 {
     let opens = open_requests::open(tables, alloc, conn, mode, text)?;
+    let reply = Outcome::Opened(handle_opened(&opens));
     Ok(Done {
-        reply: Outcome::Opened(handle_opened(&opens)),
-        doing: Doing::Opens(opens),
+        reply,
+        doing: Doing::Opens(boxed(alloc, opens)?),
     })
 }
 

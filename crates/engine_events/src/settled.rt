@@ -37,6 +37,9 @@ fn settled_begun(
     requires { IsContent (content_in tables.now) }
     ensures { IfOk result (λ following. IsSettled (content_in tables.now) (entries_in beginning.now) (closes_in beginning.now) following.items) }
 {
+    if let [Beginning::Happens(told)] = beginning {
+        return settle(tables, alloc, std::slice::from_ref(told.entry()), &[]);
+    }
     let entries = entries_in(alloc, beginning)?;
     let closing = handles_of(alloc, beginning)?;
     settle(tables, alloc, &entries, &closing)

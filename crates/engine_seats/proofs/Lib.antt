@@ -1,3 +1,4 @@
 pub mod Shared
 pub mod Overs
 pub mod Alike
+pub mod Glances

@@ -15,11 +15,12 @@ ghost use Rattle.pps_types.specs.declared.refusal.Refusal.TheVariants.{OutOfMemo
 ghost use Rattle.engine_targets.specs.Blocks.{owed_blocks, refused_for, first_len};
 ghost use Rattle.engine_targets.specs.Opened.{opened, as_opened, armed_pulse, handle_at, is_directory, number_of};
 ghost use Rattle.engine_targets.specs.Seated.{AreSeated};
+ghost use Rattle.engine_targets.specs.Glances.{glanced, glance_on};
 ghost use Rattle.engine_targets.specs.Woken as waking;
 ghost use Rattle.engine_seats.specs.Seated.{target_of, name_of, handles_of, kept_of, places_of, is_queue_style, is_service, IsReady, Suits, IsSameTarget, KeepsRoom, IsEnough};
 
 use engine_servers::{Service, Shares};
-use engine_targets::{Given, Opening, Pulse, Target};
+use engine_targets::{Given, Glance, Opening, Pulse, Target};
 use pps_types::{Bytes, DirId, Found, Handle, ObjId, Refusal};
 use server_queue::Entry;
 use std::alloc::{AllocError, Global};
@@ -30,6 +31,23 @@ use std::alloc::{AllocError, Global};
 pub enum Seats {
     Readers(Target),
     Service(Service),
+}
+
+// What is seen of a handle of a server object, where it is here.
+fn glance_in(service: &Service, number: Handle) -> Option<Glance<'_>>
+    ensures { option_map (glance_on service.now.object service.now.name) result ≡ option_map glanced (handle_at number service.now.handles) }
+{
+    service.none_is_over();
+    let Some(opening) = service.opening(number) else {
+        return None;
+    };
+    Some(Glance {
+        opening,
+        parked: service.parked(number),
+        has_news: service.has_news(number),
+        is_over: false,
+        owed: service.owed(number),
+    })
 }
 
 impl Seats {
@@ -277,6 +295,16 @@ impl Seats {
         }
     }
 
+    /// What is seen of a handle at one look, where it is here.
+    pub fn glance(&self, number: Handle) -> Option<Glance<'_>>
+        ensures { option_map (glance_on (number_of (target_of self.now)) (name_of self.now)) result ≡ option_map glanced (handle_at number (handles_of self.now)) }
+    {
+        match self {
+            Seats::Readers(target) => target.glance(number),
+            Seats::Service(service) => glance_in(service, number),
+        }
+    }
+
     /// The size of the read that waits on a handle, if one does.
     pub fn parked(&self, number: Handle) -> Option<u32>
         ensures { result ≡ option_and_then (λ (h : reading.Open rests.Seen). h.parked) (handle_at number (handles_of self.now)) }
@@ -314,19 +342,6 @@ impl Seats {
         match self {
             Seats::Readers(target) => target.name(),
             Seats::Service(service) => service.name(),
-        }
-    }
-
-    /// Whether a handle is here that is owed more records than its limit, so that it is given everything anew.
-    pub fn is_over(&self, number: Handle) -> bool
-        ensures { result ≡ option_map_or (λ (h : reading.Open rests.Seen). rests.is_over h.seen) (handle_at number (handles_of self.now)) false }
-    {
-        match self {
-            Seats::Readers(target) => target.is_over(number),
-            Seats::Service(service) => {
-                service.none_is_over();
-                false
-            }
         }
     }
 

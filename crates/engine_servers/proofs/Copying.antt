@@ -1,5 +1,5 @@
 -- Copies of handles: what stands of each, and what a handle is.
-use Rattle.std.proofs.Common.{◌≡◌, ◌<◌, ℕ, zero, suc, arith, get_or, List, [], ◌∷◌, length, map, refl, sym, ap, subst, ◌∙◌, None}
+use Rattle.std.proofs.Common.{◌≡◌, ◌<◌, ℕ, zero, suc, Bool, true, false, arith, get_or, List, [], ◌∷◌, length, map, refl, sym, ap, subst, ◌∙◌, None}
 use Rattle.std.specs.List.{AllByRecursion}
 use Rattle.pps_types.specs.History.{Entry}
 use Rattle.pps_types.specs.Reading.{Open, reseen, style}
@@ -10,7 +10,7 @@ use Rattle.engine_targets.specs.Opened.{opened, armed_pulse}
 use Rattle.engine_targets.proofs.Alike.{armed-is, opening-is}
 use Rattle.engine_servers.specs.declared.holder.Holder.{Holder}
 use Rattle.engine_servers.specs.Held.{Held, held_of}
-use Rattle.engine_servers.specs.Holders.{handle_of, number_in, IsFor, IsHolder, IsService}
+use Rattle.engine_servers.specs.Holders.{handle_of, number_in, IsFor, IsHolder, IsOfClient, IsLed, IsService}
 
 cons_first : {X : Type 0} (x y : X) (xs ys : List X) → x ∷ xs ≡ y ∷ ys → x ≡ y
 cons_first x y xs ys same = cc
@@ -92,10 +92,24 @@ each_held object [] (y ∷ ys) same all = cc
 each_held object (x ∷ xs) [] same all = tt
 each_held object (x ∷ xs) (y ∷ ys) same all = (holder_held object x y (same_head y x ys xs same) all.0, each_held object xs ys (same_tail y x ys xs same) all.1)
 
-pub service_held : (object : ℕ) (xs ys : List Holder) → map held_of ys ≡ map held_of xs → IsService object xs → IsService object ys
-service_held object xs ys same is = record {
+clients_held : (xs ys : List Holder) → map held_of ys ≡ map held_of xs → AllByRecursion IsOfClient xs → AllByRecursion IsOfClient ys
+clients_held [] [] same all = tt
+clients_held [] (y ∷ ys) same all = cc
+clients_held (x ∷ xs) [] same all = tt
+clients_held (x ∷ xs) (y ∷ ys) same all = (ap (λ (s : Held). s.opening.kind) (same_head y x ys xs same) ∙ all.0, clients_held xs ys (same_tail y x ys xs same) all.1)
+
+led_held : (led : Bool) (xs ys : List Holder) → map held_of ys ≡ map held_of xs → IsLed led xs → IsLed led ys
+led_held false xs ys same clients = tt
+led_held true [] [] same clients = tt
+led_held true [] (y ∷ ys) same clients = cc
+led_held true (x ∷ xs) [] same clients = tt
+led_held true (x ∷ xs) (y ∷ ys) same clients = clients_held xs ys (same_tail y x ys xs same) clients
+
+pub service_held : (object : ℕ) (led : Bool) (xs ys : List Holder) → map held_of ys ≡ map held_of xs → IsService object led xs → IsService object led ys
+service_held object led xs ys same is = record {
   each = each_held object xs ys same is.each;
   rising = rising_held xs ys same is.rising;
+  clients = led_held led xs ys same is.clients;
 }
 
 pub renamed : (o p : ℕ) (n m : List ℕ) (xs : List Holder) (hs : List (Open Seen)) → o ≡ p → n ≡ m → map (handle_of p m) xs ≡ hs → map (handle_of o n) xs ≡ hs

@@ -7,3 +7,4 @@ pub mod Waking
 pub mod Copying
 pub mod Seats
 pub mod Overs
+pub mod Spans

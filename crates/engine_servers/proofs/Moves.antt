@@ -1,7 +1,11 @@
 -- What a move makes of the handles of a server object.
-use Rattle.std.proofs.Common.{◌≡◌, ℕ, zero, suc, ◌<◌, eqb, List, [], ◌∷◌, ◌++◌, length, map, set, get_or, refl, sym, ap, subst, ◌∙◌}
+use Rattle.std.proofs.Common.{◌≡◌, ℕ, zero, suc, ◌<◌, eqb, Bool, true, false, ◌&&◌, ◌||◌, arith, List, [], ◌∷◌, ◌++◌, length, map, set, get_or, refl, sym, ap, subst, ◌∙◌}
 use Rattle.std.specs.List.{AllByRecursion, remove}
 use Rattle.std.proofs.lemmas.List.{map-set, get_or-map}
+use Rattle.pps_types.specs.declared.handle_kind.HandleKind.{HandleKind}
+use Rattle.pps_types.specs.declared.handle_kind.HandleKind.TheVariants.{Object as ObjectHandle, Directory as DirectoryHandle, Names as NamesHandle, Server as ServerHandle, Client as ClientHandle}
+use Rattle.pps_types.specs.Bytes.{is_empty}
+use Rattle.pps_types.specs.Checks.{is_client}
 use Rattle.pps_types.specs.History.{Entry}
 use Rattle.pps_types.specs.Reading.{Open}
 use Rattle.pps_types.specs.Rests.{Seen}
@@ -11,8 +15,9 @@ use Rattle.notify_box.specs.Rising.{IsPlaceOf, IsGapFor}
 use Rattle.notify_box.proofs.Edits.{rising_remove}
 use Rattle.engine_targets.proofs.Edits.{change_gap, without_gap, change_place, without_place, rising_set, rising_push, place_map, gap_map}
 use Rattle.engine_targets.proofs.Tallies.{all-at, all-set}
+use Rattle.engine_targets.specs.declared.opening.Opening.{Opening}
 use Rattle.engine_servers.specs.declared.holder.Holder.{Holder}
-use Rattle.engine_servers.specs.Holders.{handle_of, number_in, IsHolder, IsService}
+use Rattle.engine_servers.specs.Holders.{handle_of, number_in, IsHolder, IsOfClient, IsLed, IsService}
 use Rattle.engine_servers.specs.Standing.{spare_of, HaveRoom}
 
 -- ---- what a search says, of the list and the number that were meant
@@ -57,21 +62,62 @@ module _ (object : ℕ) (name : List ℕ) (holders : List Holder) where
 
 -- ---- what is always so
 
-module _ (object : ℕ) (holders : List Holder) (is : IsService object holders) where
-  pub set-is : (k : ℕ) (x d : Holder) → k < length holders → x.opening.number ≡ (get_or holders k d).opening.number → IsHolder object x → IsService object (set holders k x)
-  set-is k x d lt number right = record {
+led-set : (led : Bool) (xs : List Holder) (k : ℕ) (x d : Holder) → k < length xs → x.opening ≡ (get_or xs k d).opening → IsLed led xs → IsLed led (set xs k x)
+led-set false xs k x d lt same clients = tt
+led-set true [] k x d lt same clients = tt
+led-set true (y ∷ ys) zero x d lt same clients = clients
+led-set true (y ∷ ys) (suc k) x d lt same clients =
+    all-set IsOfClient ys k x clients (ap (λ (o : Opening). o.kind) same ∙ all-at IsOfClient ys k d clients (omega arith))
+
+led-gone : (led : Bool) (xs : List Holder) (k : ℕ) → IsLed led xs → IsLed led (remove xs k)
+led-gone false xs k clients = tt
+led-gone true [] zero clients = tt
+led-gone true [] (suc k) clients = tt
+led-gone true (x ∷ []) zero clients = tt
+led-gone true (x ∷ (y ∷ ys)) zero clients = clients.1
+led-gone true (x ∷ xs) (suc k) clients = all-remove IsOfClient xs k clients
+
+is-client : (kind : HandleKind) → is_client kind ≡ true → kind ≡ ClientHandle
+is-client (ObjectHandle delta) is = absurd cc
+is-client (DirectoryHandle delta) is = absurd cc
+is-client NamesHandle is = absurd cc
+is-client ServerHandle is = absurd cc
+is-client ClientHandle is = refl
+
+-- all but the first are known to be clients' where this is so before, and the new one is the first or a client's
+led-push : (led : Bool) (xs : List Holder) (x : Holder) → IsLed led xs → IsLed (led && (is_empty xs || is_client x.opening.kind)) (xs ++ x ∷ [])
+led-push false xs x clients = tt
+led-push true [] x clients = tt
+led-push true (y ∷ ys) x clients = by (is_client x.opening.kind) refl
+  where
+    by : (b : Bool) → is_client x.opening.kind ≡ b → IsLed b (y ∷ (ys ++ x ∷ []))
+    by true is = all-push IsOfClient ys x clients (is-client x.opening.kind is)
+    by false is = tt
+
+module _ (object : ℕ) (led : Bool) (holders : List Holder) (is : IsService object led holders) where
+  pub set-is : (k : ℕ) (x d : Holder) → k < length holders → x.opening ≡ (get_or holders k d).opening → IsHolder object x → IsService object led (set holders k x)
+  set-is k x d lt same right = record {
     each = all-set (IsHolder object) holders k x is.each right;
-    rising = rising_set number_in x d holders k is.rising number lt;
+    rising = rising_set number_in x d holders k is.rising (ap (λ (o : Opening). o.number) same) lt;
+    clients = led-set led holders k x d lt same is.clients;
   }
 
   pub holder-at : (k : ℕ) (d : Holder) → k < length holders → IsHolder object (get_or holders k d)
   holder-at k d lt = all-at (IsHolder object) holders k d is.each lt
 
-  pub gone-is : (k : ℕ) → IsService object (remove holders k)
-  gone-is k = record { each = all-remove (IsHolder object) holders k is.each; rising = rising_remove number_in holders k is.rising }
+  pub gone-is : (k : ℕ) → IsService object led (remove holders k)
+  gone-is k = record {
+    each = all-remove (IsHolder object) holders k is.each;
+    rising = rising_remove number_in holders k is.rising;
+    clients = led-gone led holders k is.clients;
+  }
 
-  pub push-is : (x : Holder) → AllByRecursion (λ y. y.opening.number < x.opening.number) holders → IsHolder object x → IsService object (holders ++ x ∷ [])
-  push-is x above right = record { each = all-push (IsHolder object) holders x is.each right; rising = rising_push number_in holders x is.rising above }
+  pub push-is : (x : Holder) → AllByRecursion (λ y. y.opening.number < x.opening.number) holders → IsHolder object x → IsService object (led && (is_empty holders || is_client x.opening.kind)) (holders ++ x ∷ [])
+  push-is x above right = record {
+    each = all-push (IsHolder object) holders x is.each right;
+    rising = rising_push number_in holders x is.rising above;
+    clients = led-push led holders x is.clients;
+  }
 
 pub above-holders : (object : ℕ) (name : List ℕ) (holders : List Holder) (number : ℕ) → AllByRecursion (λ (h : Open Seen). h.number < number) (map (handle_of object name) holders)
     → AllByRecursion (λ (x : Holder). x.opening.number < number) holders

@@ -16,9 +16,10 @@ use Rattle.server_queue.specs.Senders.{client_messages}
 use Rattle.engine_targets.specs.Opened.{opened, armed_pulse}
 use Rattle.engine_targets.specs.declared.opening.Opening.{Opening}
 use Rattle.engine_servers.specs.declared.holder.Holder.{Holder}
-use Rattle.engine_servers.specs.Holders.{handle_of, number_in, sees, IsFor, IsQueued, IsHolder, IsService}
+use Rattle.engine_servers.specs.Holders.{handle_of, number_in, sees, IsFor, IsQueued, IsHolder, IsOfClient, IsLed, IsService}
 use Rattle.engine_servers.specs.Standing.{spare_of, messages_in, HasRoom, HaveRoom}
 use Rattle.engine_servers.specs.Offers.{RoomIn, RoomInEach, IsOffered, AreOffered}
+use Rattle.engine_servers.specs.Spans.{FirstAre, RestAre}
 use Rattle.engine_servers.proofs.Seen.{queue-seen}
 
 -- ---- counting
@@ -78,10 +79,32 @@ module _ (object : ℕ) (e : Entry) where
   mixed-step (suc n) (x ∷ xs) [] d y m lt r = absurd m
   mixed-step (suc n) (x ∷ xs) (z ∷ zs) d y m lt r = (m.0, mixed-step n xs zs d y m.1 (omega arith) r)
 
-  pub mixed-all : (xs ys : List Holder) → Mixed (length xs) xs ys → AreOffered object e xs ys
-  mixed-all [] ys m = subst (AreOffered object e []) (sym m) tt
-  mixed-all (x ∷ xs) [] m = absurd m
-  mixed-all (x ∷ xs) (y ∷ ys) m = (m.0, mixed-all xs ys m.1)
+  -- those who are not given it are as if they were offered it
+  unseen-offered : (x : Holder) → sees object e x ≡ false → IsOffered object e x x
+  unseen-offered x out = record {
+    opening = refl;
+    parked = refl;
+    armed = refl;
+    limit = refl;
+    owed = sym (ap (λ b. cond b (x.queue.owed ++ e ∷ []) x.queue.owed) out);
+    records = omega arith;
+    messages = omega arith;
+  }
+
+  unseen-all : (xs : List Holder) → AllByRecursion (λ x. sees object e x ≡ false) xs → AreOffered object e xs xs
+  unseen-all [] out = tt
+  unseen-all (x ∷ xs) out = (unseen-offered x out.0, unseen-all xs out.1)
+
+  pub mixed-before : (n : ℕ) (xs : List Holder) → FirstAre (λ x. sees object e x ≡ false) n xs → Mixed n xs xs
+  mixed-before zero xs out = refl
+  mixed-before (suc n) [] out = refl
+  mixed-before (suc n) (x ∷ xs) out = (unseen-offered x out.0, mixed-before n xs out.1)
+
+  pub mixed-behind : (n : ℕ) (xs ys : List Holder) → Mixed n xs ys → RestAre (λ x. sees object e x ≡ false) n xs → AreOffered object e xs ys
+  mixed-behind zero xs ys m out = subst (AreOffered object e xs) (sym m) (unseen-all xs out)
+  mixed-behind (suc n) [] ys m out = subst (AreOffered object e []) (sym m) tt
+  mixed-behind (suc n) (x ∷ xs) [] m out = absurd m
+  mixed-behind (suc n) (x ∷ xs) (y ∷ ys) m out = (m.0, mixed-behind n xs ys m.1 out)
 
 -- ---- what a handle sees
 
@@ -162,8 +185,21 @@ module _ (object : ℕ) (e : Entry) where
   rising-is (x ∷ xs) [] rising all = absurd all
   rising-is (x ∷ xs) (y ∷ ys) rising all = (subst (λ (o : Opening). AllAbove number_in o.number ys) (sym all.0.opening) (above-is (number_in x) xs ys rising.0 all.1), rising-is xs ys rising.1 all.1)
 
-  pub offers-is : (xs ys : List Holder) → IsService object xs → AreOffered object e xs ys → IsService object ys
-  offers-is xs ys is all = record { each = each-is xs ys is.each all; rising = rising-is xs ys is.rising all }
+  clients-is : (xs ys : List Holder) → AllByRecursion IsOfClient xs → AreOffered object e xs ys → AllByRecursion IsOfClient ys
+  clients-is [] [] clients all = tt
+  clients-is [] (y ∷ ys) clients all = absurd all
+  clients-is (x ∷ xs) [] clients all = absurd all
+  clients-is (x ∷ xs) (y ∷ ys) clients all = (ap (λ (o : Opening). o.kind) all.0.opening ∙ clients.0, clients-is xs ys clients.1 all.1)
+
+  led-is : (led : Bool) (xs ys : List Holder) → IsLed led xs → AreOffered object e xs ys → IsLed led ys
+  led-is false xs ys clients all = tt
+  led-is true [] [] clients all = tt
+  led-is true [] (y ∷ ys) clients all = absurd all
+  led-is true (x ∷ xs) [] clients all = absurd all
+  led-is true (x ∷ xs) (y ∷ ys) clients all = clients-is xs ys clients all.1
+
+  pub offers-is : (led : Bool) (xs ys : List Holder) → IsService object led xs → AreOffered object e xs ys → IsService object led ys
+  offers-is led xs ys is all = record { each = each-is xs ys is.each all; rising = rising-is xs ys is.rising all; clients = led-is led xs ys is.clients all }
 
 pub each-queued : (object : ℕ) (xs : List Holder) → AllByRecursion (IsHolder object) xs → AllByRecursion IsQueued xs
 each-queued object [] each = tt

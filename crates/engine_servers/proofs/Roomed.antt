@@ -6,17 +6,18 @@ use Rattle.std.proofs.lemmas.List.Sums.{sum_by-cons}
 use Rattle.pps_types.specs.declared.record.Kind.{Kind}
 use Rattle.pps_types.specs.declared.record.Kind.TheVariants.{Created, Change, Truncated, Dropped, Deleted, Opened, Closed, FromClient, ToClient, ToAll}
 use Rattle.pps_types.specs.History.{Entry}
-use Rattle.pps_types.specs.Reading.{style, reseen}
+use Rattle.pps_types.specs.Reading.{style, visible, reseen}
 use Rattle.pps_types.specs.Rests.{Owed}
 use Rattle.notify_box.specs.Rising.{AllAbove, IsRising}
 use Rattle.server_queue.specs.Senders.{client_messages}
 use Rattle.engine_targets.specs.Opened.{opened, armed_pulse}
 use Rattle.engine_targets.specs.declared.opening.Opening.{Opening}
 use Rattle.engine_servers.specs.declared.holder.Holder.{Holder}
-use Rattle.engine_servers.specs.Holders.{handle_of, number_in, IsFor, IsHolder, IsService}
+use Rattle.engine_servers.specs.Holders.{handle_of, number_in, IsFor, IsHolder, IsOfClient, IsLed, IsService}
 use Rattle.engine_servers.specs.Standing.{spare_of, messages_in, HasRoom}
 use Rattle.engine_servers.specs.Offers.{RoomIn, RoomInEach}
 use Rattle.engine_servers.specs.Rooms.{IsKept, AreKept}
+use Rattle.engine_servers.specs.Spans.{FirstAre, RestAre, IsUnseen}
 
 -- ---- counting the messages of clients
 
@@ -113,9 +114,36 @@ module _ (object : ℕ) (entries : List Entry) where
   first-set (suc n) [] y have room = tt
   first-set (suc n) (x ∷ xs) y have room = (have.0, first-set n xs y have.1 room)
 
-  pub first-all : (xs : List Holder) → FirstHave (length xs) xs → RoomInEach object entries xs
-  first-all [] have = tt
-  first-all (x ∷ xs) have = (have.0, first-all xs have.1)
+  -- those who are given none need no room
+  unseen-none : (o : Opening) (es : List Entry) → AllByRecursion (λ e. visible (opened object [] o) e ≡ false) es → filter (visible (opened object [] o)) es ≡ []
+  unseen-none o [] out = refl
+  unseen-none o (e ∷ es) out = rw out.0 (unseen-none o es out.1)
+
+  unseen-room : (x : Holder) → IsUnseen object entries x → RoomIn object entries x
+  unseen-room x out =
+      let none : filter (visible (opened object [] x.opening)) entries ≡ [] = unseen-none x.opening entries out in
+      record { records = omega (arith, ap length none); messages = omega (arith, ap messages_in none) }
+
+  pub first-before : (n : ℕ) (xs : List Holder) → FirstAre (IsUnseen object entries) n xs → FirstHave n xs
+  first-before zero xs out = tt
+  first-before (suc n) [] out = tt
+  first-before (suc n) (x ∷ xs) out = (unseen-room x out.0, first-before n xs out.1)
+
+  kept-unseen : (x y : Holder) → IsKept x y → IsUnseen object entries x → RoomIn object entries y
+  kept-unseen x y kept out = unseen-room y (subst (λ (o : Opening). AllByRecursion (λ e. visible (opened object [] o) e ≡ false) entries) (sym kept.opening) out)
+
+  rest-all : (xs ys : List Holder) → AreKept xs ys → AllByRecursion (IsUnseen object entries) xs → RoomInEach object entries ys
+  rest-all [] [] kept out = tt
+  rest-all [] (y ∷ ys) kept out = absurd kept
+  rest-all (x ∷ xs) [] kept out = absurd kept
+  rest-all (x ∷ xs) (y ∷ ys) kept out = (kept-unseen x y kept.0 out.0, rest-all xs ys kept.1 out.1)
+
+  pub first-behind : (n : ℕ) (xs ys : List Holder) → AreKept xs ys → FirstHave n ys → RestAre (IsUnseen object entries) n xs → RoomInEach object entries ys
+  first-behind zero xs ys kept have out = rest-all xs ys kept out
+  first-behind (suc n) [] [] kept have out = tt
+  first-behind (suc n) [] (y ∷ ys) kept have out = absurd kept
+  first-behind (suc n) (x ∷ xs) [] kept have out = absurd kept
+  first-behind (suc n) (x ∷ xs) (y ∷ ys) kept have out = (have.0, first-behind n xs ys kept.1 have.1 out)
 
 -- ---- what the handles have seen, and what is always so
 
@@ -153,8 +181,21 @@ module _ (object : ℕ) where
   rising-is (x ∷ xs) [] rising all = absurd all
   rising-is (x ∷ xs) (y ∷ ys) rising all = (subst (λ (o : Opening). AllAbove number_in o.number ys) (sym all.0.opening) (above-is (number_in x) xs ys rising.0 all.1), rising-is xs ys rising.1 all.1)
 
-  pub kept-is : (xs ys : List Holder) → IsService object xs → AreKept xs ys → IsService object ys
-  kept-is xs ys is all = record { each = each-is xs ys is.each all; rising = rising-is xs ys is.rising all }
+  clients-is : (xs ys : List Holder) → AllByRecursion IsOfClient xs → AreKept xs ys → AllByRecursion IsOfClient ys
+  clients-is [] [] clients all = tt
+  clients-is [] (y ∷ ys) clients all = absurd all
+  clients-is (x ∷ xs) [] clients all = absurd all
+  clients-is (x ∷ xs) (y ∷ ys) clients all = (ap (λ (o : Opening). o.kind) all.0.opening ∙ clients.0, clients-is xs ys clients.1 all.1)
+
+  led-is : (led : Bool) (xs ys : List Holder) → IsLed led xs → AreKept xs ys → IsLed led ys
+  led-is false xs ys clients all = tt
+  led-is true [] [] clients all = tt
+  led-is true [] (y ∷ ys) clients all = absurd all
+  led-is true (x ∷ xs) [] clients all = absurd all
+  led-is true (x ∷ xs) (y ∷ ys) clients all = clients-is xs ys clients all.1
+
+  pub kept-is : (led : Bool) (xs ys : List Holder) → IsService object led xs → AreKept xs ys → IsService object led ys
+  kept-is led xs ys is all = record { each = each-is xs ys is.each all; rising = rising-is xs ys is.rising all; clients = led-is led xs ys is.clients all }
 
 pub ok-map : {X E : Type 0} (r : Result X E) (P Q : Type 0) → (P → Q) → OnOk r P → OnOk r Q
 ok-map (Ok x) P Q f p = f p

@@ -36,8 +36,8 @@ module _ (object : ℕ) (name : List ℕ) where
   rising-seated [] all = tt
   rising-seated (x ∷ xs) all = (above-seated x.opening.number xs all.0, rising-seated xs all.1)
 
-  pub are-seated : (xs : List Holder) → IsService object xs → AreSeated false object (map (handle_of object name) xs)
-  are-seated xs is = record { each = all-seated xs is.each; rising = rising-seated xs is.rising }
+  pub are-seated : (led : Bool) (xs : List Holder) → IsService object led xs → AreSeated false object (map (handle_of object name) xs)
+  are-seated led xs is = record { each = all-seated xs is.each; rising = rising-seated xs is.rising }
 
   -- ---- of which kind they are, and what they are called
 

@@ -1,6 +1,7 @@
 -- The handles of a server object, as the definitions have them.
-use Rattle.std.specs.Prelude.{◌≡◌, ℕ, Bool, List, [], true, not, ◌&&◌, nat_lt}
+use Rattle.std.specs.Prelude.{◌≡◌, ℕ, Bool, List, [], ◌∷◌, true, false, not, ◌&&◌, nat_lt}
 use Rattle.std.specs.List.{AllByRecursion}
+use Rattle.pps_types.specs.declared.handle_kind.HandleKind.TheVariants.{Client as ClientHandle}
 use Rattle.pps_types.specs.History.{Entry}
 use Rattle.pps_types.specs.Reading.{Open, Queue, reseen, style, visible}
 use Rattle.pps_types.specs.Rests.{Seen, Owed}
@@ -58,7 +59,18 @@ pub record IsHolder (object : ℕ) (x : Holder) : Type 0 where
   pub limit : x.queue.limit ≡ x.opening.limit
   pub owed : IsFor object x.opening x.queue.owed
 
--- the handles of the object, in rising number
-pub record IsService (object : ℕ) (holders : List Holder) : Type 0 where
+-- it is a client's
+abbrev pub IsOfClient : Holder → Type 0
+IsOfClient x = x.opening.kind ≡ ClientHandle
+
+-- where it is known, all but the first are clients'
+abbrev pub IsLed : Bool → List Holder → Type 0
+IsLed false xs = Unit {0}
+IsLed true [] = Unit {0}
+IsLed true (x ∷ xs) = AllByRecursion IsOfClient xs
+
+-- the handles of the object, in rising number, and whether all but the first are known to be clients'
+pub record IsService (object : ℕ) (led : Bool) (holders : List Holder) : Type 0 where
   pub each : AllByRecursion (IsHolder object) holders
   pub rising : IsRising number_in holders
+  pub clients : IsLed led holders

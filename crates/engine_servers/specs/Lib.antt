@@ -1,7 +1,9 @@
 pub mod Holders
 pub mod Shared
+pub mod Made
 pub mod Standing
 pub mod Offers
 pub mod Rooms
 pub mod Woken
 pub mod Held
+pub mod Spans

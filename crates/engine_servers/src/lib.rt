@@ -3,10 +3,13 @@
 
 mod copies;
 mod holder;
+mod made;
 mod offers;
 mod rooms;
 mod service;
 mod shares;
+mod sight;
+mod span;
 mod woken;
 
 pub use service::Service;

@@ -3,20 +3,23 @@ ghost use Rattle.std.specs.Prelude.{◌≡◌, ◌+◌, ◌<◌, ◌≤◌, leng
 ghost use Rattle.std.specs.List.{AllByRecursion};
 ghost use Rattle.engine_servers.specs.Holders.{IsQueued, sees};
 ghost use Rattle.engine_servers.specs.Offers.{IsOffered, AreOffered, RoomIn, RoomInEach};
+ghost use Rattle.engine_servers.specs.Spans.{IsSpan, IsUnseen};
 
 use crate::holder::Holder;
 use crate::shares::Shares;
-use engine_targets::is_visible;
+use crate::sight::is_given;
+use crate::span::Span;
 use server_queue::Entry;
 
-/// How many of the handles are given a record.
-pub(crate) fn count_seers(object: u64, holders: &[Holder], entry: &Entry) -> usize
-    requires { AllByRecursion IsQueued holders.now }
+/// How many of the handles are given a record, none but those of a span.
+pub(crate) fn count_seers(object: u64, holders: &[Holder], span: Span, entry: &Entry) -> usize
+    requires queue { AllByRecursion IsQueued holders.now }
+    requires span { IsSpan (IsUnseen object (entry.now ∷ [])) span.from span.to holders.now }
     ensures { result ≡ length (filter (sees object entry.now) holders.now) }
 {
     let mut count = 0;
-    'holders: for holder in holders.iter() {
-        if is_visible(object, &holder.opening, entry) {
+    'places: for place in span.from..span.to {
+        if is_given(object, &holders[place].opening, entry) {
             count += 1;
         }
     }
@@ -32,7 +35,7 @@ fn offer_one(object: u64, holder: &mut Holder, shares: &mut Shares)
     ensures entry { shares.new.entry ≡ shares.old.entry }
     ensures count { shares.new.count + length (filter (sees object shares.old.entry) (holder.old ∷ [])) ≡ shares.old.count }
 {
-    if !is_visible(object, &holder.opening, shares.entry()) {
+    if !is_given(object, &holder.opening, shares.entry()) {
         return;
     }
     if let Some(share) = shares.take() {
@@ -40,16 +43,19 @@ fn offer_one(object: u64, holder: &mut Holder, shares: &mut Shares)
     }
 }
 
-/// Each handle that is given the record gets a share of it into its queue, for which there is room. It takes no memory.
-pub(crate) fn offer_each(object: u64, holders: &mut Vec<Holder>, shares: &mut Shares)
+/// Each handle that is given the record, none but those of a span, gets a share of it into its queue, for which there is
+/// room. It takes no memory.
+pub(crate) fn offer_each(object: u64, holders: &mut Vec<Holder>, span: Span, shares: &mut Shares)
     requires queue { AllByRecursion IsQueued holders.old.items }
+    requires span { IsSpan (IsUnseen object (shares.old.entry ∷ [])) span.from span.to holders.old.items }
     requires room { RoomInEach object (shares.old.entry ∷ []) holders.old.items }
     requires enough { length (filter (sees object shares.old.entry) holders.old.items) ≤ shares.old.count }
     ensures holders { AreOffered object shares.old.entry holders.old.items holders.new.items }
     ensures places { vec_capacity holders.new ≡ vec_capacity holders.old }
     ensures len { vec_len holders.new ≡ vec_len holders.old }
 {
-    'holders: for holder in holders.iter_mut() {
+    'places: for place in span.from..span.to {
+        let holder = &mut holders[place];
         offer_one(object, holder, shares);
     }
 }

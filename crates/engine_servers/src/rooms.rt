@@ -6,10 +6,13 @@ ghost use Rattle.engine_targets.specs.Opened.{opened};
 ghost use Rattle.engine_servers.specs.Holders.{IsQueued};
 ghost use Rattle.engine_servers.specs.Offers.{RoomIn, RoomInEach};
 ghost use Rattle.engine_servers.specs.Rooms.{IsKept, AreKept};
+ghost use Rattle.engine_servers.specs.Spans.{IsSpan, IsUnseen};
 ghost use Rattle.engine_servers.specs.Standing.{messages_in};
 
 use crate::holder::Holder;
-use engine_targets::{Opening, is_visible};
+use crate::sight::is_given;
+use crate::span::Span;
+use engine_targets::Opening;
 use server_queue::Entry;
 use std::alloc::AllocError;
 
@@ -33,7 +36,7 @@ fn needs(object: u64, opening: &Opening, entries: &[Entry]) -> Wanted
         messages: 0,
     };
     'entries: for entry in entries.iter() {
-        if is_visible(object, opening, entry) {
+        if is_given(object, opening, entry) {
             needs.records += 1;
             needs.messages += entry.client_messages();
         }
@@ -55,20 +58,24 @@ fn reserve_one(object: u64, holder: &mut Holder, entries: &[Entry]) -> Result<()
     }
 }
 
-/// Makes room in each handle's queue for those of the records that are for it. It fails only where there was not as much.
+/// Makes room in each handle's queue for those of the records that are for it, which are for none but those of a span. It
+/// fails only where there was not as much.
 pub(crate) fn reserve_each(
     object: u64,
     holders: &mut Vec<Holder>,
+    span: Span,
     entries: &[Entry],
 ) -> Result<(), AllocError>
     requires queue { AllByRecursion IsQueued holders.old.items }
+    requires span { IsSpan (IsUnseen object entries.now) span.from span.to holders.old.items }
     ensures kept { AreKept holders.old.items holders.new.items }
     ensures room { OnOk result (RoomInEach object entries.now holders.new.items) }
     ensures succeeds { RoomInEach object entries.now holders.old.items → IsOk result }
     ensures places { vec_capacity holders.new ≡ vec_capacity holders.old }
     ensures len { vec_len holders.new ≡ vec_len holders.old }
 {
-    'holders: for holder in holders.iter_mut() {
+    'places: for place in span.from..span.to {
+        let holder = &mut holders[place];
         reserve_one(object, holder, entries)?;
     }
     Ok(())

@@ -1,5 +1,5 @@
 //! One server object with its server's and its clients' handles.
-ghost use Rattle.std.specs.Prelude.{ℕ, Bool, ◌≡◌, ◌≢◌, ◌^◌, Some, None, nat_le, find, ◌&&◌, ◌∷◌, ◌++◌, ◌+◌, ◌<◌, ◌≤◌, ◌↔◌, [], IsTrue, false, List, length, map, filter, IfOk, IfErr, IsOk, option_map, option_and_then, OnOk, OnErr};
+ghost use Rattle.std.specs.Prelude.{ℕ, Bool, ◌≡◌, ◌≢◌, ◌^◌, Some, None, nat_le, find, ◌&&◌, ◌∷◌, ◌++◌, ◌+◌, ◌<◌, ◌≤◌, ◌↔◌, ◌||◌, [], IsTrue, false, List, length, map, filter, IfOk, IfErr, IsOk, option_map, option_and_then, OnOk, OnErr};
 ghost use Rattle.std.specs.Option.{option_copied, option_map_or};
 ghost use Rattle.std.specs.List.{AllByRecursion};
 ghost use Rattle.pps_types.specs.Reading as reading;
@@ -8,6 +8,7 @@ ghost use Rattle.pps_types.specs.Plan as planning;
 ghost use Rattle.pps_types.specs.History as history;
 ghost use Rattle.pps_types.specs.Owed as owing;
 ghost use Rattle.pps_types.specs.Content as content;
+ghost use Rattle.pps_types.specs.Bytes.{is_empty};
 ghost use Rattle.pps_types.specs.Checks as checking;
 ghost use Rattle.pps_types.specs.Names.{refusal_of};
 ghost use Rattle.pps_types.specs.declared.refusal.Refusal.TheVariants.{OutOfMemory};
@@ -22,12 +23,14 @@ use crate::holder::{Holder, find_full, find_holder, search};
 use crate::offers::{count_seers, offer_each};
 use crate::rooms::reserve_each;
 use crate::shares::Shares;
+use crate::span::find_span;
 use crate::woken::find_woken;
 use engine_targets::{Opening, Pulse};
-use pps_types::{Bytes, Handle, ObjId, Refusal};
+use pps_types::{Bytes, Handle, HandleKind, ObjId, Refusal};
 use server_queue::{Entry, Plan, Queue, Sender};
 use std::alloc::{AllocError, Global};
 use std::marker::Model;
+use std::slice::from_ref;
 
 /// A server object: the handles of its server and of its clients, each with the queue of what it is owed.
 #[derive(Drop)]
@@ -35,6 +38,8 @@ pub struct Service {
     object: ObjId,
     name: Bytes,
     holders: Vec<Holder>,
+    /// All but the first of them are known to be clients'.
+    led: bool,
 }
 
 impl Model for Service {
@@ -52,7 +57,7 @@ impl Model for Service {
       places = vec_capacity s.holders - vec_len s.holders;
     } };
 
-    ghost invariant = { λ s. IsService s.object s.holders.items };
+    ghost invariant = { λ s. IsService s.object s.led s.holders.items };
 }
 
 // Whether both are of the same number and name.
@@ -60,6 +65,13 @@ fn is_of_same(one: &Service, other: &Service) -> bool
     ensures { IsTrue result ↔ ((one.now.object ≡ other.now.object) × (one.now.name ≡ other.now.name)) }
 {
     one.object == other.object && one.name == other.name
+}
+
+// Whether all but the first are known to be clients' once a handle of that kind is put behind them.
+fn stays_led(holders: &[Holder], led: bool, kind: HandleKind) -> bool
+    ensures { result ≡ (led && (is_empty holders.now || checking.is_client kind)) }
+{
+    led && (holders.is_empty() || matches!(kind, HandleKind::Client))
 }
 
 impl Service {
@@ -73,6 +85,7 @@ impl Service {
             object,
             name,
             holders: Vec::new(alloc),
+            led: true,
         }
     }
 
@@ -121,6 +134,7 @@ impl Service {
         ensures places { self.new.places + 1 ≡ self.old.places }
     {
         let queue = Queue::new(*self.holders.allocator(), opening.limit);
+        self.led = stays_led(&self.holders, self.led, opening.kind);
         self.holders.push_reserved(Holder {
             opening,
             queue,
@@ -143,7 +157,8 @@ impl Service {
         ensures succeeds { IsReady entries.now self.old → IsOk result }
     {
         let object = self.object.number();
-        reserve_each(object, &mut self.holders, entries)
+        let span = find_span(&self.holders, self.led, entries);
+        reserve_each(object, &mut self.holders, span, entries)
     }
 
     /// Shares of a record, one for each handle that is given it.
@@ -152,7 +167,8 @@ impl Service {
     pub fn shares(&self, alloc: Global, entry: Entry) -> Result<Shares, AllocError>
         ensures { IfOk result (λ shares. shares ≡ record { entry = entry; count = length (filter (λ (h : reading.Open rests.Seen). reading.visible h entry) self.now.handles) }) }
     {
-        let count = count_seers(self.object.number(), &self.holders, &entry);
+        let span = find_span(&self.holders, self.led, from_ref(&entry));
+        let count = count_seers(self.object.number(), &self.holders, span, &entry);
         Shares::new(alloc, entry, count)
     }
 
@@ -168,7 +184,8 @@ impl Service {
         ensures places { self.new.places ≡ self.old.places }
     {
         let object = self.object.number();
-        offer_each(object, &mut self.holders, &mut shares);
+        let span = find_span(&self.holders, self.led, from_ref(shares.entry()));
+        offer_each(object, &mut self.holders, span, &mut shares);
     }
 
     /// A read of that size waits on a handle, or none any more. It takes no memory.
@@ -305,7 +322,8 @@ impl Service {
     pub fn woken_by(&self, alloc: Global, entries: &[Entry]) -> Result<Vec<Handle>, AllocError>
         ensures { IfOk result (λ woken. woken.items ≡ waking.woken_by entries.now self.now.handles) }
     {
-        find_woken(alloc, self.object.number(), &self.holders, entries)
+        let span = find_span(&self.holders, self.led, entries);
+        find_woken(alloc, self.object.number(), &self.holders, span, entries)
     }
 
     /// How many records a handle is owed, where it is here.
@@ -403,6 +421,7 @@ impl Service {
             object: self.object,
             name,
             holders,
+            led: self.led,
         })
     }
 

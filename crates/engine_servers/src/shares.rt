@@ -1,6 +1,7 @@
 //! Shares of one record, made ahead.
 ghost use Rattle.std.specs.Prelude.{◌≡◌, ◌+◌, ◌<◌, Some, IfOk};
 
+use crate::made::Made;
 use server_queue::Entry;
 use std::alloc::{AllocError, Global};
 use std::marker::Model;
@@ -9,20 +10,19 @@ use std::marker::Model;
 #[derive(Drop)]
 pub struct Shares {
     entry: Entry,
-    made: Vec<Entry>,
+    made: Made,
 }
 
 impl Model for Shares {
-    ghost use Rattle.std.specs.Prelude.{◌≡◌, length};
-    ghost use Rattle.std.specs.List.{AllByRecursion};
-    ghost use Rattle.pps_types.specs.History.{Entry as Made};
+    ghost use Rattle.std.specs.Prelude.{length};
+    ghost use Rattle.engine_servers.specs.Made.{shares_in, AreOf};
     ghost use Rattle.engine_servers.specs.Shared.{Shared};
 
     ghost Value = { Shared };
 
-    ghost view = { λ s. record { entry = s.entry; count = length s.made.items } };
+    ghost view = { λ s. record { entry = s.entry; count = length (shares_in s.made) } };
 
-    ghost invariant = { λ s. AllByRecursion (λ (e : Made). e ≡ s.entry) s.made.items };
+    ghost invariant = { λ s. AreOf s.entry s.made };
 }
 
 impl Shares {
@@ -32,10 +32,7 @@ impl Shares {
     pub fn new(alloc: Global, entry: Entry, count: usize) -> Result<Shares, AllocError>
         ensures { IfOk result (λ shares. shares ≡ record { entry = entry; count = count }) }
     {
-        let mut made = Vec::new(alloc);
-        'shares: for _ in 0..count {
-            made.push(entry.share()?)?;
-        }
+        let made = Made::new(alloc, &entry, count)?;
         Ok(Shares { entry, made })
     }
 
@@ -60,6 +57,6 @@ impl Shares {
         ensures count { self.new.count + 1 ≡ self.old.count }
         ensures taken { result ≡ Some self.old.entry }
     {
-        self.made.pop()
+        self.made.take()
     }
 }

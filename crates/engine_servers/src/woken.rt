@@ -2,10 +2,12 @@
 ghost use Rattle.std.specs.Prelude.{◌≡◌, filter, map, IfOk};
 ghost use Rattle.std.specs.List.{AllByRecursion, list_any};
 ghost use Rattle.engine_servers.specs.Holders.{IsQueued, number_in, sees};
+ghost use Rattle.engine_servers.specs.Spans.{IsSpan, IsUnseen};
 ghost use Rattle.engine_servers.specs.Woken.{waits_at, wakes_at};
 
 use crate::holder::Holder;
-use engine_targets::is_visible;
+use crate::sight::is_given;
+use crate::span::Span;
 use pps_types::Handle;
 use server_queue::Entry;
 use std::alloc::{AllocError, Global};
@@ -24,7 +26,7 @@ fn sees_any(object: u64, holder: &Holder, entries: &[Entry]) -> bool
 {
     entries
         .iter()
-        .any(|entry| is_visible(object, &holder.opening, entry))
+        .any(|entry| is_given(object, &holder.opening, entry))
 }
 
 // Whether it waits, is owed nothing, and is given one of the records.
@@ -35,18 +37,21 @@ fn wakes(object: u64, holder: &Holder, entries: &[Entry]) -> bool
     waits(holder) && !holder.queue.news() && sees_any(object, holder, entries)
 }
 
-/// The numbers of those that records wake, on the object of that number.
+/// The numbers of those that records wake, none but those of a span, on the object of that number.
 pub(crate) fn find_woken(
     alloc: Global,
     object: u64,
     holders: &[Holder],
+    span: Span,
     entries: &[Entry],
 ) -> Result<Vec<Handle>, AllocError>
-    requires { AllByRecursion IsQueued holders.now }
+    requires queue { AllByRecursion IsQueued holders.now }
+    requires span { IsSpan (IsUnseen object entries.now) span.from span.to holders.now }
     ensures { IfOk result (λ woken. woken.items ≡ map number_in (filter (wakes_at object entries.now) holders.now)) }
 {
     let mut woken = Vec::new(alloc);
-    'holders: for holder in holders.iter() {
+    'places: for place in span.from..span.to {
+        let holder = &holders[place];
         if wakes(object, holder, entries) {
             woken.push(holder.opening.number)?;
         }

@@ -12,3 +12,4 @@ pub mod Waking
 pub mod Seats
 pub mod Copying
 pub mod Alike
+pub mod Guesses

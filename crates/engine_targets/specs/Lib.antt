@@ -6,3 +6,4 @@ pub mod Blocks
 pub mod Woken
 pub mod Seated
 pub mod Alike
+pub mod Glances

@@ -4,6 +4,7 @@
 mod copies;
 mod counts;
 mod cut;
+mod glance;
 mod kinds;
 mod opening;
 mod owed;
@@ -15,6 +16,7 @@ mod sight;
 mod target;
 mod woken;
 
+pub use glance::Glance;
 pub use opening::{Opening, Pulse};
 pub use owed::Given;
 pub use sight::{given_block, is_visible};

@@ -18,6 +18,12 @@ use pps_types::Refusal;
 use server_queue::Entry;
 use std::alloc::Global;
 
+/// The most bytes beyond a first block for which memory is taken with it.
+const MOST_AHEAD: usize = 4_096;
+
+/// How many bytes more than the first block each later one may have, before more memory is taken.
+const SPARE: usize = 8;
+
 /// What a read gives: how many records, and their blocks.
 #[derive(Drop)]
 pub struct Given {
@@ -65,15 +71,43 @@ fn len_within(block: &Block<'_>, entry: &Entry, room: usize) -> Result<usize, Re
     }
 }
 
-// One block more.
-fn put(given: &mut Given, block: &Block<'_>, entry: &Entry, len: usize) -> Result<(), Refusal>
+// For how many bytes memory is taken before a block of `len`, where there is room for so many, and so many records may
+// follow: before the first block for as many blocks of its length, and room enough to differ a little, but for no more
+// than 4,096 bytes beyond it; and else for the block itself.
+fn memory_for(is_first: bool, len: usize, room: usize, records: u64) -> usize
+    requires { len ≤ room }
+    ensures enough { len ≤ result }
+    ensures within { result ≤ room }
+    ensures ahead { result ≤ len + 4096 }
+{
+    if !is_first {
+        return len;
+    }
+    let most = if room - len < MOST_AHEAD {
+        room
+    } else {
+        len + MOST_AHEAD
+    };
+    let all = len.saturating_add(SPARE).saturating_mul(records as usize);
+    all.min(most).max(len)
+}
+
+// One block more, with memory for so many bytes taken before.
+fn put(
+    given: &mut Given,
+    block: &Block<'_>,
+    entry: &Entry,
+    len: usize,
+    memory: usize,
+) -> Result<(), Refusal>
     requires len { len ≡ length (reading.print_shown entry.now.name (Some block.now)) }
+    requires memory { len ≤ memory }
     requires count { given.old.count + 1 < 2 ^ 64 }
     ensures count { OnOk result (given.new.count ≡ given.old.count + 1) }
     ensures text { OnOk result (given.new.text.items ≡ given.old.text.items ++ reading.print_shown entry.now.name (Some block.now)) }
     ensures err { IfErr result (λ r. r ≡ OutOfMemory) }
 {
-    given.text.reserve(len)?;
+    given.text.reserve(memory)?;
     block.push(&mut given.text, entry.name());
     given.count += 1;
     Ok(())
@@ -99,7 +133,8 @@ fn give(
     ensures some { refusal_of result ≡ Some OutOfMemory → 0 < length (blocks_given (opened target [] opening.now) (drop (from - records.now.start) records.now.items)) }
 {
     let mut given = Given::nothing(alloc);
-    'records: for position in from..records.end() {
+    let end = records.end();
+    'records: for position in from..end {
         let entry = records.at(position);
         let Some(block) = given_block(target, opening, entry) else {
             continue;
@@ -110,7 +145,8 @@ fn give(
             Err(refusal) if given.count == 0 => return Err(refusal),
             Err(_) => return Ok(given),
         };
-        put(&mut given, &block, entry, len)?;
+        let memory = memory_for(given.count == 0, len, room, end - position);
+        put(&mut given, &block, entry, len, memory)?;
     }
     Ok(given)
 }

@@ -12,12 +12,14 @@ ghost use Rattle.pps_types.specs.Names.{refusal_of};
 ghost use Rattle.pps_types.specs.declared.refusal.Refusal.TheVariants.{OutOfMemory};
 ghost use Rattle.engine_targets.specs.Blocks.{owed_blocks, refused_for, first_len};
 ghost use Rattle.engine_targets.specs.Opened.{opened, as_opened, armed_pulse, handle_at, is_directory, number_of, is_reader};
+ghost use Rattle.engine_targets.specs.Glances.{glanced, glance_on};
 ghost use Rattle.engine_targets.specs.Woken as waking;
 ghost use Rattle.engine_targets.specs.Seated.{AreSeated};
 
 use crate::copies::{copy_all, copy_records, same_all, same_records};
 use crate::counts::{leave, offer_each, put};
 use crate::cut::cut;
+use crate::glance::{Glance, glance_at};
 use crate::kinds::{is_in_chain, number_of};
 use crate::opening::{Opening, Pulse};
 use crate::owed::{Given, give_from};
@@ -306,6 +308,16 @@ impl Target {
         match find_reader(&self.readers, number.number()) {
             None => None,
             Some(reader) => Some(&reader.opening),
+        }
+    }
+
+    /// What is seen of a handle, where it is here.
+    pub fn glance(&self, number: Handle) -> Option<Glance<'_>>
+        ensures { option_map (glance_on (number_of self.now.of) self.now.name) result ≡ option_map glanced (handle_at number self.now.handles) }
+    {
+        match find_reader(&self.readers, number.number()) {
+            None => None,
+            Some(reader) => Some(glance_at(reader)),
         }
     }
 

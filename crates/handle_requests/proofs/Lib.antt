@@ -6,3 +6,4 @@ pub mod Debts
 pub mod Answered
 pub mod Asked
 pub mod Parts
+pub mod Glances

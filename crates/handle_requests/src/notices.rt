@@ -1,5 +1,5 @@
 //! Notices, as `ionotify` of the QNX C library gives and arms them.
-ghost use Rattle.std.specs.Prelude.{◌≡◌, true, false, nat_lt, Some, None, is_some, option_map, IfOk, IfErr, OnOk, if◌then◌else◌};
+ghost use Rattle.std.specs.Prelude.{◌≡◌, true, false, nat_lt, Some, None, is_some, option_map, IfOk, IfErr, IfSome, OnOk, if◌then◌else◌};
 ghost use Rattle.pps_types.specs.declared.event.Action.{Action as ActionAsked};
 ghost use Rattle.pps_types.specs.Reading as reading;
 ghost use Rattle.pps_types.specs.Rests as rests;
@@ -14,7 +14,7 @@ ghost use Rattle.engine_tables.specs.Tables.{content_in};
 ghost use Rattle.handle_requests.specs.Refused.{Fails};
 ghost use Rattle.handle_requests.specs.Notices.{notify_of, notice_of, IsNoticed};
 
-use crate::own::{has_news, own_handle};
+use crate::own::own_asked;
 use engine_tables::Tables;
 use engine_targets::Pulse;
 use pps_types::{Action, Conn, Handle, Refusal};
@@ -42,23 +42,24 @@ fn does_arm(action: Action, news: bool) -> bool
     }
 }
 
-// Whether a handle can be asked for notices, with a pulse of that code.
-fn check_asked(tables: &Tables, conn: Conn, handle: Handle, code: u8) -> Result<(), Refusal>
+// Whether a handle has news, where it can be asked for notices, with a pulse of that code.
+fn check_asked(tables: &Tables, conn: Conn, handle: Handle, code: u8) -> Result<bool, Refusal>
     ensures reads { OnOk result (option_map (λ (h : reading.Open rests.Seen). h.reads) (content.own_handle (content_in tables.now) conn handle) ≡ Some true) }
+    ensures news { IfOk result (λ news. IfSome (content.own_handle (content_in tables.now) conn handle) (λ h. news ≡ content.news h)) }
     ensures code { OnOk result (nat_lt 127 code ≡ false) }
     ensures err { IfErr result (λ r. (action : ActionAsked)
         → checking.first_refusal (checking.on_handle (content_in tables.now) conn handle (checking.notify_checks (content_in tables.now) action code)) ≡ Some r) }
 {
-    let Some(own) = own_handle(tables, conn, handle) else {
+    let Some(asked) = own_asked(tables, conn, handle) else {
         return Err(Refusal::BadHandle);
     };
-    if !own.reads() {
+    if !asked.own.reads() {
         return Err(Refusal::BadMode);
     }
     if code > LAST_CODE {
         return Err(Refusal::BadArgument);
     }
-    Ok(())
+    Ok(asked.glance.has_news)
 }
 
 // What is answered, and what is to be armed where nothing else refuses it.
@@ -72,8 +73,7 @@ fn noticed(
     ensures ok { IfOk result (λ n. IsNoticed (content_in tables.now) conn handle action pulse n) }
     ensures err { IfErr result (λ r. checking.first_refusal (checking.request_checks (content_in tables.now) conn (notify_of handle action pulse)) ≡ Some r) }
 {
-    check_asked(tables, conn, handle, pulse.code)?;
-    let news = has_news(tables, conn, handle);
+    let news = check_asked(tables, conn, handle, pulse.code)?;
     let pulse = if does_arm(action, news) {
         Some(pulse)
     } else {

@@ -1,21 +1,26 @@
 //! What a read gives a handle of what it is owed.
-ghost use Rattle.std.specs.Prelude.{◌≡◌, ℕ, List, Bool, true, IfOk, IfErr, IfSome};
+ghost use Rattle.std.specs.Prelude.{◌≡◌, ◌&&◌, ℕ, List, Bool, true, false, is_none, option_and_then, IfOk, IfErr, IfSome};
+ghost use Rattle.std.specs.Option.{option_map_or};
+ghost use Rattle.pps_types.specs.Reading as reading;
 ghost use Rattle.pps_types.specs.Rests as rests;
+ghost use Rattle.pps_types.specs.Content as content;
+ghost use Rattle.pps_types.specs.Owed.{owed_in_seen};
 ghost use Rattle.engine_targets.specs.Opened.{handle_at};
-ghost use Rattle.open_handles.specs.Whole.{handles_in};
+ghost use Rattle.engine_seats.specs.Seated.{handles_of};
 ghost use Rattle.engine_texts.specs.Answered.{Owes};
-ghost use Rattle.handle_requests.specs.Reads.{Refuses, is_given_all};
+ghost use Rattle.handle_requests.specs.Reads.{Refuses};
 
+use crate::own::Asked;
+use engine_targets::Glance;
 use engine_texts::Fitted;
-use open_handles::Handles;
 use pps_types::{Handle, Refusal};
 use std::alloc::Global;
 
 // Whether a read of a reading handle gives everything.
-fn is_given_all(handles: &Handles, handle: Handle) -> bool
-    ensures { result ≡ is_given_all (handle_at handle (handles_in handles.now)) }
+fn is_given_all(glance: &Glance<'_>) -> bool
+    ensures { result ≡ (is_none glance.now.owed && glance.now.has_news) }
 {
-    handles.owed(handle).is_none() && handles.has_news(handle)
+    glance.owed.is_none() && glance.has_news
 }
 
 /// The blocks that a reading handle is owed and that fit. There are none where it is given everything: where it has not read
@@ -24,19 +29,21 @@ fn is_given_all(handles: &Handles, handle: Handle) -> bool
 /// It is TooSmall, with the size, where the first block does not fit, before any memory is taken; else OutOfMemory is the
 /// only error, where blocks are given.
 pub(crate) fn owed_to(
-    handles: &Handles,
+    asked: &Asked<'_>,
     alloc: Global,
     handle: Handle,
     size: u32,
 ) -> Result<Option<Fitted>, Refusal>
-    ensures ok { IfOk result (λ owed. IfSome (handle_at handle (handles_in handles.now)) (λ h. h.reads ≡ true → Owes size h h.seen owed)) }
-    ensures err { IfErr result (λ r. IfSome (handle_at handle (handles_in handles.now))
+    requires owed { asked.now.glance.owed ≡ option_and_then (λ (h : reading.Open rests.Seen). owed_in_seen h h.seen) (handle_at handle (handles_of asked.now.seats.now)) }
+    requires news { asked.now.glance.has_news ≡ option_map_or content.news (handle_at handle (handles_of asked.now.seats.now)) false }
+    ensures ok { IfOk result (λ owed. IfSome (handle_at handle (handles_of asked.now.seats.now)) (λ h. h.reads ≡ true → Owes size h h.seen owed)) }
+    ensures err { IfErr result (λ r. IfSome (handle_at handle (handles_of asked.now.seats.now))
         (λ h. h.reads ≡ true → (everything : List ℕ) (dead : Bool) → Refuses (rests.answer h h.seen everything dead size) r)) }
 {
-    if is_given_all(handles, handle) {
+    if is_given_all(&asked.glance) {
         return Ok(None);
     }
-    let given = handles.read_owed(alloc, handle, size)?;
+    let given = asked.seats.read_owed(alloc, handle, size)?;
     Ok(Some(Fitted {
         count: given.count,
         text: given.text,

@@ -1,14 +1,17 @@
 //! The handles of a connection.
-ghost use Rattle.std.specs.Prelude.{◌≡◌, option_map, is_some, IfSome};
+ghost use Rattle.std.specs.Prelude.{◌≡◌, option_map, IfSome};
 ghost use Rattle.pps_types.specs.Content as content;
 ghost use Rattle.std.specs.Option.{option_copied};
 ghost use Rattle.pps_types.specs.Reading as reading;
 ghost use Rattle.engine_targets.specs.Opened.{as_opened, number_of};
 ghost use Rattle.engine_tables.specs.Tables.{content_in};
+ghost use Rattle.handle_requests.specs.declared.own.Asked.{Asked as AskedOf};
 ghost use Rattle.handle_requests.specs.Own.{opened_as};
+ghost use Rattle.handle_requests.specs.Asked.{IsAsked};
 
+use engine_seats::Seats;
 use engine_tables::Tables;
-use engine_targets::Opening;
+use engine_targets::{Glance, Opening};
 use pps_filter::Filter;
 use pps_types::{Conn, Found, Handle, HandleKind};
 
@@ -115,20 +118,35 @@ pub fn own_handle(tables: &Tables, conn: Conn, handle: Handle) -> Option<Own<'_>
     })
 }
 
-// Whether the connection's own handle of that number has news.
-pub(crate) fn has_news(tables: &Tables, conn: Conn, handle: Handle) -> bool
-    ensures { IfSome (content.own_handle (content_in tables.now) conn handle) (λ h. result ≡ content.news h) }
-{
-    let handles = tables.handles();
-    handles.handles_are_placed();
-    handles.has_news(handle)
+/// An open handle of a connection, and what was seen of it at one look: the handles on what it is on, and what stands of
+/// the handle itself.
+#[derive(Drop)]
+pub(crate) struct Asked<'a> {
+    pub(crate) own: Own<'a>,
+    pub(crate) seats: &'a Seats,
+    pub(crate) glance: Glance<'a>,
 }
 
-// Whether a read waits on the connection's own handle of that number.
-pub(crate) fn is_parked(tables: &Tables, conn: Conn, handle: Handle) -> bool
-    ensures { IfSome (content.own_handle (content_in tables.now) conn handle) (λ h. result ≡ is_some h.parked) }
+/// The open handle of that number, where it is the connection's, with all that is asked of it. It takes no memory.
+pub(crate) fn own_asked(tables: &Tables, conn: Conn, handle: Handle) -> Option<Asked<'_>>
+    ensures own { option_map (λ (a : AskedOf). opened_as tables.now a.own) result ≡ option_map as_opened (content.own_handle (content_in tables.now) conn handle) }
+    ensures known { IfSome result (IsAsked tables.now conn handle) }
 {
     let handles = tables.handles();
     handles.handles_are_placed();
-    handles.parked(handle).is_some()
+    let Some(looked) = handles.look(handle) else {
+        return None;
+    };
+    let opening = looked.glance.opening;
+    if opening.connection != conn {
+        return None;
+    }
+    Some(Asked {
+        own: Own {
+            found: looked.found,
+            opening,
+        },
+        seats: looked.seats,
+        glance: looked.glance,
+    })
 }

@@ -15,10 +15,11 @@ ghost use Rattle.engine_texts.specs.Answered.{meant, moves_of};
 ghost use Rattle.engine_texts.specs.declared.answer.Effect.TheVariants.{Parks};
 ghost use Rattle.engine_tables.specs.Tables.{content_in};
 ghost use Rattle.handle_requests.specs.Own.{IsOwn};
+ghost use Rattle.handle_requests.specs.Asked.{IsAsked};
 ghost use Rattle.handle_requests.specs.Refused.{Fails};
 ghost use Rattle.handle_requests.specs.Reads.{IsAnswered, text_in, waits};
 
-use crate::own::{Own, is_parked, own_handle};
+use crate::own::{Asked, own_asked};
 use crate::sources::{answer_of_directory, answer_of_object};
 use engine_tables::Tables;
 use engine_texts::{Answer, Effect};
@@ -42,26 +43,27 @@ fn is_read_size(size: u32) -> bool
 }
 
 // The connection's own handle, where a read of that size may be asked of it.
-fn check_asked(tables: &Tables, conn: Conn, handle: Handle, size: u32) -> Result<Own<'_>, Refusal>
-    ensures own { IfOk result (λ own. IsOwn tables.now conn handle own) }
-    ensures reads { IfOk result (λ own. own.opening.now.reads ≡ true) }
+fn check_asked(tables: &Tables, conn: Conn, handle: Handle, size: u32) -> Result<Asked<'_>, Refusal>
+    ensures own { IfOk result (λ asked. IsOwn tables.now conn handle asked.own) }
+    ensures known { IfOk result (IsAsked tables.now conn handle) }
+    ensures reads { IfOk result (λ asked. asked.own.opening.now.reads ≡ true) }
     ensures size { OnOk result ((nat_le 1 size && nat_le size 17000000) ≡ true) }
     ensures free { OnOk result (IfSome (content.own_handle (content_in tables.now) conn handle) (λ h. h.parked ≡ None)) }
     ensures err { IfErr result (λ r. checking.first_refusal (checking.request_checks (content_in tables.now) conn (Read handle size)) ≡ Some r) }
 {
-    let Some(own) = own_handle(tables, conn, handle) else {
+    let Some(asked) = own_asked(tables, conn, handle) else {
         return Err(Refusal::BadHandle);
     };
-    if !own.reads() {
+    if !asked.own.reads() {
         return Err(Refusal::BadMode);
     }
     if !is_read_size(size) {
         return Err(Refusal::BadArgument);
     }
-    if is_parked(tables, conn, handle) {
+    if asked.glance.parked.is_some() {
         return Err(Refusal::ReadPending);
     }
-    Ok(own)
+    Ok(asked)
 }
 
 // What a read answers, where no check refuses it but that of a read that waits.
@@ -76,14 +78,14 @@ fn answer_to(
     ensures ok { IfOk result (λ a. IsAnswered (content_in tables.now) conn handle size (meant a)) }
     ensures err { IfErr result (λ r. Fails (checking.request_checks (content_in tables.now) conn (Read handle size)) r) }
 {
-    let own = match check_asked(tables, conn, handle, size) {
+    let asked = match check_asked(tables, conn, handle, size) {
         Err(refusal) => return Err(refusal),
-        Ok(own) => own,
+        Ok(asked) => asked,
     };
-    if own.is_on_directory() {
-        return answer_of_directory(tables, alloc, conn, handle, &own, size);
+    if asked.own.is_on_directory() {
+        return answer_of_directory(tables, alloc, conn, handle, &asked, size);
     }
-    answer_of_object(tables, alloc, conn, handle, &own, size)
+    answer_of_object(tables, alloc, conn, handle, &asked, size)
 }
 
 // Whether a read waits.

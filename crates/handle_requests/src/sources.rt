@@ -7,12 +7,13 @@ ghost use Rattle.pps_types.specs.Content as content;
 ghost use Rattle.engine_names.specs.Standing.{known_of};
 ghost use Rattle.engine_texts.specs.Answered.{meant};
 ghost use Rattle.engine_tables.specs.Tables.{content_in};
-ghost use Rattle.handle_requests.specs.Own.{opened_as, IsOwn};
+ghost use Rattle.handle_requests.specs.Own.{IsOwn};
+ghost use Rattle.handle_requests.specs.Asked.{IsAsked};
 ghost use Rattle.handle_requests.specs.Reads.{Refuses, IsReader};
 
 use crate::directories::answer_of;
 use crate::owed::owed_to;
-use crate::own::Own;
+use crate::own::Asked;
 use engine_names::NamedObject;
 use engine_tables::Tables;
 use engine_texts::{Answer, Member, Whole, answers_are_read, read_answer};
@@ -36,18 +37,20 @@ fn answered(
     alloc: Global,
     conn: Conn,
     handle: Handle,
+    asked: &Asked<'_>,
     waits: bool,
     size: u32,
     whole: &Whole<'_>,
 ) -> Result<Answer, Refusal>
-    requires { IfSome (content.own_handle (content_in tables.now) conn handle) (IsReader (content_in tables.now) waits whole.now) }
+    requires known { IsAsked tables.now conn handle asked.now }
+    requires reader { IfSome (content.own_handle (content_in tables.now) conn handle) (IsReader (content_in tables.now) waits whole.now) }
     ensures ok { IfOk result (λ a. IfSome (content.own_handle (content_in tables.now) conn handle) (λ h. meant a ≡ content.read_answer (content_in tables.now) h size)) }
     ensures err { IfErr result (λ r. IfSome (content.own_handle (content_in tables.now) conn handle) (λ h. Refuses (content.read_answer (content_in tables.now) h size) r)) }
 {
     answers_are_read();
     let handles = tables.handles();
     handles.handles_are_placed();
-    let owed = owed_to(handles, alloc, handle, size)?;
+    let owed = owed_to(asked, alloc, handle, size)?;
     read_answer(alloc, whole, waits, size, owed)
 }
 
@@ -60,23 +63,34 @@ pub(crate) fn answer_of_object(
     alloc: Global,
     conn: Conn,
     handle: Handle,
-    own: &Own<'_>,
+    asked: &Asked<'_>,
     size: u32,
 ) -> Result<Answer, Refusal>
-    requires own { IsOwn tables.now conn handle own.now }
-    requires reads { own.now.opening.now.reads ≡ true }
-    requires object { reading.is_directory_kind own.now.opening.now.kind ≡ false }
+    requires own { IsOwn tables.now conn handle asked.now.own }
+    requires known { IsAsked tables.now conn handle asked.now }
+    requires reads { asked.now.own.opening.now.reads ≡ true }
+    requires object { reading.is_directory_kind asked.now.own.opening.now.kind ≡ false }
     ensures ok { IfOk result (λ a. IfSome (content.own_handle (content_in tables.now) conn handle) (λ h. meant a ≡ content.read_answer (content_in tables.now) h size)) }
     ensures err { IfErr result (λ r. IfSome (content.own_handle (content_in tables.now) conn handle) (λ h. Refuses (content.read_answer (content_in tables.now) h size) r)) }
 {
     let handles = tables.handles();
     handles.handles_are_placed();
+    let own = &asked.own;
     let known = tables.names().object(ObjId::new(own.target()));
     let is_alive = known.is_some();
-    let is_over = handles.is_over(handle);
-    let members = [member_of(handles.name_of(own.found()), known)];
+    let is_over = asked.glance.is_over;
+    let members = [member_of(asked.seats.name(), known)];
     let whole = Whole::new(own.kind(), own.filter(), is_over, is_alive, &members);
-    answered(tables, alloc, conn, handle, own.waits(), size, &whole)
+    answered(
+        tables,
+        alloc,
+        conn,
+        handle,
+        asked,
+        own.waits(),
+        size,
+        &whole,
+    )
 }
 
 /// What a read of a directory's handle answers, of which nothing is refused before.
@@ -88,21 +102,23 @@ pub(crate) fn answer_of_directory(
     alloc: Global,
     conn: Conn,
     handle: Handle,
-    own: &Own<'_>,
+    asked: &Asked<'_>,
     size: u32,
 ) -> Result<Answer, Refusal>
-    requires own { IsOwn tables.now conn handle own.now }
-    requires reads { own.now.opening.now.reads ≡ true }
-    requires directory { reading.is_directory_kind own.now.opening.now.kind ≡ true }
+    requires own { IsOwn tables.now conn handle asked.now.own }
+    requires known { IsAsked tables.now conn handle asked.now }
+    requires reads { asked.now.own.opening.now.reads ≡ true }
+    requires directory { reading.is_directory_kind asked.now.own.opening.now.kind ≡ true }
     ensures ok { IfOk result (λ a. IfSome (content.own_handle (content_in tables.now) conn handle) (λ h. meant a ≡ content.read_answer (content_in tables.now) h size)) }
     ensures err { IfErr result (λ r. IfSome (content.own_handle (content_in tables.now) conn handle) (λ h. Refuses (content.read_answer (content_in tables.now) h size) r)) }
 {
     answers_are_read();
     let handles = tables.handles();
     handles.handles_are_placed();
-    let is_over = handles.is_over(handle);
+    let own = &asked.own;
+    let is_over = asked.glance.is_over;
     let objects = tables.names().lent_objects(DirId::new(own.target()));
-    let owed = owed_to(handles, alloc, handle, size)?;
+    let owed = owed_to(asked, alloc, handle, size)?;
     answer_of(
         alloc,
         own.kind(),

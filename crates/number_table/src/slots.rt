@@ -1,5 +1,5 @@
 //! Slots in rising number, and where a number stands among them.
-ghost use Rattle.std.specs.Prelude.{◌≡◌, ◌≤◌, ◌∷◌, [], ℕ, length, filter, find, IsSome, IfSome, IfNone, None, Some, vec_len, vec_capacity};
+ghost use Rattle.std.specs.Prelude.{◌≡◌, ◌≤◌, ◌∷◌, [], ℕ, true, length, filter, find, IsSome, IfSome, IfNone, None, Some, vec_len, vec_capacity};
 ghost use Rattle.std.specs.Borrow.{Lends, sem};
 ghost use Rattle.std.specs.Cmp.Lexicographic.{pointwise};
 ghost use Rattle.number_table.specs.Numbered.{has_number, is_same_entry, most_taken, value_under};
@@ -104,13 +104,42 @@ fn place_of(numbers: &[u64], number: u64) -> usize
     start
 }
 
-/// The same, at once where the number stands at the hint.
+/// A hint where a number stands if none between it and the first one is missing: else it stands before that.
+fn dense_hint(numbers: &[u64], number: u64) -> usize {
+    if numbers.is_empty() || number < numbers[0] {
+        return NO_HINT;
+    }
+    let behind = number - numbers[0];
+    let last = numbers.len() - 1;
+    if behind < last as u64 {
+        behind as usize
+    } else {
+        last
+    }
+}
+
+/// Whether a number stands at a hint.
+fn is_at(numbers: &[u64], number: u64, hint: usize) -> bool
+    requires { (bound : ℕ) × Rises 0 numbers.now bound }
+    ensures { result ≡ true → IsPlace number hint numbers.now }
+{
+    if hint < numbers.len() {
+        return numbers[hint] == number;
+    }
+    false
+}
+
+/// The same, at once where the number stands at the hint, or where none before it is missing.
 fn place_near(numbers: &[u64], number: u64, hint: usize) -> usize
     requires { (bound : ℕ) × Rises 0 numbers.now bound }
     ensures { IsPlace number result numbers.now }
 {
-    if hint < numbers.len() && numbers[hint] == number {
+    if is_at(numbers, number, hint) {
         return hint;
+    }
+    let dense = dense_hint(numbers, number);
+    if is_at(numbers, number, dense) {
+        return dense;
     }
     place_of(numbers, number)
 }

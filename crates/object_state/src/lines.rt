@@ -3,10 +3,19 @@ ghost use Rattle.std.specs.Prelude.{◌≡◌, ◌+◌, ◌≤◌, ◌^◌, IfOk
 ghost use Rattle.pps_types.specs.Text as text;
 
 use attr_text::line_len;
-use pps_types::Line;
+use pps_types::{Bytes, Line};
 use std::alloc::{AllocError, Global};
 
-fn copy_of(line: &Line) -> Result<Line, AllocError>
+// A copy of these bytes, in one piece of just that size.
+fn copied(alloc: Global, bytes: &Bytes) -> Result<Bytes, AllocError>
+    ensures { IfOk result (λ copy. copy ≡ bytes.now) }
+{
+    let mut copy = Vec::with_capacity(alloc, bytes.len())?;
+    copy.extend_from_slice(bytes.as_slice())?;
+    Ok(Bytes::new(copy))
+}
+
+fn copy_of(alloc: Global, line: &Line) -> Result<Line, AllocError>
     ensures { IfOk result (λ copy. copy ≡ line.now) }
 {
     match line {
@@ -16,12 +25,14 @@ fn copy_of(line: &Line) -> Result<Line, AllocError>
             value,
             n,
         } => Ok(Line::Set {
-            name: name.copy()?,
-            enc: enc.copy()?,
-            value: value.copy()?,
+            name: copied(alloc, name)?,
+            enc: copied(alloc, enc)?,
+            value: copied(alloc, value)?,
             n: *n,
         }),
-        Line::Del { name } => Ok(Line::Del { name: name.copy()? }),
+        Line::Del { name } => Ok(Line::Del {
+            name: copied(alloc, name)?,
+        }),
     }
 }
 
@@ -31,7 +42,7 @@ pub(crate) fn copies_of(alloc: Global, lines: &[Line]) -> Result<Vec<Line>, Allo
 {
     let mut copies = Vec::with_capacity(alloc, lines.len())?;
     'lines: for line in lines {
-        copies.push(copy_of(line)?)?;
+        copies.push_reserved(copy_of(alloc, line)?);
     }
     Ok(copies)
 }

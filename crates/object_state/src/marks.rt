@@ -22,10 +22,13 @@ fn was_marked(map: &Attributes, name: &Name) -> bool
     }
 }
 
-// Whether one is by then, by the notes or else by the map.
+// Whether one is by then, by the notes or else by the map. Where there are no notes, they are not asked.
 fn is_marked(noted: &IndexMap<Name, bool>, map: &Attributes, name: &Name) -> bool
     ensures { result ≡ noted_or (get (pointwise nat_eq) noted.now name.now) (history.is_marked name.now (attributes_of map.now.entries)) }
 {
+    if noted.is_empty() {
+        return was_marked(map, name);
+    }
     match noted.get(name) {
         None => was_marked(map, name),
         Some(n) => *n,
@@ -33,13 +36,9 @@ fn is_marked(noted: &IndexMap<Name, bool>, map: &Attributes, name: &Name) -> boo
 }
 
 // The line that a line of a write comes to.
-fn resolved(
-    noted: &IndexMap<Name, bool>,
-    map: &Attributes,
-    line: &WriteLine,
-) -> Result<Line, AllocError>
-    ensures { IfOk result (λ made. (after : List history.Attribute)
-        → ForetellsMarks (get (pointwise nat_eq) noted.now) (attributes_of map.now.entries) after → made ≡ history.resolved after line.now) }
+fn resolved(noted: &IndexMap<Name, bool>, map: &Attributes, line: WriteLine) -> Line
+    ensures { (after : List history.Attribute)
+        → ForetellsMarks (get (pointwise nat_eq) noted.now) (attributes_of map.now.entries) after → result ≡ history.resolved after line }
 {
     match line {
         WriteLine::Set {
@@ -48,16 +47,16 @@ fn resolved(
             value,
             mark,
         } => {
-            let name = Name::new(name.copy()?);
+            let name = Name::new(name);
             let n = mark.applied_to(is_marked(noted, map, &name));
-            Ok(Line::Set {
+            Line::Set {
                 name: name.into_bytes(),
-                enc: enc.copy()?,
-                value: value.copy()?,
+                enc,
+                value,
                 n,
-            })
+            }
         }
-        WriteLine::Del { name } => Ok(Line::Del { name: name.copy()? }),
+        WriteLine::Del { name } => Line::Del { name },
     }
 }
 
@@ -98,17 +97,18 @@ fn note_unless(
 pub(crate) fn resolve(
     alloc: Global,
     map: &Attributes,
-    lines: &[WriteLine],
+    lines: Vec<WriteLine>,
 ) -> Result<Vec<Line>, AllocError>
-    ensures { IfOk result (λ made. made.items ≡ history.resolve (attributes_of map.now.entries) lines.now) }
+    ensures { IfOk result (λ made. made.items ≡ history.resolve (attributes_of map.now.entries) lines.items) }
 {
+    let count = lines.len();
     let mut noted = IndexMap::new(alloc);
-    let mut made = Vec::with_capacity(alloc, lines.len())?;
+    let mut made = Vec::with_capacity(alloc, count)?;
     'lines: for line in lines {
-        let next = resolved(&noted, map, line)?;
-        let is_last = made.len() + 1 == lines.len();
+        let next = resolved(&noted, map, line);
+        let is_last = made.len() + 1 == count;
         note_unless(is_last, &mut noted, &next)?;
-        made.push(next)?;
+        made.push_reserved(next);
     }
     Ok(made)
 }

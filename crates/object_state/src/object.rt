@@ -165,8 +165,8 @@ impl Object {
     ///
     /// Without a bracket an attribute stays persistent or nonpersistent, as it was just before its line, and a new one
     /// is persistent (QNX PPS guide, on persistence). OutOfMemory is the only error.
-    pub fn resolve(&self, lines: &[WriteLine]) -> Result<Vec<Line>, Refusal>
-        ensures ok { IfOk result (λ made. made.items ≡ history.resolve self.now.attributes lines.now) }
+    pub fn resolve(&self, lines: Vec<WriteLine>) -> Result<Vec<Line>, Refusal>
+        ensures ok { IfOk result (λ made. made.items ≡ history.resolve self.now.attributes lines.items) }
         ensures err { IsOkUnless result Refusal.OutOfMemory }
     {
         let alloc: Global = *self.map.allocator();

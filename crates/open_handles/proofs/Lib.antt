@@ -11,3 +11,4 @@ pub mod Reserves
 pub mod Wakes
 pub mod Copied
 pub mod Sames
+pub mod Looks

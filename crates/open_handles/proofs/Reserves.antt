@@ -14,7 +14,7 @@ use Rattle.server_queue.specs.Senders.{client_messages}
 use Rattle.engine_servers.specs.Standing.{Spare, HaveRoom, messages_in}
 use Rattle.engine_seats.specs.declared.seats.Seats.{Seats}
 use Rattle.engine_seats.specs.declared.seats.Seats.TheVariants.{Readers, Service}
-use Rattle.engine_seats.specs.Seated.{target_of, handles_of, places_of as places_for, IsReady, IsSameTarget, KeepsRoom}
+use Rattle.engine_seats.specs.Seated.{handles_of, places_of as places_for, IsReady, IsSameTarget, KeepsRoom}
 use Rattle.open_handles.specs.declared.places.Places.{Places}
 use Rattle.open_handles.specs.Whole.{IsRight, Whole, IsWhole, place_at, with_place, seats_at, is_told, HasRoom, IsReadyAt, IsReadyFor, IsReserved, KeepsTable}
 use Rattle.open_handles.proofs.Finds.{found_cases}

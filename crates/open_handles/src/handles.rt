@@ -4,7 +4,7 @@ ghost use Rattle.std.specs.Option.{option_copied, option_map_or};
 ghost use Rattle.pps_types.specs.declared.found.Found.{Found as FoundAt};
 ghost use Rattle.pps_types.specs.declared.found.Found.TheVariants.{Object as FoundObject, Directory as FoundDirectory};
 ghost use Rattle.number_table.specs.Numbered.{value_at};
-ghost use Rattle.engine_seats.specs.Seated.{handles_of};
+ghost use Rattle.engine_seats.specs.Seated.{handles_of, name_of};
 ghost use Rattle.engine_targets.specs.Opened.{opened, as_opened, armed_pulse, handle_at, is_directory, number_of};
 ghost use Rattle.pps_types.specs.History as history;
 ghost use Rattle.pps_types.specs.Plan as planning;
@@ -19,7 +19,9 @@ ghost use Rattle.engine_targets.specs.Woken as waking;
 ghost use Rattle.engine_targets.specs.Blocks.{owed_blocks, refused_for, first_len};
 ghost use Rattle.engine_seats.specs.declared.seats.Seats.{Seats as SeatsOf};
 ghost use Rattle.pps_types.specs.WellFormed.{AreRising};
+ghost use Rattle.engine_targets.specs.Glances.{glanced, glance_on};
 ghost use Rattle.open_handles.specs.declared.handles.Opened.{Opened as OpenedAs};
+ghost use Rattle.open_handles.specs.declared.handles.Looked.{Looked as LookedAs};
 ghost use Rattle.open_handles.specs.Whole.{Whole, handles_in, handles_at, seats_at, site_at, name_at, room_at, kept_at, is_on, is_told, changed, IsShared, IsSharedAt, HasRoom, HasRoomIn, IsReadyAt, IsReadyFor, IsReserved, SuitsAt, KeepsSites, KeepsPlaces, KeepsRecords, KeepsTable};
 
 use crate::change::{
@@ -31,7 +33,7 @@ use crate::told::Told;
 use crate::woken::unite;
 use engine_seats::Seats;
 use engine_servers::Shares;
-use engine_targets::{Given, Opening, Pulse};
+use engine_targets::{Given, Glance, Opening, Pulse};
 use number_table::Table;
 use pps_types::{DirId, Found, Handle, ObjId, Refusal};
 use server_queue::Entry;
@@ -43,6 +45,15 @@ use std::marker::Model;
 pub struct Opened<'a> {
     pub found: Found,
     pub opening: &'a Opening,
+}
+
+/// What is seen of a handle at one look: the object or directory that it is on, with the handles there, and what stands of
+/// the handle itself.
+#[derive(Drop)]
+pub struct Looked<'a> {
+    pub found: Found,
+    pub seats: &'a Seats,
+    pub glance: Glance<'a>,
 }
 
 /// The number of a row for a handle.
@@ -361,16 +372,6 @@ impl Handles {
         }
     }
 
-    /// Whether a handle is open that a read would give something new.
-    pub fn has_news(&self, handle: Handle) -> bool
-        ensures { result ≡ option_map_or content.news (handle_at handle (handles_in self.now)) false }
-    {
-        match self.place_of(handle) {
-            None => false,
-            Some(seats) => seats.has_news(handle),
-        }
-    }
-
     /// The name of an object that handles can be opened on, also of one that is dead. A directory has none.
     pub fn name_of(&self, found: Found) -> &[u8]
         ensures { result.now ≡ name_at found self.now }
@@ -378,16 +379,6 @@ impl Handles {
         match self.places.get(found) {
             None => &[],
             Some(seats) => seats.name(),
-        }
-    }
-
-    /// Whether a handle is open that is owed more records than its limit, so that a read gives it everything anew.
-    pub fn is_over(&self, handle: Handle) -> bool
-        ensures { result ≡ option_map_or (λ (h : reading.Open rests.Seen). rests.is_over h.seen) (handle_at handle (handles_in self.now)) false }
-    {
-        match self.place_of(handle) {
-            None => false,
-            Some(seats) => seats.is_over(handle),
         }
     }
 
@@ -399,27 +390,6 @@ impl Handles {
         match self.place_of(handle) {
             None => None,
             Some(seats) => seats.owed(handle),
-        }
-    }
-
-    /// What a read of at most `max` bytes gives a handle of the records that it is owed: the longest run of whole blocks
-    /// that fits. Nothing moves.
-    ///
-    /// It is TooSmall, with the size, where the first block does not fit, before any memory is taken; else OutOfMemory is
-    /// the only error, where something is owed.
-    pub fn read_owed(&self, alloc: Global, handle: Handle, max: u32) -> Result<Given, Refusal>
-        ensures ok { IfOk result (λ g. (g.count, g.text.items) ≡ reading.fitting max (owed_blocks (handle_at handle (handles_in self.now)))) }
-        ensures refusal { refusal_of result ≢ Some OutOfMemory → refusal_of result ≡ refused_for max (owed_blocks (handle_at handle (handles_in self.now))) }
-        ensures memory { refusal_of result ≡ Some OutOfMemory → first_len (owed_blocks (handle_at handle (handles_in self.now))) < 2 ^ 32
-            → refused_for max (owed_blocks (handle_at handle (handles_in self.now))) ≡ None }
-        ensures some { refusal_of result ≡ Some OutOfMemory → 0 < length (owed_blocks (handle_at handle (handles_in self.now))) }
-    {
-        match self.place_of(handle) {
-            None => Ok(Given {
-                count: 0,
-                text: Vec::new(alloc),
-            }),
-            Some(seats) => seats.read_owed(alloc, handle, max),
         }
     }
 
@@ -597,6 +567,28 @@ impl Handles {
         Some(Opened {
             found: *found,
             opening,
+        })
+    }
+
+    /// What is seen of a handle at one look, if it is open. What a read gives of what it is owed is asked of the handles there.
+    pub fn look(&self, handle: Handle) -> Option<Looked<'_>>
+        ensures glance { option_map (λ (o : LookedAs). glance_on (number_of o.found) (name_at o.found self.now) o.glance) result ≡ option_map glanced (handle_at handle (handles_in self.now)) }
+        ensures seats { IfSome result (λ o. handle_at handle (handles_of o.seats.now) ≡ handle_at handle (handles_in self.now)) }
+        ensures name { IfSome result (λ o. name_of o.seats.now ≡ name_at o.found self.now) }
+    {
+        let Some(found) = self.rows.get(u64::from(handle.number())) else {
+            return None;
+        };
+        let Some(seats) = self.places.get(*found) else {
+            return None;
+        };
+        let Some(glance) = seats.glance(handle) else {
+            return None;
+        };
+        Some(Looked {
+            found: *found,
+            seats,
+            glance,
         })
     }
 

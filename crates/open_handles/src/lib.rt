@@ -10,6 +10,6 @@ mod places;
 mod told;
 mod woken;
 
-pub use handles::{Handles, Opened};
+pub use handles::{Handles, Looked, Opened};
 pub use new_site::NewSite;
 pub use told::Told;

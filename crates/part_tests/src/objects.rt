@@ -11,8 +11,8 @@ use std::test::Fail;
 
 /// Resolves the lines of a written text, and applies them.
 fn write(alloc: Global, object: &mut Object, text: &[u8]) -> Result<(), Refusal> {
-    let text = read_write(alloc, text)?;
-    let lines = object.resolve(text.lines())?;
+    let (_, lines) = read_write(alloc, text)?.into_parts();
+    let lines = object.resolve(lines)?;
     object.apply(lines.as_slice())
 }
 
@@ -126,8 +126,8 @@ fn a_truncated_object_is_as_a_new_one(rt: HostRuntime) -> Result<(), Fail> {
 #[test]
 fn what_was_made_ready_is_applied_at_the_commit(rt: HostRuntime) -> Result<(), Fail> {
     let mut object = written(rt.alloc(), b"a::1\n", b"b::2\n")?;
-    let text = read_write(rt.alloc(), b"-a\nc::3\nb::4\n")?;
-    let lines = object.resolve(text.lines())?;
+    let (_, lines) = read_write(rt.alloc(), b"-a\nc::3\nb::4\n")?.into_parts();
+    let lines = object.resolve(lines)?;
     object.apply_ready(lines.as_slice())?;
     assert_prints(&rt, &object, b"a::1\nb::2\n")?;
     object.apply_ready(lines.as_slice())?;

@@ -17,7 +17,9 @@ fn asks(request: Request) -> Option<ScriptLine> {
 
 /// The line that answers connection 7.
 fn answer(alloc: Global, answer: Result<Outcome, Refusal>) -> Result<Vec<u8>, AllocError> {
-    print_answer(alloc, Conn::new(7), &answer)
+    let mut line = Vec::new(alloc);
+    print_answer(&mut line, Conn::new(7), &answer)?;
+    Ok(line)
 }
 
 #[test]
@@ -283,8 +285,9 @@ fn outcomes_are_printed(rt: HostRuntime) -> Result<(), Fail> {
         let line = answer(alloc, Ok(outcome))?;
         assert_eq!(rt; line.as_slice(), wanted);
     }
-    let line = print_answer(alloc, Conn::new(65_535), &Ok(Outcome::Done))?;
-    assert_eq!(rt; line.as_slice(), b"65535 ok\n".as_slice());
+    let mut line = b"7 ok\n".to_vec(alloc)?;
+    print_answer(&mut line, Conn::new(65_535), &Ok(Outcome::Done))?;
+    assert_eq!(rt; line.as_slice(), b"7 ok\n65535 ok\n".as_slice());
     Ok(())
 }
 
@@ -372,7 +375,7 @@ fn every_byte_is_printed_and_read_again(rt: HostRuntime) -> Result<(), Fail> {
         content.push(byte)?;
     }
     let data = Outcome::Data(shared(alloc, content.as_slice())?);
-    let printed = print_answer(alloc, Conn::new(7), &Ok(data))?;
+    let printed = answer(alloc, Ok(data))?;
     let text = printed.as_slice();
     assert!(rt; text.starts_with(b"7 data 256 "));
     assert!(rt; text.ends_with(b"\n"));

@@ -6,7 +6,7 @@ ghost use Rattle.pps_block.specs.Queue.{queue_shown, shown_to_its_clients};
 
 use crate::block::Block;
 use crate::lines::from_first_match;
-use pps_filter::Filter;
+use pps_filter::{Filter, matches};
 use pps_types::{Handle, HandleKind, Kind, Line};
 
 // The lines that match, where there are any.
@@ -109,10 +109,70 @@ impl<'a> Block<'a> {
     }
 }
 
-/// Whether a record of that kind has a block for the handle of that kind and number. The filter is asked about each
-/// line at most once.
+// Whether one of the lines matches.
+fn has_match(filter: Option<&Filter>, lines: &[Line]) -> bool
+    ensures { result ≡ is_some (reading.matching_lines (option_copied filter.entry) lines.now) }
+{
+    match lines {
+        [] => false,
+        [first, rest @ ..] => matches(filter, first) || from_first_match(filter, rest).is_some(),
+    }
+}
+
+fn is_visible_to_object(filter: Option<&Filter>, kind: &Kind) -> bool
+    ensures { result ≡ is_some (reading.shown_to_object (option_copied filter.entry) kind.now) }
+{
+    match kind {
+        Kind::Change(lines) => has_match(filter, lines.as_slice()),
+        Kind::Truncated | Kind::Dropped | Kind::Deleted => true,
+        _ => false,
+    }
+}
+
+fn is_visible_to_directory(filter: Option<&Filter>, kind: &Kind) -> bool
+    ensures { result ≡ is_some (reading.shown_to_directory (option_copied filter.entry) kind.now) }
+{
+    match kind {
+        Kind::Created => true,
+        _ => is_visible_to_object(filter, kind),
+    }
+}
+
+fn is_visible_to_names(kind: &Kind) -> bool
+    ensures { result ≡ is_some (reading.shown_to_names kind.now) }
+{
+    matches!(kind, Kind::Created | Kind::Deleted)
+}
+
+fn is_visible_to_server(kind: &Kind) -> bool
+    ensures { result ≡ is_some (reading.shown_to_server kind.now) }
+{
+    matches!(
+        kind,
+        Kind::Opened(_) | Kind::Closed(_) | Kind::FromClient(..)
+    )
+}
+
+fn is_visible_to_client(number: Handle, kind: &Kind) -> bool
+    ensures { result ≡ is_some (reading.shown_to_client number kind.now) }
+{
+    match kind {
+        Kind::Deleted | Kind::ToAll(_) => true,
+        Kind::ToClient(id, _) => *id == number,
+        _ => false,
+    }
+}
+
+/// Whether a record of that kind has a block for the handle of that kind and number, which is not made for that. The
+/// filter is asked about each line at most once.
 pub fn is_visible(handle: HandleKind, number: Handle, filter: Option<&Filter>, kind: &Kind) -> bool
     ensures { result ≡ is_some (reading.shown handle number (option_copied filter.entry) kind.now) }
 {
-    Block::of(handle, number, filter, kind).is_some()
+    match handle {
+        HandleKind::Object { .. } => is_visible_to_object(filter, kind),
+        HandleKind::Directory { .. } => is_visible_to_directory(filter, kind),
+        HandleKind::Names => is_visible_to_names(kind),
+        HandleKind::Server => is_visible_to_server(kind),
+        HandleKind::Client => is_visible_to_client(number, kind),
+    }
 }

@@ -25,6 +25,8 @@ struct Session<W> {
     engine: Engine,
     show: bool,
     output: W,
+    /// What was printed for the last line. It is used again for the next, and keeps the memory of the longest answer.
+    text: Vec<u8>,
     /// How many lines there were.
     lines: u64,
 }
@@ -36,12 +38,18 @@ impl<W: Write> Session<W> {
         ensures runs { OnOk result (Runs self.old.show self.old.engine.content (W.contents self.old.output) (line.now ∷ []) self.new.engine.content (W.contents self.new.output)) }
     {
         self.lines = self.lines.saturating_add(1);
-        let text = match serve_line(self.alloc, &mut self.engine, self.show, line) {
+        match serve_line(
+            self.alloc,
+            &mut self.engine,
+            self.show,
+            line,
+            &mut self.text,
+        ) {
             Err(LineFault::BadLine) => return Err(Fault::BadLine { line: self.lines }),
             Err(LineFault::OutOfMemory) => return Err(Fault::OutOfMemory),
-            Ok(text) => text,
-        };
-        match self.output.write_all(text.as_slice()) {
+            Ok(()) => {}
+        }
+        match self.output.write_all(self.text.as_slice()) {
             Err(_) => Err(Fault::CannotWriteOutput),
             Ok(()) => Ok(()),
         }
@@ -164,6 +172,7 @@ fn run_on<I: Read, W: Write + Drop>(
             engine: Engine::with_limit(alloc, u32::from(options.limit.get()))?,
             show: options.show,
             output,
+            text: Vec::new(alloc),
             lines: 0,
         },
         part: Vec::new(alloc),

@@ -1,5 +1,5 @@
 //! One line of a script, served.
-ghost use Rattle.std.specs.Prelude.{◌≡◌, ◌++◌, IfOk, IfErr, OnOk};
+ghost use Rattle.std.specs.Prelude.{◌≡◌, ◌++◌, IfErr, OnOk};
 ghost use Rattle.script_lines.specs.Script.{line_of};
 ghost use Rattle.pps_cli.specs.Serving as serving;
 ghost use Rattle.pps_cli.specs.declared.serving.LineFault.TheVariants.{OutOfMemory};
@@ -43,38 +43,43 @@ fn push_shown(
     out.extend_from_slice(shown.as_slice())
 }
 
-// What is printed for an event that is answered so.
+// Prints what is printed for an event that is answered so.
 fn print_served(
     alloc: Global,
+    out: &mut Vec<u8>,
     show: bool,
     event: &Event,
     answer: &Result<Outcome, Refusal>,
-) -> Result<Vec<u8>, AllocError>
-    ensures { IfOk result (λ text. text.items ≡ serving.printed show event.now answer.now) }
+) -> Result<(), AllocError>
+    ensures { OnOk result (out.new.items ≡ out.old.items ++ serving.printed show event.now answer.now) }
 {
-    let mut text = print_answer(alloc, event.conn, answer)?;
+    print_answer(out, event.conn, answer)?;
     if show {
-        push_shown(alloc, &mut text, &event.request, answer)?;
+        push_shown(alloc, out, &event.request, answer)?;
     }
-    Ok(text)
+    Ok(())
 }
 
-/// Serves a line of a script, without its line feed, and answers what is to be printed for it.
+/// Serves a line of a script, without its line feed. The text is then what is to be printed for it, in place of what it
+/// was.
 pub(crate) fn serve_line(
     alloc: Global,
     engine: &mut Engine,
     show: bool,
     line: &[u8],
-) -> Result<Vec<u8>, LineFault>
-    ensures served { IfOk result (λ text. serving.Serves show engine.old.content (line_of line.now) text.items engine.new.content) }
+    text: &mut Vec<u8>,
+) -> Result<(), LineFault>
+    ensures served { OnOk result (serving.Serves show engine.old.content (line_of line.now) text.new.items engine.new.content) }
     ensures bad { IfErr result (λ fault. serving.IsBadFor engine.old.content (line_of line.now) engine.new.content fault) }
 {
+    text.clear();
     match read_line(alloc, line)? {
         None => Err(LineFault::BadLine),
-        Some(ScriptLine::Nothing) => Ok(Vec::new(alloc)),
+        Some(ScriptLine::Nothing) => Ok(()),
         Some(ScriptLine::Command(event)) => {
             let answer = engine.step(&event);
-            Ok(print_served(alloc, show, &event, &answer)?)
+            print_served(alloc, text, show, &event, &answer)?;
+            Ok(())
         }
     }
 }

@@ -1,4 +1,5 @@
 pub mod Decimals
+pub mod Escaping
 pub mod Regroup
 pub mod Replies
 pub mod RoundTrip

@@ -4,8 +4,7 @@ use Rattle.std.specs.Prelude.{option_map, All, ◌==◌}
 use Rattle.std.proofs.lemmas.Bool.Decides.{nat_tests}
 use Rattle.std.proofs.lemmas.List.Elements.{All-head, All-tail}
 use Rattle.pps_types.specs.Bytes.{is_between}
-use Rattle.script_lines.specs.declared.escapes.Place.TheVariants.{Plain}
-use Rattle.script_lines.specs.Escapes.{hex_digit, hex_value, hex_byte, escaped_byte, escaped, unescaped_from, unescaped}
+use Rattle.script_lines.specs.Escapes.{Plain, hex_digit, hex_value, hex_byte, escaped_byte, escaped, unescaped_from, unescaped}
 
 -- ---- a byte of two digits
 

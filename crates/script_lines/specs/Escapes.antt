@@ -1,10 +1,8 @@
 -- Bytes as scripts and answers write them: with escapes, which begin with a backslash.
-use Rattle.std.specs.Prelude.{ℕ, ◌+◌, ◌-◌, ◌*◌, ◌/◌, ◌%◌, List, [], ◌∷◌, ◌++◌, ◌==◌, nat_lt, if◌then◌else◌, Option, Some, None, option_map, option_and_then, codes}
+use Rattle.std.specs.Prelude.{ℕ, ◌+◌, ◌-◌, ◌*◌, ◌/◌, ◌%◌, List, [], ◌∷◌, ◌++◌, ◌==◌, ◌&&◌, Bool, not, nat_lt, if◌then◌else◌, Option, Some, None, option_map, option_and_then, codes}
 use Rattle.std.specs.List.{flat_map}
 use Rattle.std.specs.Option.{option_to_list}
 use Rattle.pps_types.specs.Bytes.{is_between}
-use Rattle.script_lines.specs.declared.escapes.Place.{Place}
-use Rattle.script_lines.specs.declared.escapes.Place.TheVariants.{Plain, Escape, FirstDigit, SecondDigit}
 
 -- ---- as answers show them
 
@@ -23,7 +21,18 @@ escaped_byte b =
 abbrev pub escaped : List ℕ → List ℕ
 escaped bytes = flat_map escaped_byte bytes
 
+-- a byte that is shown as it is
+abbrev pub is_plain : ℕ → Bool
+is_plain b = is_between 32 126 b && not (b == 92)
+
 -- ---- as scripts write them
+
+-- Where a byte of a written text stands: behind whole bytes, behind a backslash, behind `\x`, or behind `\x` and this byte.
+pub data Place : Type 0 where
+  Plain : Place
+  Escape : Place
+  FirstDigit : Place
+  SecondDigit : ℕ → Place
 
 -- the number that a digit stands for, in capitals or not
 abbrev pub hex_value : ℕ → Option ℕ
@@ -62,3 +71,18 @@ unescaped_from place (b ∷ bs) =
 
 abbrev pub unescaped : List ℕ → Option (List ℕ)
 unescaped text = unescaped_from Plain text
+
+-- ---- an escape at once
+
+-- the byte of two digits at the front, and what stands behind them
+abbrev pub digits_of : List ℕ → Option (ℕ × List ℕ)
+digits_of (high ∷ low ∷ bs) = option_map (λ byte. (byte, bs)) (hex_byte high low)
+digits_of _ = None
+
+-- the byte of an escape, behind its backslash, and what stands behind it
+abbrev pub escape_of : List ℕ → Option (ℕ × List ℕ)
+escape_of [] = None
+escape_of (b ∷ bs) =
+    if b == 110 then Some (10, bs) else
+    if b == 92 then Some (92, bs) else
+    if b == 120 then digits_of bs else None

@@ -1,11 +1,11 @@
 //! Answers, as lines.
-ghost use Rattle.std.specs.Prelude.{◌≡◌, ◌++◌, IfOk, OnOk, decimal};
+ghost use Rattle.std.specs.Prelude.{◌≡◌, ◌++◌, OnOk, codes, decimal};
 ghost use Rattle.script_lines.specs.Answer as script;
 
 use crate::escapes::push_escaped;
 use itoa::Buffer;
 use pps_types::{Conn, Item, Outcome, Refusal, SharedBytes};
-use std::alloc::{AllocError, Global};
+use std::alloc::AllocError;
 
 fn push_number(out: &mut Vec<u8>, number: u64) -> Result<(), AllocError>
     ensures { OnOk result (out.new.items ≡ out.old.items ++ decimal number) }
@@ -27,11 +27,12 @@ pub(crate) fn push_counted(out: &mut Vec<u8>, bytes: &[u8]) -> Result<(), AllocE
     push_escaped(out, bytes)
 }
 
+// Pushes a space, and bytes that were read.
 #[tactic(auto, using(crate::proofs::Regroup::regroup))]
 fn push_data(out: &mut Vec<u8>, bytes: &[u8]) -> Result<(), AllocError>
-    ensures { OnOk result (out.new.items ≡ out.old.items ++ script.data_words bytes.now) }
+    ensures { OnOk result (out.new.items ≡ out.old.items ++ codes " " ++ script.data_words bytes.now) }
 {
-    out.extend_from_slice(b"data ")?;
+    out.extend_from_slice(b" data ")?;
     push_counted(out, bytes)
 }
 
@@ -52,20 +53,21 @@ fn push_argument(out: &mut Vec<u8>, refusal: Refusal) -> Result<(), AllocError>
     }
 }
 
+// Pushes a space, and a refusal.
 #[tactic(auto, using(crate::proofs::Regroup::regroup))]
 fn push_refusal(out: &mut Vec<u8>, refusal: Refusal) -> Result<(), AllocError>
-    ensures { OnOk result (out.new.items ≡ out.old.items ++ script.refusal_words refusal) }
+    ensures { OnOk result (out.new.items ≡ out.old.items ++ codes " " ++ script.refusal_words refusal) }
 {
-    out.extend_from_slice(b"refused ")?;
+    out.extend_from_slice(b" refused ")?;
     push_number(out, u64::from(refusal.number()))?;
     out.extend_from_slice(b" ")?;
     out.extend_from_slice(refusal.name().as_bytes())?;
     push_argument(out, refusal)
 }
 
-// Pushes the bytes of a read, or why it is refused.
+// Pushes a space, and the bytes of a read, or why it is refused.
 fn push_read(out: &mut Vec<u8>, read: &Result<SharedBytes, Refusal>) -> Result<(), AllocError>
-    ensures { OnOk result (out.new.items ≡ out.old.items ++ script.read_words read.now) }
+    ensures { OnOk result (out.new.items ≡ out.old.items ++ codes " " ++ script.read_words read.now) }
 {
     match read {
         Ok(bytes) => push_data(out, bytes.as_slice()),
@@ -73,56 +75,59 @@ fn push_read(out: &mut Vec<u8>, read: &Result<SharedBytes, Refusal>) -> Result<(
     }
 }
 
+// Pushes a space, and a pulse.
 #[tactic(auto, using(crate::proofs::Regroup::regroup))]
 fn push_pulse(out: &mut Vec<u8>, code: u8, value: u32) -> Result<(), AllocError>
-    ensures { OnOk result (out.new.items ≡ out.old.items ++ script.item_words (Item.Pulse code value)) }
+    ensures { OnOk result (out.new.items ≡ out.old.items ++ codes " " ++ script.item_words (Item.Pulse code value)) }
 {
-    out.extend_from_slice(b"pulse ")?;
+    out.extend_from_slice(b" pulse ")?;
     push_number(out, u64::from(code))?;
     out.extend_from_slice(b" ")?;
     push_number(out, u64::from(value))
 }
 
+// Pushes a space, and what a Receive took.
 #[tactic(auto, using(crate::proofs::Regroup::regroup))]
 fn push_item(out: &mut Vec<u8>, item: &Item) -> Result<(), AllocError>
-    ensures { OnOk result (out.new.items ≡ out.old.items ++ script.item_words item.now) }
+    ensures { OnOk result (out.new.items ≡ out.old.items ++ codes " " ++ script.item_words item.now) }
 {
     match item {
         Item::Pulse { code, value } => push_pulse(out, *code, *value),
         Item::ReadDone { handle, result } => {
-            out.extend_from_slice(b"done ")?;
+            out.extend_from_slice(b" done ")?;
             push_number(out, u64::from(handle.number()))?;
-            out.extend_from_slice(b" ")?;
             push_read(out, result)
         }
     }
 }
 
+// Pushes a space, and what was done.
 #[tactic(auto, using(crate::proofs::Regroup::regroup))]
 fn push_outcome(out: &mut Vec<u8>, outcome: &Outcome) -> Result<(), AllocError>
-    ensures { OnOk result (out.new.items ≡ out.old.items ++ script.outcome_words outcome.now) }
+    ensures { OnOk result (out.new.items ≡ out.old.items ++ codes " " ++ script.outcome_words outcome.now) }
 {
     match outcome {
-        Outcome::Done => out.extend_from_slice(b"ok"),
+        Outcome::Done => out.extend_from_slice(b" ok"),
         Outcome::Opened(handle) => {
-            out.extend_from_slice(b"handle ")?;
+            out.extend_from_slice(b" handle ")?;
             push_number(out, u64::from(handle.number()))
         }
         Outcome::Data(bytes) => push_data(out, bytes.as_slice()),
         Outcome::Wrote(count) => {
-            out.extend_from_slice(b"wrote ")?;
+            out.extend_from_slice(b" wrote ")?;
             push_number(out, u64::from(*count))
         }
-        Outcome::Parked => out.extend_from_slice(b"parked"),
-        Outcome::Input(true) => out.extend_from_slice(b"input 1"),
-        Outcome::Input(false) => out.extend_from_slice(b"input 0"),
+        Outcome::Parked => out.extend_from_slice(b" parked"),
+        Outcome::Input(true) => out.extend_from_slice(b" input 1"),
+        Outcome::Input(false) => out.extend_from_slice(b" input 0"),
         Outcome::Item(item) => push_item(out, item),
-        Outcome::Empty => out.extend_from_slice(b"empty"),
+        Outcome::Empty => out.extend_from_slice(b" empty"),
     }
 }
 
+// Pushes a space, and an answer.
 fn push_answer(out: &mut Vec<u8>, answer: &Result<Outcome, Refusal>) -> Result<(), AllocError>
-    ensures { OnOk result (out.new.items ≡ out.old.items ++ script.answer_words answer.now) }
+    ensures { OnOk result (out.new.items ≡ out.old.items ++ codes " " ++ script.answer_words answer.now) }
 {
     match answer {
         Ok(outcome) => push_outcome(out, outcome),
@@ -130,22 +135,19 @@ fn push_answer(out: &mut Vec<u8>, answer: &Result<Outcome, Refusal>) -> Result<(
     }
 }
 
-/// The answer to a command, as one line with its line feed. It begins with the connection.
+/// Prints the answer to a command behind what is there, as one line with its line feed. It begins with the connection.
 ///
 /// Bytes are shown with escapes: a line feed as `\n`, a backslash as `\\`, a byte from 32 to 126 as itself, and any
-/// other as `\x` and two digits, with letters in lower case.
+/// other as `\x` and two digits, with letters in lower case. Where memory is refused, a part of the line may stand there.
 #[tactic(auto, using(crate::proofs::Regroup::regroup))]
 pub fn print_answer(
-    alloc: Global,
+    out: &mut Vec<u8>,
     conn: Conn,
     answer: &Result<Outcome, Refusal>,
-) -> Result<Vec<u8>, AllocError>
-    ensures { IfOk result (λ text. text.items ≡ script.answer_line conn answer.now) }
+) -> Result<(), AllocError>
+    ensures { OnOk result (out.new.items ≡ out.old.items ++ script.answer_line conn answer.now) }
 {
-    let mut out = Vec::new(alloc);
-    push_number(&mut out, u64::from(conn.number()))?;
-    out.extend_from_slice(b" ")?;
-    push_answer(&mut out, answer)?;
-    out.extend_from_slice(b"\n")?;
-    Ok(out)
+    push_number(out, u64::from(conn.number()))?;
+    push_answer(out, answer)?;
+    out.extend_from_slice(b"\n")
 }

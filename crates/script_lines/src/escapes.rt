@@ -2,56 +2,22 @@
 ghost use Rattle.std.specs.Prelude.{◌≡◌, ◌<◌, ◌++◌, IfOk, IfSome, OnOk, option_map};
 ghost use Rattle.script_lines.specs.Escapes as escapes;
 
+use crate::chunks::{ROOM, write_piece};
 use pps_types::Bytes;
 use std::alloc::{AllocError, Global};
-
-/// Where a byte of a written text stands.
-#[derive(Clone, Copy, Debug, PartialEq, Eq)]
-pub(crate) enum Place {
-    /// Behind whole bytes.
-    Plain,
-    /// Behind a backslash.
-    Escape,
-    /// Behind `\x`.
-    FirstDigit,
-    /// Behind `\x` and this byte.
-    SecondDigit(u8),
-}
-
-// The digit of a number below 16.
-fn hex_digit(number: u8) -> u8
-    requires { number < 16 }
-    ensures { result ≡ escapes.hex_digit number }
-{
-    if number < 10 {
-        b'0' + number
-    } else {
-        b'a' - 10 + number
-    }
-}
-
-// Pushes one byte as answers show it.
-fn push_escaped_byte(out: &mut Vec<u8>, byte: u8) -> Result<(), AllocError>
-    ensures { OnOk result (out.new.items ≡ out.old.items ++ escapes.escaped_byte byte) }
-{
-    if byte == b'\n' {
-        return out.extend_from_slice(b"\\n");
-    }
-    if byte == b'\\' {
-        return out.extend_from_slice(b"\\\\");
-    }
-    if b' ' <= byte && byte <= b'~' {
-        return out.extend_from_slice(&[byte]);
-    }
-    out.extend_from_slice(&[b'\\', b'x', hex_digit(byte / 16), hex_digit(byte % 16)])
-}
+use text_parts::split_at_first;
 
 /// Pushes the bytes as answers show them.
 pub(crate) fn push_escaped(out: &mut Vec<u8>, bytes: &[u8]) -> Result<(), AllocError>
     ensures { OnOk result (out.new.items ≡ out.old.items ++ escapes.escaped bytes.now) }
 {
-    for byte in bytes {
-        push_escaped_byte(out, *byte)?;
+    out.reserve(bytes.len())?;
+    let mut text = [0u8; ROOM];
+    let mut rest = bytes;
+    'pieces: while !rest.is_empty() {
+        let (taken, end) = write_piece(&mut text, rest);
+        out.extend_from_slice(&text[..end])?;
+        rest = &rest[taken..];
     }
     Ok(())
 }
@@ -78,27 +44,18 @@ fn hex_byte(high: u8, low: u8) -> Option<u8>
     Some(16 * high + low)
 }
 
-// What a byte says at its place, if it says anything, and the place of the byte behind it. `None` says that it may not
-// stand there.
-fn said(place: Place, byte: u8) -> Option<(Option<u8>, Place)>
-    ensures { result ≡ escapes.said place byte }
+// The byte of an escape, behind its backslash, and what stands behind it.
+fn read_escape(text: &[u8]) -> Option<(u8, &[u8])>
+    ensures { option_map (λ parts. (parts.0, parts.1.now)) result ≡ escapes.escape_of text.now }
 {
-    match place {
-        Place::Plain => match byte {
-            b'\\' => Some((None, Place::Escape)),
-            _ => Some((Some(byte), Place::Plain)),
-        },
-        Place::Escape => match byte {
-            b'n' => Some((Some(b'\n'), Place::Plain)),
-            b'\\' => Some((Some(b'\\'), Place::Plain)),
-            b'x' => Some((None, Place::FirstDigit)),
-            _ => None,
-        },
-        Place::FirstDigit => Some((None, Place::SecondDigit(byte))),
-        Place::SecondDigit(high) => {
-            let byte = hex_byte(high, byte)?;
-            Some((Some(byte), Place::Plain))
+    match text {
+        [b'n', behind @ ..] => Some((b'\n', behind)),
+        [b'\\', behind @ ..] => Some((b'\\', behind)),
+        [b'x', high, low, behind @ ..] => {
+            let byte = hex_byte(*high, *low)?;
+            Some((byte, behind))
         }
+        _ => None,
     }
 }
 
@@ -106,19 +63,16 @@ fn said(place: Place, byte: u8) -> Option<(Option<u8>, Place)>
 pub(crate) fn read_escaped(alloc: Global, text: &[u8]) -> Result<Option<Bytes>, AllocError>
     ensures { IfOk result (λ read. read ≡ escapes.unescaped text.now) }
 {
-    let mut bytes = Vec::new(alloc);
-    let mut place = Place::Plain;
-    for byte in text {
-        let Some((whole, next)) = said(place, *byte) else {
+    let mut bytes = Vec::with_capacity(alloc, text.len())?;
+    let mut rest = text;
+    'escapes: while let Some((plain, escape)) = split_at_first(b'\\', rest) {
+        bytes.extend_from_slice(plain)?;
+        let Some((byte, behind)) = read_escape(escape) else {
             return Ok(None);
         };
-        if let Some(whole) = whole {
-            bytes.push(whole)?;
-        }
-        place = next;
+        bytes.push(byte)?;
+        rest = behind;
     }
-    match place {
-        Place::Plain => Ok(Some(Bytes::new(bytes))),
-        _ => Ok(None),
-    }
+    bytes.extend_from_slice(rest)?;
+    Ok(Some(Bytes::new(bytes)))
 }

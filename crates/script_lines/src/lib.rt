@@ -2,6 +2,7 @@
 #![tactic(auto)]
 
 mod answer;
+mod chunks;
 mod commands;
 mod escapes;
 mod laws;

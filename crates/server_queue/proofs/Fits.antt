@@ -2,6 +2,7 @@
 use Rattle.std.proofs.Common.{◌≡◌, ℕ, zero, suc, ◌+◌, ◌-◌, ◌≤◌, ◌<◌, true, false, cond, List, [], ◌∷◌, ◌++◌, length, take, drop, Some, append_assoc, append-nil, ◌∙◌, sym, ap, arith, leb}
 use Rattle.std.specs.Prelude.{slice_get}
 use Rattle.std.specs.List.{concat}
+use Rattle.std.proofs.lemmas.List.{length-append}
 use Rattle.std.proofs.lemmas.Option.{same_Some}
 use Rattle.std.proofs.lemmas.Bool.Decides.{nat_tests}
 use Rattle.pps_types.specs.History.{Entry}
@@ -34,3 +35,6 @@ concat_more (x ∷ all) (suc i) e is =
     ap (λ k. concat (take k (queue_blocks (x ∷ all)))) more
     ∙ ap (λ bs. queue_block x ++ bs) (concat_more all i e is)
     ∙ sym (append_assoc (queue_block x) (concat (take i (queue_blocks all))) (queue_block e))
+
+pub length_more : (all : List Entry) (i : ℕ) (e : Entry) → slice_get all i ≡ Some e → length (concat (take (i + 1) (queue_blocks all))) ≡ length (concat (take i (queue_blocks all))) + length (queue_block e)
+length_more all i e is = ap length (concat_more all i e is) ∙ length-append (concat (take i (queue_blocks all))) (queue_block e)

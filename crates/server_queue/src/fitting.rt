@@ -20,23 +20,31 @@ pub(crate) fn entry_at<'a>(owed: &'a VecDeque<Entry>, extra: &'a [Entry], place:
     &extra[place - owed.len()]
 }
 
+/// How many blocks fit into some room, and what they leave of it.
+#[derive(Clone, Copy)]
+pub(crate) struct Fitting {
+    pub(crate) count: usize,
+    pub(crate) left: usize,
+}
+
 /// How many blocks fit into the room, from the first on. It takes no memory.
-pub(crate) fn count_fitting(owed: &VecDeque<Entry>, extra: &[Entry], room: usize) -> usize
-    ensures fits { result ≡ (reading.fitting room (queue_blocks (owed.now.items ++ extra.now))).0 }
-    ensures in_range { result ≤ length owed.now.items + length extra.now }
+pub(crate) fn count_fitting(owed: &VecDeque<Entry>, extra: &[Entry], room: usize) -> Fitting
+    ensures fits { result.count ≡ (reading.fitting room (queue_blocks (owed.now.items ++ extra.now))).0 }
+    ensures in_range { result.count ≤ length owed.now.items + length extra.now }
+    ensures left { length (concat (take result.count (queue_blocks (owed.now.items ++ extra.now)))) + result.left ≡ room }
 {
     let mut left = room;
     let count = owed.len() + extra.len();
     'places: for place in 0..count {
         let Some(len) = block_len(entry_at(owed, extra, place)) else {
-            return place;
+            return Fitting { count: place, left };
         };
         if len > left {
-            return place;
+            return Fitting { count: place, left };
         }
         left -= len;
     }
-    count
+    Fitting { count, left }
 }
 
 /// Puts so many blocks, from the first on.

@@ -34,17 +34,18 @@ fn too_small(need: usize) -> Refusal
     }
 }
 
-// The text of so many blocks, from the first on.
+// The text of so many blocks, from the first on, which has that length.
 fn text_of(
     alloc: Global,
     owed: &VecDeque<Entry>,
     extra: &[Entry],
     count: usize,
+    len: usize,
 ) -> Result<Vec<u8>, AllocError>
     requires { count ≤ length owed.now.items + length extra.now }
     ensures { IfOk result (λ text. text.items ≡ concat (take count (queue_blocks (owed.now.items ++ extra.now)))) }
 {
-    let mut text = Vec::new(alloc);
+    let mut text = Vec::with_capacity(alloc, len)?;
     put_blocks(&mut text, owed, extra, count)?;
     Ok(text)
 }
@@ -79,9 +80,13 @@ pub(crate) fn plan_read(
     if need > max as usize {
         return Err(too_small(need));
     }
-    let count = count_fitting(owed, extra, max as usize);
-    match text_of(alloc, owed, extra, count) {
-        Ok(text) => Ok(Plan { count, text }),
+    let room = max as usize;
+    let fitting = count_fitting(owed, extra, room);
+    match text_of(alloc, owed, extra, fitting.count, room - fitting.left) {
+        Ok(text) => Ok(Plan {
+            count: fitting.count,
+            text,
+        }),
         Err(_) => Err(Refusal::OutOfMemory),
     }
 }

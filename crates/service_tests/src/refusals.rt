@@ -30,7 +30,8 @@ fn assert_answers(rt: &impl Abort, alloc: Global, script: &[[&[u8]; 2]]) -> Resu
     for [line, wanted] in script {
         let event = event(alloc, line)?;
         let answer = answer(rt, &mut engine, &event)?;
-        let mut printed = print_answer(alloc, event.conn, &answer)?;
+        let mut printed = Vec::new(alloc);
+        print_answer(&mut printed, event.conn, &answer)?;
         assert_eq!(rt; printed.pop(), Some(b'\n'));
         assert_eq!(rt; printed.as_slice(), *wanted, "{line:?}");
     }

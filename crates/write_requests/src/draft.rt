@@ -36,15 +36,16 @@ pub(crate) struct Draft {
 }
 
 // What a write through an object's handle comes to.
-fn object_kind(name: &[u8], object: &NamedObject, text: &WriteText) -> Result<Kind, Refusal>
-    ensures passes { OnOk result (checking.first_refusal (checking.own_header name.now text.now.header) ≡ None) }
-    ensures does { IfOk result (λ kind. kind ≡ Kind.Change (history.resolve object.now.held.attributes text.now.lines)) }
-    ensures err { IfErr result (λ r. FailsLate (checking.own_header name.now text.now.header) r) }
+fn object_kind(name: &[u8], object: &NamedObject, text: WriteText) -> Result<Kind, Refusal>
+    ensures passes { OnOk result (checking.first_refusal (checking.own_header name.now text.header) ≡ None) }
+    ensures does { IfOk result (λ kind. kind ≡ Kind.Change (history.resolve object.now.held.attributes text.lines)) }
+    ensures err { IfErr result (λ r. FailsLate (checking.own_header name.now text.header) r) }
 {
-    if is_foreign(name, text.header()) {
+    let (header, lines) = text.into_parts();
+    if is_foreign(name, header.as_ref()) {
         return Err(Refusal::BadText { line: 1 });
     }
-    let lines = object.attributes().resolve(text.lines())?;
+    let lines = object.attributes().resolve(lines)?;
     Ok(Kind::Change(Lines::new(lines)))
 }
 
@@ -131,7 +132,7 @@ fn kind_of(
         HandleKind::Client => {
             client_kind(tables, alloc, writer.handle, writer.name, object, text)
         }
-        _ => object_kind(writer.name, writer.object, &text),
+        _ => object_kind(writer.name, writer.object, text),
     }
 }
 

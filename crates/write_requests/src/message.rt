@@ -5,7 +5,6 @@ ghost use Rattle.pps_types.specs.Plan as planning;
 ghost use Rattle.write_requests.specs.Addressed.{addressee_of};
 
 use crate::address::Recipient;
-use attr_text::WriteLines;
 use pps_types::{Handle, Kind, Line, Lines, WriteLine};
 use std::alloc::{AllocError, Global};
 
@@ -30,7 +29,7 @@ fn message_line(line: WriteLine) -> Line
 }
 
 /// The lines of a message.
-pub(crate) fn message_lines(alloc: Global, lines: WriteLines) -> Result<Vec<Line>, AllocError>
+pub(crate) fn message_lines(alloc: Global, lines: Vec<WriteLine>) -> Result<Vec<Line>, AllocError>
     ensures { IfOk result (λ told. told.items ≡ map history.message_line lines.items) }
 {
     let mut told = Vec::with_capacity(alloc, lines.len())?;

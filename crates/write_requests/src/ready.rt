@@ -114,7 +114,7 @@ pub(crate) fn begun(
         return Err(Refusal::TableFull);
     }
     let told = told(tables, alloc, entry)?;
-    let mut beginning = Vec::new(alloc);
-    beginning.push(Beginning::Happens(told))?;
+    let mut beginning = Vec::with_capacity(alloc, 1)?;
+    beginning.push_reserved(Beginning::Happens(told));
     Ok(beginning)
 }

@@ -19,7 +19,7 @@ loop-rest-preserved c =
     let shorter = behind-shorter c.loop-rest.rest.now c.first_line.result.0.now c.first_line.result.1.now some c.first_line.ensures in
     elim c.if-not-is_empty.branch [
       | then-not-is_empty+in_ok-read+in-Some+in_ok-push w ↦ (
-        rw (w.lines-is, w.in_ok-push.ensures.ok)
+        rw (w.lines-is, w.in_ok-push.ensures.items)
             (write_lines-push c.loop-rest.number c.loop-rest.lines.items c.loop-rest.rest.now c.first_line.result.0.now c.first_line.result.1.now _ w.in-Some.read
             c.loop-rest.invariant.0 first (some-bytes _ w.if-not-is_empty.ensures) (sym w.in_ok-read.ensures ∙ w.in-Some.is)),
         omega (arith, c.loop-rest.invariant.1),

@@ -4,5 +4,5 @@ use Rattle.engine_servers.specs.Holders.{number_in}
 use Rattle.engine_servers.specs.Woken.{wakes_at}
 use Rattle.engine_servers.proofs.woken.find_woken.Given as goal
 
-abbrev pub invariant-holders : goal.invariant-holders
-invariant-holders l = l.woken.items ≡ map number_in (filter (wakes_at l.object l.entries) (take l.holder-index l.holders))
+abbrev pub invariant-places : goal.invariant-places
+invariant-places l = l.woken.items ≡ map number_in (filter (wakes_at l.object l.entries) (take l.place l.holders))

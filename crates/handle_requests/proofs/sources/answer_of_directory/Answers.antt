@@ -1,12 +1,11 @@
-use Rattle.std.specs.Prelude.{◌≡◌, ℕ, List, Bool, true, false, map, IfSome}
-use Rattle.std.specs.Option.{option_copied, option_map_or}
+use Rattle.std.specs.Prelude.{◌≡◌, ℕ, List, Bool, true, map, IfSome}
+use Rattle.std.specs.Option.{option_copied}
 use Rattle.std.proofs.Common.{◌∙◌, sym, ap, subst}
 use Rattle.std.proofs.lemmas.Result.{err_from_is_err_and}
 use Rattle.pps_types.specs.Reading.{Open, Answer, is_directory_kind}
-use Rattle.pps_types.specs.Rests.{Seen, answer, is_over}
+use Rattle.pps_types.specs.Rests.{Seen, answer}
 use Rattle.pps_types.specs.WellFormed.{AreRising}
 use Rattle.pps_types.specs.Content.{own_handle, read_answer, members}
-use Rattle.engine_targets.specs.Opened.{handle_at}
 use Rattle.open_handles.specs.Whole.{Whole, handles_in}
 use Rattle.engine_names.specs.Standing.{Named, standing_of, content_of}
 use Rattle.engine_tables.specs.Tables.{content_in}
@@ -21,43 +20,43 @@ returns-in_err-owed-clause-err c =
     let p = err_from_is_err_and c.from_residual.result c.from_residual.ensures.1 in
     rw (p.1, p.2) (owed_told c.answers_are_read.ensures (content_in c.args.tables.now) c.args.tables.now.handles.rows.next
     (subst (λ (w : Whole). AreRising 0 (map (λ h. h.number) (handles_in w)) w.rows.next) c.handles-handles.ensures c.handles_are_placed.ensures.rise)
-    c.args.conn c.args.handle c.args.size c.args.own.now.opening.now.wait (directory_source c.args.own.now.opening.now.kind c.args.own.now.opening.now.filter c.is_over-is_over.result c.lent_objects-objects.result)
+    c.args.conn c.args.handle c.args.size c.args.asked.now.own.opening.now.wait (directory_source c.args.asked.now.own.opening.now.kind c.args.asked.now.own.opening.now.filter c.args.asked.now.glance.is_over c.lent_objects-objects.result)
     (directory_reader c.args.tables.now c.args.tables.now.handles.rows.next
     (subst (λ (w : Whole). AreRising 0 (map (λ h. h.number) (handles_in w)) w.rows.next) c.handles-handles.ensures c.handles_are_placed.ensures.rise)
-    c.args.conn c.args.handle c.args.own.now c.requires.own c.requires.reads c.requires.directory c.is_over-is_over.result
-    (c.is_over-is_over.ensures ∙ ap (λ (w : Whole). option_map_or (λ (h : Open Seen). is_over h.seen) (handle_at c.args.handle (handles_in w)) false) c.handles-handles.ensures)
+    c.args.conn c.args.handle c.args.asked.now.own c.requires.own c.requires.reads c.requires.directory c.args.asked.now.glance.is_over
+    c.requires.known.over
     c.lent_objects-objects.result
     (c.lent_objects-objects.ensures ∙ ap (λ (n : Named). members (content_of (standing_of n)) c.new.result) c.names.ensures ∙ ap (members (content_in c.args.tables.now)) (c.new.ensures ∙ c.target.ensures)))
     c.in_err-owed.field-0.0
-    (subst (λ (w : Whole). IfSome (handle_at c.args.handle (handles_in w)) (λ h. h.reads ≡ true → (everything : List ℕ) (dead : Bool) → Refuses (answer h h.seen everything dead c.args.size) c.in_err-owed.field-0.0)) c.handles-handles.ensures c.in_err-owed.ensures.err))
+    (subst (λ o. IfSome o (λ (h : Open Seen). h.reads ≡ true → (everything : List ℕ) (dead : Bool) → Refuses (answer h h.seen everything dead c.args.size) c.in_err-owed.field-0.0)) c.requires.known.seats c.in_err-owed.ensures.err))
 
 pub answer_of-requires : goal.answer_of-requires
 answer_of-requires c = ap is_directory_kind c.kind.ensures ∙ c.requires.directory
 
 -- what is asked of, as the definitions read it
 given : (c : goal.After-answer_of) → IfSome (own_handle (content_in c.args.tables.now) c.args.conn c.args.handle)
-    (λ h. read_answer (content_in c.args.tables.now) h c.args.size ≡ answer_by (directory_source c.kind.result (option_copied c.filter.result) c.is_over-is_over.result c.lent_objects-objects.result) c.waits.result c.args.size c.in_ok-owed.owed)
+    (λ h. read_answer (content_in c.args.tables.now) h c.args.size ≡ answer_by (directory_source c.kind.result (option_copied c.filter.result) c.args.asked.now.glance.is_over c.lent_objects-objects.result) c.waits.result c.args.size c.in_ok-owed.owed)
 given c =
     subst (λ (a : Answer). IfSome (own_handle (content_in c.args.tables.now) c.args.conn c.args.handle) (λ h. read_answer (content_in c.args.tables.now) h c.args.size ≡ a))
-    (λ i. answer_by (directory_source (sym c.kind.ensures i) (sym c.filter.ensures i) c.is_over-is_over.result c.lent_objects-objects.result) (sym c.waits.ensures i) c.args.size c.in_ok-owed.owed)
+    (λ i. answer_by (directory_source (sym c.kind.ensures i) (sym c.filter.ensures i) c.args.asked.now.glance.is_over c.lent_objects-objects.result) (sym c.waits.ensures i) c.args.size c.in_ok-owed.owed)
     (answer_told c.answers_are_read.ensures (content_in c.args.tables.now) c.args.tables.now.handles.rows.next
     (subst (λ (w : Whole). AreRising 0 (map (λ h. h.number) (handles_in w)) w.rows.next) c.handles-handles.ensures c.handles_are_placed.ensures.rise)
-    c.args.conn c.args.handle c.args.size c.args.own.now.opening.now.wait (directory_source c.args.own.now.opening.now.kind c.args.own.now.opening.now.filter c.is_over-is_over.result c.lent_objects-objects.result)
+    c.args.conn c.args.handle c.args.size c.args.asked.now.own.opening.now.wait (directory_source c.args.asked.now.own.opening.now.kind c.args.asked.now.own.opening.now.filter c.args.asked.now.glance.is_over c.lent_objects-objects.result)
     (directory_reader c.args.tables.now c.args.tables.now.handles.rows.next
     (subst (λ (w : Whole). AreRising 0 (map (λ h. h.number) (handles_in w)) w.rows.next) c.handles-handles.ensures c.handles_are_placed.ensures.rise)
-    c.args.conn c.args.handle c.args.own.now c.requires.own c.requires.reads c.requires.directory c.is_over-is_over.result
-    (c.is_over-is_over.ensures ∙ ap (λ (w : Whole). option_map_or (λ (h : Open Seen). is_over h.seen) (handle_at c.args.handle (handles_in w)) false) c.handles-handles.ensures)
+    c.args.conn c.args.handle c.args.asked.now.own c.requires.own c.requires.reads c.requires.directory c.args.asked.now.glance.is_over
+    c.requires.known.over
     c.lent_objects-objects.result
     (c.lent_objects-objects.ensures ∙ ap (λ (n : Named). members (content_of (standing_of n)) c.new.result) c.names.ensures ∙ ap (members (content_in c.args.tables.now)) (c.new.ensures ∙ c.target.ensures)))
     c.in_ok-owed.owed
-    (subst (λ (w : Whole). IfSome (handle_at c.args.handle (handles_in w)) (λ h. h.reads ≡ true → Owes c.args.size h h.seen c.in_ok-owed.owed)) c.handles-handles.ensures c.in_ok-owed.ensures.ok))
+    (subst (λ o. IfSome o (λ (h : Open Seen). h.reads ≡ true → Owes c.args.size h h.seen c.in_ok-owed.owed)) c.requires.known.seats c.in_ok-owed.ensures.ok))
 
 pub returns-clause-ok : goal.returns-clause-ok
 returns-clause-ok c = ok_told (content_in c.args.tables.now) (own_handle (content_in c.args.tables.now) c.args.conn c.args.handle) c.args.size
-    (answer_by (directory_source c.kind.result (option_copied c.filter.result) c.is_over-is_over.result c.lent_objects-objects.result) c.waits.result c.args.size c.in_ok-owed.owed)
+    (answer_by (directory_source c.kind.result (option_copied c.filter.result) c.args.asked.now.glance.is_over c.lent_objects-objects.result) c.waits.result c.args.size c.in_ok-owed.owed)
     c.answer_of.result c.answer_of.ensures.ok (given c)
 
 pub returns-clause-err : goal.returns-clause-err
 returns-clause-err c = err_taken (content_in c.args.tables.now) (own_handle (content_in c.args.tables.now) c.args.conn c.args.handle) c.args.size
-    (answer_by (directory_source c.kind.result (option_copied c.filter.result) c.is_over-is_over.result c.lent_objects-objects.result) c.waits.result c.args.size c.in_ok-owed.owed)
+    (answer_by (directory_source c.kind.result (option_copied c.filter.result) c.args.asked.now.glance.is_over c.lent_objects-objects.result) c.waits.result c.args.size c.in_ok-owed.owed)
     c.answer_of.result c.answer_of.ensures.refusal c.answer_of.ensures.memory (given c)

@@ -1,12 +1,9 @@
-use Rattle.std.specs.Prelude.{◌≡◌, ◌∷◌, [], Bool, false, Option, Some, None, is_some, map, option_map, IfSome}
-use Rattle.std.specs.Option.{option_copied, option_map_or}
+use Rattle.std.specs.Prelude.{◌≡◌, ◌∷◌, [], Bool, Option, Some, None, is_some, map, option_map, IfSome}
+use Rattle.std.specs.Option.{option_copied}
 use Rattle.std.proofs.Common.{Bor, refl, ◌∙◌, sym, ap, subst}
-use Rattle.pps_types.specs.Reading.{Open}
-use Rattle.pps_types.specs.Rests.{Seen, is_over}
 use Rattle.pps_types.specs.WellFormed.{AreRising}
 use Rattle.pps_types.specs.Content.{own_handle, object_numbered}
-use Rattle.engine_targets.specs.Opened.{handle_at}
-use Rattle.open_handles.specs.Whole.{Whole, handles_in, name_at}
+use Rattle.open_handles.specs.Whole.{Whole, handles_in}
 use Rattle.engine_names.specs.Standing.{Named, known_of, standing_of, content_of}
 use Rattle.engine_tables.specs.Tables.{content_in}
 use Rattle.handle_requests.specs.Reads.{IsReader}
@@ -17,20 +14,20 @@ some_kept : {X Y : Type 0} (f : X → Y) (o : Option (Bor X)) → is_some o ≡ 
 some_kept f None = refl
 some_kept f (Some x) = refl
 
-pub answered-requires : goal.answered-requires
-answered-requires c =
+pub answered-requires-clause-reader : goal.answered-requires-clause-reader
+answered-requires-clause-reader c =
     let t = c.args.tables.now in
-    let own = c.args.own.now in
+    let own = c.args.asked.now.own in
     let known = option_map known_of (option_copied c.object-known.result) in
     let alive : c.is_some-is_alive.result ≡ is_some known = c.is_some-is_alive.ensures ∙ some_kept known_of c.object-known.result in
     subst (λ (b : Bool). IfSome (own_handle (content_in t) c.args.conn c.args.handle) (IsReader (content_in t) b c.new-whole.result)) (sym c.waits.ensures)
     (object_reader t t.handles.rows.next
     (subst (λ (w : Whole). AreRising 0 (map (λ h. h.number) (handles_in w)) w.rows.next) c.handles-handles.ensures c.handles_are_placed.ensures.rise)
-    c.args.conn c.args.handle own c.requires.own c.requires.reads c.requires.object c.is_over-is_over.result
-    (c.is_over-is_over.ensures ∙ ap (λ (w : Whole). option_map_or (λ (h : Open Seen). is_over h.seen) (handle_at c.args.handle (handles_in w)) false) c.handles-handles.ensures)
+    c.args.conn c.args.handle own c.requires.own c.requires.reads c.requires.object c.args.asked.now.glance.is_over
+    c.requires.known.over
     known
     (c.object-known.ensures.known ∙ ap (λ (n : Named). object_numbered (content_of (standing_of n)) c.new.result) c.names.ensures ∙ ap (object_numbered (content_in t)) (c.new.ensures ∙ c.target.ensures))
     c.member_of.result
-    (c.member_of.ensures.name ∙ c.name_of.ensures ∙ ap (λ f. name_at f c.handles-handles.result.now) c.found.ensures ∙ ap (λ (w : Whole). name_at own.found w) c.handles-handles.ensures)
+    (c.member_of.ensures.name ∙ c.name.ensures ∙ c.requires.known.name)
     c.member_of.ensures.lines c.new-whole.result
-    (c.new-whole.ensures ∙ (λ i. record { kind = c.kind.ensures i; parts = c.filter.ensures i; over = c.is_over-is_over.result; alive = alive i; members = c.member_of.result ∷ [] })))
+    (c.new-whole.ensures ∙ (λ i. record { kind = c.kind.ensures i; parts = c.filter.ensures i; over = c.args.asked.now.glance.is_over; alive = alive i; members = c.member_of.result ∷ [] })))

@@ -1,6 +1,9 @@
-use Rattle.std.proofs.Common.{◌≡◌, ◌++◌, drop}
+use Rattle.std.proofs.Common.{◌≡◌, ◌++◌, length}
 use Rattle.script_lines.specs.Escapes as escapes
 use Rattle.script_lines.proofs.escapes.push_escaped.Given as goal
 
-abbrev pub invariant-loop-byte : goal.invariant-loop-byte
-invariant-loop-byte l = l.out.items ++ escapes.escaped (drop l.byte-index l.bytes) ≡ l.initial.out.items ++ escapes.escaped l.bytes
+abbrev pub invariant-pieces : goal.invariant-pieces
+invariant-pieces l = l.out.items ++ escapes.escaped l.rest ≡ l.initial.out.items ++ escapes.escaped l.bytes
+
+abbrev pub decreases-pieces : goal.decreases-pieces
+decreases-pieces l = length l.rest

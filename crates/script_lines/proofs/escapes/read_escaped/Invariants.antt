@@ -1,7 +1,10 @@
-use Rattle.std.proofs.Common.{◌≡◌, drop}
+use Rattle.std.proofs.Common.{◌≡◌, length}
 use Rattle.script_lines.specs.Escapes as escapes
 use Rattle.script_lines.proofs.Unescaping.{before}
 use Rattle.script_lines.proofs.escapes.read_escaped.Given as goal
 
-abbrev pub invariant-loop-byte : goal.invariant-loop-byte
-invariant-loop-byte l = before l.bytes.items (escapes.unescaped_from l.place (drop l.byte-index l.text)) ≡ escapes.unescaped l.text
+abbrev pub invariant-escapes : goal.invariant-escapes
+invariant-escapes l = before l.bytes.items (escapes.unescaped l.rest) ≡ escapes.unescaped l.text
+
+abbrev pub decreases-escapes : goal.decreases-escapes
+decreases-escapes l = length l.rest

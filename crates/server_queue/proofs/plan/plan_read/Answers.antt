@@ -22,5 +22,5 @@ pub returns-in-Ok-clause-ok : goal.returns-in-Ok-clause-ok
 returns-in-Ok-clause-ok c =
     let blocks = queue_blocks (c.args.owed.now.items ++ c.args.extra.now) in
     let longest = fitting-longest c.args.max blocks in
-    let bytes = c.in-Ok.ensures ∙ ap (λ n. concat (take n blocks)) c.count_fitting-count.ensures.fits ∙ sym longest.bytes in
-    λ i. (c.count_fitting-count.ensures.fits i, bytes i)
+    let bytes = c.in-Ok.ensures ∙ ap (λ n. concat (take n blocks)) c.count_fitting-fitting.ensures.fits ∙ sym longest.bytes in
+    λ i. (c.count_fitting-fitting.ensures.fits i, bytes i)

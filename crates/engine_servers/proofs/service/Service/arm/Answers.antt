@@ -19,8 +19,8 @@ invariant_of-self c =
     let s = c.self.inside in
     let x = c.index_mut-holder.result.now in
     let lt : c.in-Ok.index < length s.holders.items = omega (arith, ap length c.deref.ensures.value, c.in-Ok.ensures.place) in
-    let old : IsHolder s.object x = subst (IsHolder s.object) (sym c.index_mut-holder.ensures.value) (holder-at s.object s.holders.items c.self.invariant c.in-Ok.index x lt) in
-    set-is s.object s.holders.items c.self.invariant c.in-Ok.index (armed_with c.args.pulse x) x lt (ap (λ (y : Holder). y.opening.number) c.index_mut-holder.ensures.value)
+    let old : IsHolder s.object x = subst (IsHolder s.object) (sym c.index_mut-holder.ensures.value) (holder-at s.object s.led s.holders.items c.self.invariant c.in-Ok.index x lt) in
+    set-is s.object s.led s.holders.items c.self.invariant c.in-Ok.index (armed_with c.args.pulse x) x lt (ap (λ (y : Holder). y.opening) c.index_mut-holder.ensures.value)
     (record { kind = old.kind; limit = old.limit; owed = old.owed })
 
 pub returns-clause-handles : goal.returns-clause-handles

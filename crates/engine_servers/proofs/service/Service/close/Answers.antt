@@ -15,7 +15,7 @@ returns-in_default-clause-handles c =
 pub invariant_of-self : goal.invariant_of-self
 invariant_of-self c =
     let s = c.self.inside in
-    subst (IsService s.object) (sym c.remove.ensures.items) (gone-is s.object s.holders.items c.self.invariant c.in-Ok.index)
+    subst (IsService s.object s.led) (sym c.remove.ensures.items) (gone-is s.object s.led s.holders.items c.self.invariant c.in-Ok.index)
 
 pub returns-clause-handles : goal.returns-clause-handles
 returns-clause-handles c =

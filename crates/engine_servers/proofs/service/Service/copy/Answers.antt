@@ -3,7 +3,7 @@ use Rattle.engine_servers.proofs.Copying.{service_held, held_handles, renamed}
 use Rattle.engine_servers.proofs.service.Service.copy.Goals as goal
 
 pub invariant_of-result : goal.invariant_of-result
-invariant_of-result c = service_held c.self.inside.object c.self.inside.holders.items _ (rw c.deref.ensures.value at c.in_ok-holders.ensures.ok) c.self.invariant
+invariant_of-result c = service_held c.self.inside.object c.self.inside.led c.self.inside.holders.items _ (rw c.deref.ensures.value at c.in_ok-holders.ensures.ok) c.self.invariant
 
 pub returns-clause-handles : goal.returns-clause-handles
 returns-clause-handles c =

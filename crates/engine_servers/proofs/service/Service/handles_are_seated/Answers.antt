@@ -6,4 +6,4 @@ use Rattle.engine_servers.proofs.service.Service.handles_are_seated.Goals as goa
 pub returns : goal.returns
 returns c =
     let s = c.self.inside in
-    subst (λ v. AreSeated false v.object v.handles) c.self.view_is (are-seated s.object s.name s.holders.items c.self.invariant)
+    subst (λ v. AreSeated false v.object v.handles) c.self.view_is (are-seated s.object s.name s.led s.holders.items c.self.invariant)

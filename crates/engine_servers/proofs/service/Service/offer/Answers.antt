@@ -1,13 +1,22 @@
 use Rattle.std.proofs.Common.{◌∙◌, [], ◌∷◌, length, map, sym, ap, subst, arith}
 use Rattle.std.specs.Prelude.{filter}
+use Rattle.pps_types.specs.History.{Entry}
 use Rattle.pps_types.specs.Reading.{Open, visible}
 use Rattle.pps_types.specs.Rests.{Seen}
 use Rattle.pps_types.specs.Plan.{offer}
 use Rattle.engine_servers.specs.Holders.{sees}
 use Rattle.engine_servers.specs.Standing.{IsReady}
 use Rattle.engine_servers.specs.Offers.{RoomInEach, AreOffered}
+use Rattle.engine_servers.specs.Spans.{IsSpan, IsUnseen}
 use Rattle.engine_servers.proofs.Offering.{count-handles, offers-is, offers-seen, room-each, room-all, room-after}
 use Rattle.engine_servers.proofs.service.Service.offer.Goals as goal
+
+pub offer_each-requires-clause-span : goal.offer_each-requires-clause-span
+offer_each-requires-clause-span c =
+    let span = c.find_span-span.result in
+    let object = c.number-object.result in
+    let told : IsSpan (IsUnseen object (c.args.shares.entry ∷ [])) span.from span.to c.deref.result.now = subst (λ es. IsSpan (IsUnseen object es) span.from span.to c.deref.result.now) (c.from_ref.ensures.value ∙ ap (λ (e : Entry). e ∷ []) c.entry.ensures) (c.find_span-span.ensures object) in
+    subst (IsSpan (IsUnseen object (c.args.shares.entry ∷ [])) span.from span.to) c.deref.ensures.value told
 
 pub offer_each-requires-clause-room : goal.offer_each-requires-clause-room
 offer_each-requires-clause-room c =
@@ -28,7 +37,7 @@ invariant_of-self c =
     let e = c.args.shares.entry in
     let new = c.offer_each.new.holders.items in
     let all : AreOffered s.object e s.holders.items new = subst (λ n. AreOffered n e s.holders.items new) c.number-object.ensures.same c.offer_each.ensures.holders in
-    offers-is s.object e s.holders.items new c.self.invariant all
+    offers-is s.object e s.led s.holders.items new c.self.invariant all
 
 pub returns-clause-handles : goal.returns-clause-handles
 returns-clause-handles c =

@@ -20,8 +20,8 @@ invariant_of-self c =
     let x = c.index_mut-holder.result.now in
     let y : Holder = record { opening = x.opening; queue = c.pass.new.self; parked = x.parked; armed = x.armed } in
     let lt : c.in-Ok.index < length s.holders.items = omega (arith, ap length c.deref.ensures.value, c.in-Ok.ensures.place) in
-    let old : IsHolder s.object x = subst (IsHolder s.object) (sym c.index_mut-holder.ensures.value) (holder-at s.object s.holders.items c.self.invariant c.in-Ok.index x lt) in
-    set-is s.object s.holders.items c.self.invariant c.in-Ok.index y x lt (ap (λ (z : Holder). z.opening.number) c.index_mut-holder.ensures.value)
+    let old : IsHolder s.object x = subst (IsHolder s.object) (sym c.index_mut-holder.ensures.value) (holder-at s.object s.led s.holders.items c.self.invariant c.in-Ok.index x lt) in
+    set-is s.object s.led s.holders.items c.self.invariant c.in-Ok.index y x lt (ap (λ (z : Holder). z.opening) c.index_mut-holder.ensures.value)
     (record {
       kind = old.kind;
       limit = c.pass.ensures.limit ∙ old.limit;
@@ -34,7 +34,7 @@ returns-clause-handles c =
     let x = c.index_mut-holder.result.now in
     let y : Holder = record { opening = x.opening; queue = c.pass.new.self; parked = x.parked; armed = x.armed } in
     let lt : c.in-Ok.index < length s.holders.items = omega (arith, ap length c.deref.ensures.value, c.in-Ok.ensures.place) in
-    let old : IsHolder s.object x = subst (IsHolder s.object) (sym c.index_mut-holder.ensures.value) (holder-at s.object s.holders.items c.self.invariant c.in-Ok.index x lt) in
+    let old : IsHolder s.object x = subst (IsHolder s.object) (sym c.index_mut-holder.ensures.value) (holder-at s.object s.led s.holders.items c.self.invariant c.in-Ok.index x lt) in
     set-seen s.object s.name s.holders.items c.args.number c.in-Ok.index (reseen (λ h. left h c.args.count h.seen)) y x (place-at s.holders.items c.deref.result.now c.args.number c.number.result c.in-Ok.index c.deref.ensures.value c.number.ensures.same c.in-Ok.ensures.found) lt
     (left-is s.object s.name x old c.args.count c.pass.new.self.owed c.pass.ensures.owed ∙ ap (λ z. (reseen (λ h. left h c.args.count h.seen)) (handle_of s.object s.name z)) c.index_mut-holder.ensures.value)
     ∙ ap (λ v. on_numbered c.args.number (reseen (λ h. left h c.args.count h.seen)) v.handles) c.self.view_is

@@ -2,12 +2,18 @@ use Rattle.std.proofs.Common.{◌∙◌, map, sym, ap, subst}
 use Rattle.engine_servers.specs.Standing.{IsReady, HaveRoom, spare_of}
 use Rattle.engine_servers.specs.Holders.{handle_of}
 use Rattle.engine_servers.specs.Offers.{RoomInEach}
+use Rattle.engine_servers.specs.Spans.{IsSpan, IsUnseen}
 use Rattle.engine_servers.proofs.Offering.{room-each, room-all}
 use Rattle.engine_servers.proofs.Roomed.{kept-is, kept-seen, kept-rooms, ok-map}
 use Rattle.engine_servers.proofs.service.Service.reserve.Goals as goal
 
+pub reserve_each-requires-clause-span : goal.reserve_each-requires-clause-span
+reserve_each-requires-clause-span c =
+    let span = c.find_span-span.result in
+    subst (IsSpan (IsUnseen c.number-object.result c.args.entries.now) span.from span.to) c.deref.ensures.value (c.find_span-span.ensures c.number-object.result)
+
 pub invariant_of-self : goal.invariant_of-self
-invariant_of-self c = kept-is c.self.inside.object c.self.inside.holders.items c.reserve_each.new.holders.items c.self.invariant c.reserve_each.ensures.kept
+invariant_of-self c = kept-is c.self.inside.object c.self.inside.led c.self.inside.holders.items c.reserve_each.new.holders.items c.self.invariant c.reserve_each.ensures.kept
 
 pub returns-clause-handles : goal.returns-clause-handles
 returns-clause-handles c =

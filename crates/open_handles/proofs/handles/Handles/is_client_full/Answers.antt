@@ -1,10 +1,10 @@
-use Rattle.std.proofs.Common.{◌≡◌, ◌∙◌, ℕ, Bool, true, false, List, Option, None, sym, ap, subst}
-use Rattle.std.specs.Prelude.{◌&&◌, nat_le, IfSome, find, option_map}
+use Rattle.std.proofs.Common.{◌≡◌, ◌∙◌, ℕ, Bool, true, false, List, Option, sym, ap, subst}
+use Rattle.std.specs.Prelude.{nat_le, IfSome, option_map}
 use Rattle.std.specs.Option.{option_copied, option_map_or}
 use Rattle.pps_types.specs.declared.found.Found.TheVariants.{Object as FoundObject}
 use Rattle.pps_types.specs.Reading.{Open}
 use Rattle.pps_types.specs.Rests.{Seen}
-use Rattle.pps_types.specs.Checks.{count_owed, is_message_of, is_server_message, is_client}
+use Rattle.pps_types.specs.Checks.{count_owed, is_server_message}
 use Rattle.engine_targets.specs.Opened.{handle_at}
 use Rattle.engine_seats.specs.declared.seats.Seats.{Seats}
 use Rattle.open_handles.specs.Whole.{Whole, site_of, site_at, handles_at, handles_in_place}
