@@ -1,3 +1,4 @@
+pub mod Compares
 pub mod Orders
 pub mod Flatten
 pub mod Places
@@ -9,6 +10,7 @@ pub mod Edits
 pub mod Maps
 pub mod Refusals
 pub mod Steps
+pub mod Ways
 pub mod Walks
 pub mod Keys
 pub mod Depths

@@ -1,19 +1,20 @@
 //! A directory: named objects and directories, in byte order of names.
-ghost use Rattle.std.specs.Prelude.{◌≡◌, ◌≢◌, ◌↔◌, IsTrue, ◌<◌, ◌++◌, ℕ, [], ◌∷◌, None, Some, IfOk, OnOk, OnErr, length, map, slice_get};
+ghost use Rattle.std.specs.Prelude.{◌≡◌, ◌≢◌, ◌↔◌, IsTrue, ◌<◌, ◌++◌, ℕ, [], ◌∷◌, None, Some, IfOk, IfErr, OnOk, OnErr, length, map, slice_get};
 ghost use Rattle.std.specs.Bool.{OnTrue};
 ghost use Rattle.pps_types.specs.Bytes.{is_empty};
 ghost use Rattle.pps_types.specs.declared.found.Found.TheVariants.{Directory as FoundDirectory};
 ghost use Rattle.pps_types.specs.declared.refusal.Refusal.TheVariants.{OutOfMemory};
-ghost use Rattle.pps_types.specs.Names.{find_at, new_refusal, refusal_of, last_name, members_in};
+ghost use Rattle.pps_types.specs.Names.{place, find_at, new_refusal, refusal_of, last_name, members_in};
 ghost use Rattle.alloc_tree.specs.Path.{at, room_for, Changes};
 ghost use Rattle.alloc_tree.specs.Contents.{whole};
-ghost use Rattle.alloc_tree.specs.Walk.{names, beyond_path};
+ghost use Rattle.alloc_tree.specs.Walk.{names, beyond_path, LeadsTo, LeadsNowhere};
 ghost use Rattle.alloc_tree.specs.Refused.{new_refused, list_refused, edit_refused, left_by, count_in};
 
+use crate::compare::same_name;
 use crate::copies::{copy_name, copy_path, extended};
 use crate::edit::Edit;
 use crate::entries::{
-    count, edit_entry, found_of, is_full, list_entries, make_ready, same_name, same_object, search,
+    count, edit_entry, found_of, is_full, list_entries, make_ready, same_object, search,
 };
 use crate::kind::NodeKind;
 use crate::listed::{Member, Standing};
@@ -89,36 +90,85 @@ impl<A: Allocator> Directory<A> {
         }
     }
 
+    /// The directory that stands here under a name.
+    fn child(&self, name: &[u8]) -> Result<&Directory<A>, Refusal>
+        ensures found { IfOk result (λ d. LeadsTo (whole self.now) (name.now ∷ []) (whole d.now)) }
+        ensures none { IfErr result (LeadsNowhere (whole self.now) (name.now ∷ [])) }
+    {
+        match search(&self.entries, name) {
+            Err(_) => Err(Refusal::NotFound),
+            Ok(i) => match &self.entries[i].node {
+                Node::Object(_) => Err(Refusal::NotDirectory),
+                Node::Directory(inner) => Ok(inner),
+            },
+        }
+    }
+
+    /// The directory at a path.
+    pub(crate) fn directory(&self, path: &[Bytes]) -> Result<&Directory<A>, Refusal>
+        ensures refusal { refusal_of result ≡ list_refused (whole self.now) path.now }
+        ensures members { IfOk result (λ d. members_in [] (whole d.now) ≡ members_in path.now (whole self.now)) }
+        ensures found { IfOk result (λ d. LeadsTo (whole self.now) path.now (whole d.now)) }
+        ensures none { IfErr result (LeadsNowhere (whole self.now) path.now) }
+    {
+        let mut here = self;
+        for name in path {
+            match here.child(name.as_slice()) {
+                Err(refusal) => return Err(refusal),
+                Ok(inner) => here = inner,
+            }
+        }
+        Ok(here)
+    }
+
+    /// What stands here under a name, if anything does.
+    fn entry(&self, name: &[u8]) -> Option<Found>
+        ensures { result ≡ at (whole self.now) (name.now ∷ []) }
+    {
+        match search(&self.entries, name) {
+            Err(_) => None,
+            Ok(i) => Some(found_of(&self.entries[i].node)),
+        }
+    }
+
+    /// The place that a path leads to, and what stands there, if anything does.
+    pub(crate) fn spot(&self, path: &[Bytes]) -> Result<Option<Found>, Refusal>
+        ensures { result ≡ place (at (whole self.now)) path.now }
+    {
+        let Some((last, above)) = path.split_last() else {
+            return Ok(Some(Found::Directory(self.id)));
+        };
+        match self.directory(above) {
+            Err(refusal) => Err(refusal),
+            Ok(directory) => Ok(directory.entry(last.as_slice())),
+        }
+    }
+
     /// What stands at a path.
     pub(crate) fn find(&self, path: &[Bytes]) -> Result<Found, Refusal>
         ensures { result ≡ find_at (at (whole self.now)) path.now }
     {
-        let Some((name, rest)) = path.split_first() else {
-            return Ok(Found::Directory(self.id));
-        };
-        match search(&self.entries, name.as_slice()) {
-            Err(_) => Err(Refusal::NotFound),
-            Ok(i) => match &self.entries[i].node {
-                Node::Object(_) if !rest.is_empty() => Err(Refusal::NotDirectory),
-                Node::Object(id) => Ok(Found::Object(*id)),
-                Node::Directory(inner) => inner.find(rest),
-            },
+        match self.spot(path) {
+            Err(refusal) => Err(refusal),
+            Ok(None) => Err(Refusal::NotFound),
+            Ok(Some(found)) => Ok(found),
         }
+    }
+
+    /// How many objects, or directories, stand directly here.
+    fn count_here(&self, kind: NodeKind) -> usize
+        ensures { result ≡ count_in kind (whole self.now) [] }
+    {
+        count(&self.entries, kind)
     }
 
     /// How many objects, or directories, stand directly in the directory at a path.
     pub(crate) fn count(&self, path: &[Bytes], kind: NodeKind) -> usize
         ensures { result ≡ count_in kind (whole self.now) path.now }
     {
-        let Some((name, rest)) = path.split_first() else {
-            return count(&self.entries, kind);
-        };
-        match search(&self.entries, name.as_slice()) {
+        match self.directory(path) {
             Err(_) => 0,
-            Ok(i) => match &self.entries[i].node {
-                Node::Object(_) => 0,
-                Node::Directory(inner) => inner.count(rest, kind),
-            },
+            Ok(directory) => directory.count_here(kind),
         }
     }
 
@@ -220,23 +270,6 @@ impl<A: Allocator> Directory<A> {
         ensures { result ≡ self.now.id }
     {
         self.id
-    }
-
-    /// The directory at a path.
-    pub(crate) fn directory(&self, path: &[Bytes]) -> Result<&Directory<A>, Refusal>
-        ensures refusal { refusal_of result ≡ list_refused (whole self.now) path.now }
-        ensures members { IfOk result (λ d. members_in [] (whole d.now) ≡ members_in path.now (whole self.now)) }
-    {
-        let Some((name, rest)) = path.split_first() else {
-            return Ok(self);
-        };
-        match search(&self.entries, name.as_slice()) {
-            Err(_) => Err(Refusal::NotFound),
-            Ok(i) => match &self.entries[i].node {
-                Node::Object(_) => Err(Refusal::NotDirectory),
-                Node::Directory(inner) => inner.directory(rest),
-            },
-        }
     }
 
     /// How many entries it has.

@@ -8,6 +8,7 @@ ghost use Rattle.alloc_tree.specs.Refused.{is_of, object_refused, edit_refused, 
 ghost use Rattle.alloc_tree.specs.View.{node_found, node_of, standing, empty_refused, node_refused, made_of, IsAlone};
 ghost use Rattle.alloc_tree.specs.HeldView.{ready_seen};
 
+use crate::compare::same_name;
 use crate::copies::copy_name;
 use crate::directory::{Entry, Node, Ready};
 use crate::edit::Edit;
@@ -20,8 +21,23 @@ use std::cmp::Ordering;
 /// The most objects of a directory, and the most directories.
 const MEMBERS_MAX: usize = 256;
 
-/// Where a name stands, or else where it would go.
+/// Where a name stands, or else where it would go. The entry in the middle is asked first, which may be the only one.
+#[inline(always)]
 pub(crate) fn search<A: Allocator>(entries: &[Entry<A>], name: &[u8]) -> Result<usize, usize>
+    requires { IsRising entries.now }
+    ensures found { IfOk result (IsPlaceOf entries.now name.now) }
+    ensures absent { IfErr result (IsGapFor entries.now name.now) }
+{
+    let middle = entries.len() / 2;
+    if middle < entries.len() && same_name(entries[middle].name.as_slice(), name) {
+        return Ok(middle);
+    }
+    search_by_order(entries, name)
+}
+
+/// Where a name stands, or else where it would go, by the order of the names.
+#[inline(never)]
+fn search_by_order<A: Allocator>(entries: &[Entry<A>], name: &[u8]) -> Result<usize, usize>
     requires { IsRising entries.now }
     ensures found { IfOk result (IsPlaceOf entries.now name.now) }
     ensures absent { IfErr result (IsGapFor entries.now name.now) }
@@ -189,12 +205,6 @@ pub(crate) fn list_entries<A: Allocator + Clone>(
         members.push(Member::new(name, found_of(&entry.node)))?;
     }
     Ok(members)
-}
-
-pub(crate) fn same_name(one: &[u8], other: &[u8]) -> bool
-    ensures { IsTrue result ↔ (one.now ≡ other.now) }
-{
-    one == other
 }
 
 /// Whether this very object stands there.

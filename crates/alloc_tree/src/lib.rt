@@ -1,6 +1,7 @@
 //! Names below the mount point as a tree of objects and directories, over any allocator.
 #![tactic(auto)]
 
+mod compare;
 mod copies;
 mod directory;
 mod edit;

@@ -59,6 +59,16 @@ impl<A: Allocator> Tree<A> {
         self.root.find(path)
     }
 
+    /// The place that a path leads to, and what stands there, if anything does.
+    ///
+    /// The first name before the last that shows a reason decides: NotFound where it stands for nothing, NotDirectory where
+    /// it stands for an object.
+    pub fn place(&self, path: &[Bytes]) -> Result<Option<Found>, Refusal>
+        ensures { result ≡ names.place (finite.get self.now.map) path.now }
+    {
+        self.root.spot(path)
+    }
+
     /// How many objects stand directly in the directory at a path. Elsewhere there are none.
     pub fn objects_in(&self, path: &[Bytes]) -> usize
         ensures { result ≡ names.objects_in self.now.map path.now }

@@ -1,1 +1,2 @@
 pub mod ReadWrite
+pub mod Written

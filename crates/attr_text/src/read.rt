@@ -55,7 +55,7 @@ impl WriteText {
 }
 
 /// Reads `name:encoding:value`, which stands behind a bracket of that meaning. `None` says that it is no such line.
-fn read_set(alloc: Global, mark: Mark, line: &[u8]) -> Result<Option<WriteLine>, AllocError>
+pub fn read_set(alloc: Global, mark: Mark, line: &[u8]) -> Result<Option<WriteLine>, AllocError>
     ensures { IfOk result (λ read. read ≡ text.set_line mark line.now) }
 {
     let Some((name, rest)) = split_at_colon(line) else {

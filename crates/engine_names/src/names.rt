@@ -95,13 +95,7 @@ impl Names {
     pub fn place(&self, path: &[Bytes]) -> Result<Option<Found>, Refusal>
         ensures { result ≡ paths.place (at (content_of (standing_of self.now))) path.now }
     {
-        let Some((_, above)) = path.split_last() else {
-            return Ok(self.at(path));
-        };
-        match self.find(above)? {
-            Found::Object(_) => Err(Refusal::NotDirectory),
-            Found::Directory(_) => Ok(self.at(path)),
-        }
+        self.tree.place(path)
     }
 
     /// The alive object at a path, if there is one.

@@ -1,5 +1,5 @@
 //! One handle of a server object.
-ghost use Rattle.std.specs.Prelude.{◌≡◌, ◌==◌, ◌<◌, ◌≤◌, find, length, option_map, IfOk, IfErr};
+ghost use Rattle.std.specs.Prelude.{◌≡◌, true, ◌==◌, ◌<◌, ◌≤◌, find, length, option_map, IfOk, IfErr};
 ghost use Rattle.std.specs.Option.{option_copied};
 ghost use Rattle.notify_box.specs.Rising.{IsRising, IsPlaceOf, IsGapFor};
 ghost use Rattle.engine_servers.specs.Holders.{number_in, is_full_client};
@@ -19,7 +19,29 @@ pub(crate) struct Holder {
     pub(crate) armed: Option<Pulse>,
 }
 
-/// Where the handle of a number stands, or else where it would go.
+// Where the handle of a number stands if the handles up to it were opened one right after the other.
+fn dense_place(holders: &[Holder], number: u32) -> usize {
+    match holders.first() {
+        None => 0,
+        Some(first) => number.saturating_sub(first.opening.number.number()) as usize,
+    }
+}
+
+// Whether the handle of a number stands at a place.
+fn is_at(holders: &[Holder], number: u32, place: usize) -> bool
+    requires { IsRising number_in holders.now }
+    ensures found { result ≡ true → IsPlaceOf number_in holders.now number place }
+    ensures place { result ≡ true → place < length holders.now }
+{
+    if place >= holders.len() {
+        return false;
+    }
+    let holder = &holders[place];
+    holder.opening.number.number() == number
+}
+
+/// Where the handle of a number stands, or else where it would go: at once where the handles up to it were opened one right
+/// after the other, and else by a binary search.
 pub(crate) fn search(holders: &[Holder], number: u32) -> Result<usize, usize>
     requires { IsRising number_in holders.now }
     ensures found { IfOk result (IsPlaceOf number_in holders.now number) }
@@ -27,6 +49,10 @@ pub(crate) fn search(holders: &[Holder], number: u32) -> Result<usize, usize>
     ensures place { IfOk result (λ i. i < length holders.now) }
     ensures gap { IfErr result (λ i. i ≤ length holders.now) }
 {
+    let dense = dense_place(holders, number);
+    if is_at(holders, number, dense) {
+        return Ok(dense);
+    }
     holders.binary_search_by_key(&number, |holder| holder.opening.number.number())
 }
 

@@ -13,3 +13,4 @@ pub mod Seats
 pub mod Copying
 pub mod Alike
 pub mod Guesses
+pub mod Printed

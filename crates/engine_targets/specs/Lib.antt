@@ -7,3 +7,6 @@ pub mod Woken
 pub mod Seated
 pub mod Alike
 pub mod Glances
+pub mod Audience
+pub mod Shown
+pub mod Lines

@@ -2,12 +2,13 @@
 ghost use Rattle.std.specs.Prelude.{◌≡◌, ◌≤◌, ◌<◌, ◌+◌, ◌-◌, ◌^◌, ℕ, vec_capacity, length, map, drop, slice_index, slice_index_or, slice_set};
 ghost use Rattle.std.specs.List.{AllByRecursion};
 ghost use Rattle.std.specs.VecDeque.{deque_capacity};
+ghost use Rattle.engine_targets.specs.Audience.{IsAudience};
 ghost use Rattle.engine_targets.specs.Places.{reader_after, placed};
 ghost use Rattle.engine_targets.specs.Counts.{stands, uncounted, counted, recounted, IsCounted, IsWithin, zeros};
 
-use crate::place::{Place, moved};
+use crate::audience::Audience;
+use crate::place::{Place, is_fixed, moved};
 use crate::reader::Reader;
-use crate::sight::is_visible;
 use server_queue::Entry;
 use std::collections::VecDeque;
 
@@ -53,12 +54,14 @@ fn recount(counts: &mut VecDeque<usize>, start: u64, from: Place, to: Place)
 // Offers one handle a record.
 fn offer_one(
     target: u64,
+    audience: &Audience,
     reader: &mut Reader,
     counts: &mut VecDeque<usize>,
     start: u64,
     position: u64,
     entry: &Entry,
 )
+    requires audience { IsAudience target entry.now audience.now }
     requires from_start { start ≤ position }
     requires before_end { position < start + length counts.old.items }
     requires within { IsWithin start (start + length counts.old.items) reader.old.place }
@@ -68,8 +71,19 @@ fn offer_one(
     ensures counts { counts.new.items ≡ recounted start reader.old.place reader.new.place counts.old.items }
     ensures capacity { deque_capacity counts.new ≡ deque_capacity counts.old }
 {
-    let sees = is_visible(target, &reader.opening, entry);
-    let place = moved(reader.place, reader.opening.limit, sees, position);
+    if is_fixed(reader.place) || !audience.sees(target, &reader.opening, entry) {
+        return;
+    }
+    if let Place::At { first, owed } = reader.place {
+        if owed < reader.opening.limit {
+            reader.place = Place::At {
+                first,
+                owed: owed + 1,
+            };
+            return;
+        }
+    }
+    let place = moved(reader.place, reader.opening.limit, position);
     recount(counts, start, reader.place, place);
     reader.place = place;
 }
@@ -94,8 +108,9 @@ pub(crate) fn offer_each(
     ensures capacity { deque_capacity counts.new ≡ deque_capacity counts.old }
     ensures places { vec_capacity readers.new ≡ vec_capacity readers.old }
 {
+    let audience = Audience::of(target, entry);
     'offers: for reader in readers.iter_mut() {
-        offer_one(target, reader, counts, start, position, entry);
+        offer_one(target, &audience, reader, counts, start, position, entry);
     }
 }
 

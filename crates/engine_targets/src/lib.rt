@@ -1,6 +1,7 @@
 //! An object or a directory with the handles that read it, and the list of records that they share.
 #![tactic(auto)]
 
+mod audience;
 mod copies;
 mod counts;
 mod cut;
@@ -12,6 +13,7 @@ mod passed;
 mod place;
 mod questions;
 mod reader;
+mod shown;
 mod sight;
 mod target;
 mod woken;

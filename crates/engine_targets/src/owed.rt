@@ -7,13 +7,13 @@ ghost use Rattle.change_chain.specs.Span.{end_of};
 ghost use Rattle.engine_targets.specs.Opened.{opened};
 ghost use Rattle.engine_targets.specs.Blocks.{blocks_given, refused_for, first_len, needs, blocks_at};
 ghost use Rattle.engine_targets.specs.Places.{IsPlace};
+ghost use Rattle.engine_targets.specs.Shown.{printed_as};
 
 use crate::opening::Opening;
 use crate::place::Place;
 use crate::reader::Reader;
-use crate::sight::given_block;
+use crate::shown::Shown;
 use change_chain::Chain;
-use pps_block::Block;
 use pps_types::Refusal;
 use server_queue::Entry;
 use std::alloc::Global;
@@ -60,11 +60,11 @@ fn too_small(need: Option<usize>) -> Refusal
 }
 
 // How long a block is, where there is room for it, and else what refuses it.
-fn len_within(block: &Block<'_>, entry: &Entry, room: usize) -> Result<usize, Refusal>
-    ensures ok { IfOk result (λ len. (len ≡ length (reading.print_shown entry.now.name (Some block.now))) × (len ≤ room)) }
-    ensures err { IfErr result (λ r. (room < length (reading.print_shown entry.now.name (Some block.now))) × (r ≡ needs (length (reading.print_shown entry.now.name (Some block.now))))) }
+fn len_within(shown: &Shown<'_>, entry: &Entry, room: usize) -> Result<usize, Refusal>
+    ensures ok { IfOk result (λ len. (len ≡ length (printed_as entry.now.name shown.now)) × (len ≤ room)) }
+    ensures err { IfErr result (λ r. (room < length (printed_as entry.now.name shown.now)) × (r ≡ needs (length (printed_as entry.now.name shown.now)))) }
 {
-    let len = block.print_len(entry.name());
+    let len = shown.len(entry.name());
     match len {
         Some(len) if len <= room => Ok(len),
         _ => Err(too_small(len)),
@@ -95,20 +95,20 @@ fn memory_for(is_first: bool, len: usize, room: usize, records: u64) -> usize
 // One block more, with memory for so many bytes taken before.
 fn put(
     given: &mut Given,
-    block: &Block<'_>,
+    shown: &Shown<'_>,
     entry: &Entry,
     len: usize,
     memory: usize,
 ) -> Result<(), Refusal>
-    requires len { len ≡ length (reading.print_shown entry.now.name (Some block.now)) }
+    requires len { len ≡ length (printed_as entry.now.name shown.now) }
     requires memory { len ≤ memory }
     requires count { given.old.count + 1 < 2 ^ 64 }
     ensures count { OnOk result (given.new.count ≡ given.old.count + 1) }
-    ensures text { OnOk result (given.new.text.items ≡ given.old.text.items ++ reading.print_shown entry.now.name (Some block.now)) }
+    ensures text { OnOk result (given.new.text.items ≡ given.old.text.items ++ printed_as entry.now.name shown.now) }
     ensures err { IfErr result (λ r. r ≡ OutOfMemory) }
 {
     given.text.reserve(memory)?;
-    block.push(&mut given.text, entry.name());
+    shown.push(&mut given.text, entry.name());
     given.count += 1;
     Ok(())
 }
@@ -136,17 +136,17 @@ fn give(
     let end = records.end();
     'records: for position in from..end {
         let entry = records.at(position);
-        let Some(block) = given_block(target, opening, entry) else {
+        let Some(shown) = Shown::of(target, opening, entry) else {
             continue;
         };
         let room = max as usize - given.text.len();
-        let len = match len_within(&block, entry, room) {
+        let len = match len_within(&shown, entry, room) {
             Ok(len) => len,
             Err(refusal) if given.count == 0 => return Err(refusal),
             Err(_) => return Ok(given),
         };
         let memory = memory_for(given.count == 0, len, room, end - position);
-        put(&mut given, &block, entry, len, memory)?;
+        put(&mut given, &shown, entry, len, memory)?;
     }
     Ok(given)
 }

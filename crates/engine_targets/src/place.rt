@@ -1,5 +1,5 @@
 //! Places: how far a handle has read of what its target holds.
-ghost use Rattle.std.specs.Prelude.{◌≡◌, true};
+ghost use Rattle.std.specs.Prelude.{◌≡◌, ℕ, Bool, true};
 ghost use Rattle.engine_targets.specs.declared.place.Place.TheVariants.{Idle, At};
 ghost use Rattle.engine_targets.specs.Places.{place_after, first_place, caught_place};
 
@@ -67,13 +67,17 @@ fn owed_more(limit: u32, first: u64, owed: u32) -> Place
     }
 }
 
-/// The place after one more record, which was pushed at a position.
-pub(crate) fn moved(place: Place, limit: u32, sees: bool, position: u64) -> Place
-    ensures { result ≡ place_after limit sees position place }
+/// Whether a handle stays at a place whatever record is pushed.
+pub(crate) fn is_fixed(place: Place) -> bool
+    ensures { result ≡ true → (limit : ℕ) (sees : Bool) (position : ℕ) → place_after limit sees position place ≡ place }
 {
-    if !sees {
-        return place;
-    }
+    matches!(place, Place::Fresh | Place::Over | Place::News(true))
+}
+
+/// The place after one more record that the handle is given, which was pushed at a position.
+pub(crate) fn moved(place: Place, limit: u32, position: u64) -> Place
+    ensures { result ≡ place_after limit true position place }
+{
     match place {
         Place::News(_) => Place::News(true),
         Place::Idle => woken(limit, position),

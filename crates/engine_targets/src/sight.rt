@@ -2,6 +2,7 @@
 ghost use Rattle.std.specs.Prelude.{◌≡◌, ◌&&◌, ◌||◌, not, Some, [], is_some, IfSome};
 ghost use Rattle.pps_types.specs.Reading as reading;
 ghost use Rattle.engine_targets.specs.Opened.{opened};
+ghost use Rattle.engine_targets.specs.Lines.{is_told as told};
 
 use crate::kinds::{is_directory_kind, is_object_kind};
 use crate::opening::Opening;
@@ -58,12 +59,19 @@ pub fn is_visible(target: u64, opening: &Opening, entry: &Entry) -> bool
     concerns(target, opening, entry) && sees(opening, entry.record())
 }
 
+/// Whether a handle on the object or directory of that number is given a record that has a block for it.
+pub(crate) fn is_told_of(target: u64, opening: &Opening, entry: &Entry) -> bool
+    ensures { result ≡ told (opened target [] opening.now) entry.now }
+{
+    concerns(target, opening, entry) && is_told(opening, entry.record())
+}
+
 /// The block of a record, where a handle on the object or directory of that number is given it. It takes no memory.
 pub fn given_block<'a>(target: u64, opening: &'a Opening, entry: &'a Entry) -> Option<Block<'a>>
     ensures visible { is_some result ≡ reading.visible (opened target [] opening.now) entry.now }
     ensures block { IfSome result (λ b. reading.print_shown entry.now.name (Some b) ≡ reading.block (opened target [] opening.now) entry.now) }
 {
-    if !concerns(target, opening, entry) || !is_told(opening, entry.record()) {
+    if !is_told_of(target, opening, entry) {
         return None;
     }
     Block::of(

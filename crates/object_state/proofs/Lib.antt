@@ -1,4 +1,5 @@
 pub mod Printing
+pub mod Matched
 pub mod LineChanges
 pub mod Entries
 pub mod Foretold

@@ -1,4 +1,5 @@
 pub mod Held
+pub mod Places
 pub mod Entries
 pub mod Effect
 pub mod Lent

@@ -9,7 +9,7 @@ ghost use Rattle.object_state.specs.Effect.{printed_length};
 ghost use Rattle.object_state.specs.Entries.{attribute_of, attributes_of, persistent_length};
 
 use crate::content::{Attributes, Content};
-use crate::name::Name;
+use pps_filter::Name;
 use pps_types::Line;
 
 /// Puts an attribute in the place of the one of that name, or last, for which there is room.

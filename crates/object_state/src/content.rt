@@ -1,8 +1,8 @@
 //! What an attribute has besides its name.
 ghost use Rattle.std.specs.Prelude.{◌≡◌, ◌<◌, ◌^◌, length};
 
-use crate::name::Name;
 use indexmap::IndexMap;
+use pps_filter::Name;
 use pps_types::Bytes;
 use std::alloc::AllocError;
 

@@ -10,9 +10,9 @@ ghost use Rattle.object_state.specs.Entries.{attributes_of};
 ghost use Rattle.object_state.specs.Limits.{is_past_limits};
 
 use crate::content::Attributes;
-use crate::name::Name;
 use attr_text::{line_len, passes_limits};
 use indexmap::IndexMap;
+use pps_filter::Name;
 use pps_types::Line;
 use std::alloc::{AllocError, Global};
 

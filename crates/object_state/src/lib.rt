@@ -7,8 +7,8 @@ mod effect;
 mod lent;
 mod lines;
 mod marks;
-mod name;
 mod object;
+mod places;
 mod print;
 
 pub use lent::AttributeRef;

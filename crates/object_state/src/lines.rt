@@ -6,15 +6,6 @@ use attr_text::line_len;
 use pps_types::{Bytes, Line};
 use std::alloc::{AllocError, Global};
 
-// A copy of these bytes, in one piece of just that size.
-fn copied(alloc: Global, bytes: &Bytes) -> Result<Bytes, AllocError>
-    ensures { IfOk result (λ copy. copy ≡ bytes.now) }
-{
-    let mut copy = Vec::with_capacity(alloc, bytes.len())?;
-    copy.extend_from_slice(bytes.as_slice())?;
-    Ok(Bytes::new(copy))
-}
-
 fn copy_of(alloc: Global, line: &Line) -> Result<Line, AllocError>
     ensures { IfOk result (λ copy. copy ≡ line.now) }
 {
@@ -25,13 +16,13 @@ fn copy_of(alloc: Global, line: &Line) -> Result<Line, AllocError>
             value,
             n,
         } => Ok(Line::Set {
-            name: copied(alloc, name)?,
-            enc: copied(alloc, enc)?,
-            value: copied(alloc, value)?,
+            name: Bytes::from_slice(alloc, name.as_slice())?,
+            enc: Bytes::from_slice(alloc, enc.as_slice())?,
+            value: Bytes::from_slice(alloc, value.as_slice())?,
             n: *n,
         }),
         Line::Del { name } => Ok(Line::Del {
-            name: copied(alloc, name)?,
+            name: Bytes::from_slice(alloc, name.as_slice())?,
         }),
     }
 }

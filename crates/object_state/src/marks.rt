@@ -7,8 +7,8 @@ ghost use Rattle.object_state.specs.Effect.{noted_or, ForetellsMarks};
 ghost use Rattle.object_state.specs.Entries.{attributes_of};
 
 use crate::content::Attributes;
-use crate::name::Name;
 use indexmap::IndexMap;
+use pps_filter::Name;
 use pps_types::{Line, WriteLine};
 use std::alloc::{AllocError, Global};
 

@@ -16,7 +16,7 @@ use crate::effect::would_pass_limits;
 use crate::lent::AttributeRef;
 use crate::lines::{copies_of, len_with};
 use crate::marks::resolve;
-use crate::print::{matching_len, printed_matching, push_matching};
+use crate::print::{matching_len, push_all, push_matching};
 use attr_text::passes_limits;
 use indexmap::IndexMap;
 use pps_filter::Filter;
@@ -111,7 +111,7 @@ impl Object {
     {
         match filter {
             None => self.text_len,
-            Some(_) => matching_len(&self.map, filter),
+            Some(filter) => matching_len(&self.map, filter),
         }
     }
 
@@ -121,7 +121,10 @@ impl Object {
         ensures items { out.new.items ≡ out.old.items ++ print_matching (option_copied filter.entry) self.now.attributes }
         ensures capacity { vec_capacity out.old ≤ vec_capacity out.new }
     {
-        push_matching(out, &self.map, filter);
+        match filter {
+            None => push_all(out, &self.map, self.text_len),
+            Some(filter) => push_matching(out, &self.map, filter),
+        }
     }
 
     /// The printed lines of those attributes that match. Without a filter all match.
@@ -134,9 +137,6 @@ impl Object {
         ensures err { IsOkUnless result Refusal.OutOfMemory }
     {
         let alloc: Global = *self.map.allocator();
-        if filter.is_some() {
-            return Ok(printed_matching(alloc, &self.map, filter)?);
-        }
         let mut printed = Vec::with_capacity(alloc, self.print_len(filter))?;
         self.push_print(&mut printed, filter);
         Ok(printed)

@@ -1,35 +1,26 @@
 //! Printing of attributes.
-ghost use Rattle.std.specs.Prelude.{◌≡◌, ◌+◌, ◌≤◌, ◌<◌, ◌^◌, ◌++◌, IfOk, length, vec_len, vec_capacity};
-ghost use Rattle.std.specs.Option.{option_copied};
-ghost use Rattle.pps_types.specs.Filter as filters;
+ghost use Rattle.std.specs.Prelude.{◌≡◌, ◌+◌, ◌≤◌, ◌<◌, ◌^◌, ◌++◌, length, vec_len, vec_capacity, map as each};
+ghost use Rattle.attr_text.specs.Written.{overwritten};
 ghost use Rattle.pps_types.specs.History.{line_of};
-ghost use Rattle.pps_types.specs.Text.{print_line};
+ghost use Rattle.pps_types.specs.Text.{print_line, print_lines};
 ghost use Rattle.object_state.specs.Entries.{attribute_of, attributes_of};
 ghost use Rattle.object_state.specs.Held.{print_matching};
 
 use crate::content::{Attributes, Content};
-use crate::name::Name;
-use attr_text::push_set;
-use pps_filter::{Filter, matches_set};
-use std::alloc::{AllocError, Global};
-
-// Whether the line that sets the attribute matches.
-fn is_matched(filter: Option<&Filter>, name: &Name, content: &Content) -> bool
-    ensures { result ≡ filters.matches (option_copied filter.entry) (line_of (attribute_of (name.now, content.now))) }
-{
-    matches_set(filter, name.as_slice(), content.value.as_slice())
-}
+use crate::places::first_place;
+use attr_text::{push_set, write_set};
+use pps_filter::{Filter, Name};
 
 /// How long the printed lines of those that match are.
-pub(crate) fn matching_len(map: &Attributes, filter: Option<&Filter>) -> usize
-    requires { length (print_matching (option_copied filter) (attributes_of map.now.entries)) < 2 ^ 64 }
-    ensures { result ≡ length (print_matching (option_copied filter.entry) (attributes_of map.now.entries)) }
+pub(crate) fn matching_len(map: &Attributes, filter: &Filter) -> usize
+    requires { length (print_matching (Some filter.now) (attributes_of map.now.entries)) < 2 ^ 64 }
+    ensures { result ≡ length (print_matching (Some filter.now) (attributes_of map.now.entries)) }
 {
     let mut total = 0;
-    'entries: for (name, content) in map {
-        if is_matched(filter, name, content) {
-            total += content.line_len(name.len());
-        }
+    let mut place = first_place(map, filter, 0);
+    'places: while let Some((name, content)) = map.get_index(place) {
+        total += content.line_len(name.len());
+        place = first_place(map, filter, place + 1);
     }
     total
 }
@@ -49,34 +40,55 @@ fn push_entry(out: &mut Vec<u8>, name: &Name, content: &Content)
     );
 }
 
-/// Pushes the printed lines of those that match, for which there is room.
-pub(crate) fn push_matching(out: &mut Vec<u8>, map: &Attributes, filter: Option<&Filter>)
-    requires { vec_len out.old + length (print_matching (option_copied filter) (attributes_of map.now.entries)) ≤ vec_capacity out.old }
-    ensures items { out.new.items ≡ out.old.items ++ print_matching (option_copied filter.entry) (attributes_of map.now.entries) }
-    ensures capacity { vec_capacity out.old ≤ vec_capacity out.new }
+// Writes the printed line of the attribute over what stands from `at` on, and says where it ends.
+fn write_entry(out: &mut [u8], at: usize, name: &Name, content: &Content) -> usize
+    requires { at + length (print_line (line_of (attribute_of (name.now, content.now)))) ≤ length out.old }
+    ensures text { out.new ≡ overwritten out.old at (print_line (line_of (attribute_of (name.now, content.now)))) }
+    ensures end { result ≡ at + length (print_line (line_of (attribute_of (name.now, content.now)))) }
 {
+    write_set(
+        out,
+        at,
+        name.as_slice(),
+        content.enc.as_slice(),
+        content.value.as_slice(),
+        content.n,
+    )
+}
+
+// Writes the printed lines of all attributes over what stands from `start` on.
+fn write_all(out: &mut [u8], start: usize, map: &Attributes)
+    requires { start + length (print_lines (each line_of (attributes_of map.now.entries))) ≤ length out.old }
+    ensures { out.new ≡ overwritten out.old start (print_lines (each line_of (attributes_of map.now.entries))) }
+{
+    let mut at = start;
     'entries: for (name, content) in map {
-        if is_matched(filter, name, content) {
-            push_entry(out, name, content);
-        }
+        at = write_entry(out, at, name, content);
     }
 }
 
-/// The printed lines of those that match. Room for each is taken as it comes, so that each is asked only once.
-pub(crate) fn printed_matching(
-    alloc: Global,
-    map: &Attributes,
-    filter: Option<&Filter>,
-) -> Result<Vec<u8>, AllocError>
-    requires { length (print_matching (option_copied filter) (attributes_of map.now.entries)) < 2 ^ 64 }
-    ensures { IfOk result (λ printed. printed.items ≡ print_matching (option_copied filter.entry) (attributes_of map.now.entries)) }
+/// Pushes the printed lines of all attributes, which are that long, and for which there is room. The place for all of
+/// them is made at once.
+pub(crate) fn push_all(out: &mut Vec<u8>, map: &Attributes, len: usize)
+    requires len { len ≡ length (print_lines (each line_of (attributes_of map.now.entries))) }
+    requires room { vec_len out.old + len ≤ vec_capacity out.old }
+    ensures items { out.new.items ≡ out.old.items ++ print_lines (each line_of (attributes_of map.now.entries)) }
+    ensures capacity { vec_capacity out.old ≤ vec_capacity out.new }
 {
-    let mut printed = Vec::new(alloc);
-    'entries: for (name, content) in map {
-        if is_matched(filter, name, content) {
-            printed.reserve(content.line_len(name.len()))?;
-            push_entry(&mut printed, name, content);
-        }
+    let start = out.len();
+    out.resize(start + len, 0).unwrap();
+    write_all(out.as_mut_slice(), start, map);
+}
+
+/// Pushes the printed lines of those that match, for which there is room.
+pub(crate) fn push_matching(out: &mut Vec<u8>, map: &Attributes, filter: &Filter)
+    requires { vec_len out.old + length (print_matching (Some filter.now) (attributes_of map.now.entries)) ≤ vec_capacity out.old }
+    ensures items { out.new.items ≡ out.old.items ++ print_matching (Some filter.now) (attributes_of map.now.entries) }
+    ensures capacity { vec_capacity out.old ≤ vec_capacity out.new }
+{
+    let mut place = first_place(map, filter, 0);
+    'places: while let Some((name, content)) = map.get_index(place) {
+        push_entry(out, name, content);
+        place = first_place(map, filter, place + 1);
     }
-    Ok(printed)
 }

@@ -1,5 +1,5 @@
 -- The elements of a path, read one after another.
-use Rattle.std.proofs.Common.{◌≡◌, ℕ, Bool, true, false, cond, List, [], ◌∷◌, ◌++◌, length, Option, Some, None, Bor, inl, inr, refl, sym, ap, ◌∙◌, arith}
+use Rattle.std.proofs.Common.{◌≡◌, ℕ, zero, suc, ◌+◌, ◌<◌, Bool, true, false, cond, List, [], ◌∷◌, ◌++◌, length, take, drop, get_or, Option, Some, None, Bor, inl, inr, refl, sym, ap, ◌∙◌, add-one, arith}
 use Rattle.std.specs.Prelude.{not, ◌&&◌, ◌||◌, nat_le, ◌==◌, if◌then◌else◌, option_map, option_and_then, is_some, codes}
 use Rattle.std.specs.Option.{option_copied}
 use Rattle.std.specs.List.{list_all}
@@ -8,11 +8,11 @@ use Rattle.std.proofs.lemmas.Bool.Decides.{nat_tests}
 use Rattle.std.proofs.lemmas.List.{append_assoc, append-nil, length-append}
 use Rattle.std.proofs.lemmas.List.Folds.{list_all-append}
 use Rattle.std.proofs.lemmas.Slice.Eq.{bytes_eq-Decides}
-use Rattle.pps_types.specs.Bytes.{same, is_empty, pieces, onto_first}
+use Rattle.pps_types.specs.Bytes.{same, is_empty, is_between, starts_with, pieces, onto_first}
 use Rattle.pps_types.specs.Names.{Name, Path}
 use Rattle.pps_types.specs.OpenText.{OpenPath, open_path, open_path_of, path_text, elements_of, before_all, is_path_name, are_names, names_if}
 use Rattle.pps_types.specs.declared.refusal.Refusal.{Refusal}
-use Rattle.open_options.specs.Elements.{path_of, elements_left}
+use Rattle.open_options.specs.Elements.{path_of, elements_left, is_path_byte, is_name_byte}
 use Rattle.open_options.specs.Refused.{IsPathRefusal}
 
 abbrev pub open_path_with : Path → Bool → OpenPath
@@ -196,7 +196,122 @@ elements_left-some (Some rest) h = pieces-some 47 rest.now
 pub walked-refused : (names : Path) (e : Name) (es : List Name) → (is_empty es && same e (codes ".all")) ≡ false → (length names == 32 || not (is_path_name e)) ≡ true → walked names (e ∷ es) ≡ None
 walked-refused names e es other bad = rw (other, bad)
 
+-- an element that is one more name
+pub walked-accepted : (names : Path) (e : Name) (es : List Name) → (is_empty es && same e (codes ".all")) ≡ false → (length names == 32) ≡ false → is_path_name e ≡ true → walked names (e ∷ es) ≡ walked (names ++ e ∷ []) es
+walked-accepted names e es other few good = rw (other, few, good)
+
 -- the path of an open that is refused is none alone
 pub path-refused : (text : List ℕ) (r : Refusal) → IsPathRefusal (open_path text) r → IsPathRefusal (path_text text) r
 path-refused text r (inl wanting) = inl wanting
 path-refused text r (inr bad) = inr (bad.0, path_text-none text bad.1)
+
+-- ---- bytes that elements may have
+
+pub all_bytes : (text : List ℕ) → list_all (list_all is_name_byte) (pieces 47 text) ≡ list_all is_path_byte text
+all_bytes [] = refl
+all_bytes (b ∷ bs) = by (b == 47) refl (pieces 47 bs) (all_bytes bs)
+  where
+    onto : (ps : List (List ℕ)) → list_all (list_all is_name_byte) (onto_first b ps) ≡ (is_name_byte b && list_all (list_all is_name_byte) ps)
+    onto [] = ends (is_name_byte b)
+      where
+        ends : (x : Bool) → ((x && true) && true) ≡ (x && true)
+        ends true = refl
+        ends false = refl
+    onto (p ∷ ps) = regroup (is_name_byte b) (list_all is_name_byte p) (list_all (list_all is_name_byte) ps)
+      where
+        regroup : (x y z : Bool) → ((x && y) && z) ≡ (x && (y && z))
+        regroup true y z = refl
+        regroup false y z = refl
+
+    by : (cut : Bool) → (b == 47) ≡ cut → (ps : List (List ℕ)) → list_all (list_all is_name_byte) ps ≡ list_all is_path_byte bs
+        → list_all (list_all is_name_byte) (cond cut ([] ∷ ps) (onto_first b ps)) ≡ (is_path_byte b && list_all is_path_byte bs)
+    by true is ps rest =
+        let slash : b ≡ 47 = grind (arith, nat_tests, is) in
+        let fits : is_path_byte b ≡ true = rw slash in
+        rw (fits, rest)
+    by false is ps rest = onto ps ∙ rw (is, rest) (drops (is_between 33 126 b) (not (b == 63)) (list_all is_path_byte bs))
+      where
+        drops : (x y z : Bool) → (((x && true) && y) && z) ≡ ((x && y) && z)
+        drops true y z = refl
+        drops false y z = refl
+
+-- a name has such bytes alone
+name_bytes : (e : Name) → list_all is_name_byte e ≡ false → is_path_name e ≡ false
+name_bytes e h = rw h (by (is_empty e) (nat_le (length e) 255) (starts_with 46 e))
+  where
+    by : (a b c : Bool) → (((not a && b) && false) && not c) ≡ false
+    by true b c = refl
+    by false true c = refl
+    by false false c = refl
+
+no_names : (es : List Name) → list_all (list_all is_name_byte) es ≡ false → list_all is_path_name es ≡ false
+no_names [] h = absurd (cc)
+no_names (e ∷ es) h = by (list_all is_name_byte e) refl (list_all (list_all is_name_byte) es) refl (no_names es)
+  where
+    by : (a : Bool) → list_all is_name_byte e ≡ a → (b : Bool) → list_all (list_all is_name_byte) es ≡ b → (list_all (list_all is_name_byte) es ≡ false → list_all is_path_name es ≡ false) → (is_path_name e && list_all is_path_name es) ≡ false
+    by false ea b eb rest = rw (name_bytes e ea)
+    by true ea false eb rest = rw (rest eb) (ends (is_path_name e))
+      where
+        ends : (x : Bool) → (x && false) ≡ false
+        ends true = refl
+        ends false = refl
+    by true ea true eb rest = absurd (let all : (list_all is_name_byte e && list_all (list_all is_name_byte) es) ≡ true = rw (ea, eb) in cc)
+
+no_names_if : (es : List Name) → list_all (list_all is_name_byte) es ≡ false → names_if es ≡ None
+no_names_if es h = rw (no_names es h) (by (nat_le (length es) 32))
+  where
+    by : (b : Bool) → (if b && false then Some es else None) ≡ None
+    by true = refl
+    by false = refl
+
+-- `.all` has such bytes, so that the names before it do not
+bytes_before : (es names : List Name) → before_all es ≡ Some names → list_all (list_all is_name_byte) es ≡ list_all (list_all is_name_byte) names
+bytes_before [] names h = absurd (cc)
+bytes_before (e ∷ []) names h = by (same e (codes ".all")) refl h
+  where
+    by : (b : Bool) → same e (codes ".all") ≡ b → (if b then Some [] else None) ≡ Some names → list_all (list_all is_name_byte) (e ∷ []) ≡ list_all (list_all is_name_byte) names
+    by true is h =
+        let all : e ≡ codes ".all" = (bytes_eq-Decides e (codes ".all")).0 is in
+        let none : names ≡ [] = cc in
+        rw (all, none)
+    by false is h = absurd (cc)
+bytes_before (e ∷ f ∷ fs) names h = by (before_all (f ∷ fs)) refl h (bytes_before (f ∷ fs))
+  where
+    by : (o : Option Path) → before_all (f ∷ fs) ≡ o → option_map (λ front. e ∷ front) o ≡ Some names → ((front : List Name) → before_all (f ∷ fs) ≡ Some front → list_all (list_all is_name_byte) (f ∷ fs) ≡ list_all (list_all is_name_byte) front)
+        → list_all (list_all is_name_byte) (e ∷ f ∷ fs) ≡ list_all (list_all is_name_byte) names
+    by None is h rest = absurd (cc)
+    by (Some front) is h rest =
+        let first : names ≡ e ∷ front = cc in
+        rw first (ap (λ b. list_all is_name_byte e && b) (rest front is))
+
+pub bad_bytes : (text : List ℕ) → list_all is_path_byte text ≡ false → path_of (pieces 47 text) ≡ None
+bad_bytes text h = by (before_all (pieces 47 text)) refl
+  where
+    bad : list_all (list_all is_name_byte) (pieces 47 text) ≡ false
+    bad = all_bytes text ∙ h
+
+    by : (o : Option Path) → before_all (pieces 47 text) ≡ o → open_path_of (pieces 47 text) o ≡ None
+    by None is = rw (no_names_if (pieces 47 text) bad)
+    by (Some names) is = rw (no_names_if names (sym (bytes_before (pieces 47 text) names is) ∙ bad))
+
+-- ---- the first element
+
+cut_behind : (xs : List ℕ) (k : ℕ) → k < length xs → ((j : ℕ) → j < k → get_or xs j 0 ≡ 47 → ⊥) → get_or xs k 0 ≡ 47 → take k xs ∷ pieces 47 (drop (suc k) xs) ≡ pieces 47 xs
+cut_behind [] k within before here = absurd (omega (arith, within))
+cut_behind (x ∷ xs) zero within before here =
+    let e : (x == 47) ≡ true = grind (arith, nat_tests, here) in
+    rw e
+cut_behind (x ∷ xs) (suc k) within before here =
+    let other : x ≡ 47 → ⊥ = before 0 (omega arith) in
+    let e : (x == 47) ≡ false = grind (arith, nat_tests, other) in
+    rw (e, ← cut_behind xs k (omega (arith, within)) (λ j low. before (suc j) (omega arith)) here)
+
+pub cut_at : (xs : List ℕ) (k : ℕ) → k < length xs → ((j : ℕ) → j < k → get_or xs j 0 ≡ 47 → ⊥) → get_or xs k 0 ≡ 47 → take k xs ∷ pieces 47 (drop (k + 1) xs) ≡ pieces 47 xs
+cut_at xs k within before here = rw add-one (cut_behind xs k within before here)
+
+pub cut_none : (xs : List ℕ) → ((j : ℕ) → j < length xs → get_or xs j 0 ≡ 47 → ⊥) → xs ∷ [] ≡ pieces 47 xs
+cut_none [] nowhere = refl
+cut_none (x ∷ xs) nowhere =
+    let other : x ≡ 47 → ⊥ = nowhere 0 (omega arith) in
+    let e : (x == 47) ≡ false = grind (arith, nat_tests, other) in
+    rw (e, ← cut_none xs (λ j low. nowhere (suc j) (omega arith)))

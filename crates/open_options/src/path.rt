@@ -1,17 +1,16 @@
 //! Paths: rows of names from the root on.
-ghost use Rattle.std.specs.Prelude.{◌≡◌, ◌<◌, ◌∷◌, ◌&&◌, ◌==◌, IfOk, IfErr, IfSome, length, not};
+ghost use Rattle.std.specs.Prelude.{◌≡◌, ◌≢◌, ℕ, ◌+◌, ◌<◌, ◌≤◌, ◌∷◌, true, IfOk, IfErr, IfSome, length, slice_index};
 ghost use Rattle.std.specs.List.{list_all};
 ghost use Rattle.std.specs.Option.{option_copied};
-ghost use Rattle.pps_types.specs.Bytes.{is_between, pieces, starts_with};
+ghost use Rattle.pps_types.specs.Bytes.{pieces, starts_with};
 ghost use Rattle.pps_types.specs.OpenText as meant;
-ghost use Rattle.open_options.specs.Elements.{elements_left, path_of};
+ghost use Rattle.open_options.specs.Elements.{elements_left, path_of, is_path_byte, is_name_byte};
 ghost use Rattle.open_options.specs.Refused.{IsPathRefusal};
 ghost use Rattle.open_options.specs.Seen.{path_seen};
 
 use pps_types::{Bytes, Refusal};
 use std::alloc::Global;
 use std::marker::Model;
-use text_parts::split_at_first;
 
 /// The most bytes of a path, `.all` included.
 const PATH_MAX: usize = 1_024;
@@ -75,17 +74,45 @@ fn begins_with_dot(bytes: &[u8]) -> bool
     }
 }
 
-fn has_name_bytes(bytes: &[u8]) -> bool
-    ensures { result ≡ list_all (λ b. is_between 33 126 b && not (b == 47) && not (b == 63)) bytes.now }
+/// Whether a path may have that byte: a visible one other than `?`.
+#[inline]
+fn is_path_byte(byte: u8) -> bool
+    ensures { result ≡ is_path_byte byte }
 {
-    bytes.iter().all(|byte| byte.is_ascii_graphic() && *byte != b'/' && *byte != b'?')
+    byte.is_ascii_graphic() & (byte != b'?')
 }
 
-/// Whether the bytes are a name in a path: 1 to 255 visible ones other than `/` and `?`, the first not `.`.
+/// Whether all bytes are ones that a path may have. Each is looked at, so that many are at once.
+fn has_path_bytes(text: &[u8]) -> bool
+    ensures { result ≡ list_all is_path_byte text.now }
+{
+    let mut all = true;
+    for byte in text {
+        all &= is_path_byte(*byte);
+    }
+    all
+}
+
+/// Whether an element whose bytes may stand in a path is a name: 1 to 255 bytes, the first not `.`.
 fn is_name(bytes: &[u8]) -> bool
+    requires { list_all is_name_byte bytes.now ≡ true }
     ensures { result ≡ meant.is_path_name bytes.now }
 {
-    !bytes.is_empty() && bytes.len() <= NAME_MAX && has_name_bytes(bytes) && !begins_with_dot(bytes)
+    !bytes.is_empty() && bytes.len() <= NAME_MAX && !begins_with_dot(bytes)
+}
+
+/// How many bytes stand before the first `/`.
+fn until_slash(text: &[u8]) -> usize
+    ensures within { result ≤ length text.now }
+    ensures before { (k : ℕ) → k < result → slice_index text.now k ≢ 47 }
+    ensures slash { result < length text.now → slice_index text.now result ≡ 47 }
+{
+    for (i, byte) in text.iter().enumerate() {
+        if *byte == b'/' {
+            return i;
+        }
+    }
+    text.len()
 }
 
 /// The first element of a path, and what stands behind its `/`, where there is one.
@@ -93,18 +120,35 @@ fn first_element(text: &[u8]) -> (&[u8], Option<&[u8]>)
     ensures elements { result.0.now ∷ elements_left (option_copied result.1) ≡ pieces 47 text.now }
     ensures shorter { IfSome result.1 (λ rest. length rest.now < length text.now) }
 {
-    match split_at_first(b'/', text) {
-        Some((element, rest)) => (element, Some(rest)),
-        None => (text, None),
+    let end = until_slash(text);
+    if end == text.len() {
+        return (text, None);
     }
+    (&text[..end], Some(&text[end + 1..]))
+}
+
+/// How many elements a text has: one more than there are of `/`. Bytes are counted many at a time.
+fn elements_in(text: &[u8]) -> usize
+    requires { length text.now ≤ 1024 }
+    ensures { result ≤ length text.now + 1 }
+{
+    let mut elements = 1u16;
+    for byte in text {
+        elements += u16::from(*byte == b'/');
+    }
+    usize::from(elements)
 }
 
 /// Reads the elements that stand behind the first `/` of a path.
 fn read_elements(alloc: Global, text: &[u8]) -> Result<OpenPath, Refusal>
+    requires { length text.now ≤ 1024 }
     ensures ok { IfOk result (λ read. path_of (pieces 47 text.now) ≡ Some (path_seen read)) }
     ensures err { IfErr result (IsPathRefusal (path_of (pieces 47 text.now))) }
 {
-    let mut names = Vec::new(alloc);
+    if !has_path_bytes(text) {
+        return Err(Refusal::BadPath);
+    }
+    let mut names = Vec::with_capacity(alloc, elements_in(text))?;
     let mut rest = Some(text);
     while let Some(text) = rest {
         let (element, behind) = first_element(text);

@@ -4,6 +4,7 @@ use crate::samples::{bytes, deletion, set_line};
 use attr_text::{
     client_header_len, header_len, line_len, passes_limits, print_header, print_line,
     push_client_header, push_header, push_line, push_set, read_write, set_len, show_value,
+    write_set,
 };
 use pps_types::{Handle, Mark, Refusal, Shown, WriteLine};
 use std::alloc::{AllocError, Global};
@@ -164,6 +165,17 @@ fn prints_lines(rt: HostRuntime) -> Result<(), Fail> {
     let mut out = Vec::with_capacity(rt.alloc(), 8)?;
     push_set(&mut out, b"a", b"", b"1", true);
     assert_eq!(rt; out.as_slice(), b"[n]a::1\n".as_slice());
+    Ok(())
+}
+
+#[test]
+fn writes_lines_over_what_stands(rt: HostRuntime) -> Result<(), Fail> {
+    let mut out = vec![in rt.alloc(); b'.'; 22]?;
+    let end = write_set(out.as_mut_slice(), 1, b"a", b"", b"12", true);
+    assert_eq!(rt; end, 10);
+    let end = write_set(out.as_mut_slice(), 10, b"name", b"n", b"1.5", false);
+    assert_eq!(rt; end, 21);
+    assert_eq!(rt; out.as_slice(), b".[n]a::12\nname:n:1.5\n.".as_slice());
     Ok(())
 }
 

@@ -1,8 +1,8 @@
 //! Filters: reading them, and what they match.
 
 use crate::samples::{deletion, set_line};
-use pps_filter::{Filter, first_plain_piece, matches, matches_set, read_filter, read_parts};
-use pps_types::{Line, Refusal};
+use pps_filter::{Filter, Name, first_plain_piece, matches, matches_set, read_filter, read_parts};
+use pps_types::{Bytes, Line, Refusal};
 use std::alloc::{AllocError, Global};
 use std::test::Fail;
 
@@ -70,6 +70,24 @@ fn sets_are_matched_without_a_line(rt: HostRuntime) -> Result<(), Fail> {
             "{name:?} at {value:?}"
         );
         assert!(rt; matches_set(None, name, value));
+    }
+    Ok(())
+}
+
+#[test]
+fn parts_are_lent(rt: HostRuntime) -> Result<(), Fail> {
+    let filter = read_filter(rt.alloc(), b"speed>60+city")?;
+    let names: [&[u8]; 2] = [b"speed", b"city"];
+    assert_eq!(rt; filter.parts().len(), 2);
+    for (part, wanted) in filter.parts().iter().zip(names) {
+        let name = part.name().clone()?;
+        assert_eq!(rt; name.as_slice(), wanted);
+        assert_eq!(rt; name.len(), wanted.len());
+        assert!(rt; !name.is_empty());
+        assert!(rt; name == Name::new(Bytes::from_slice(rt.alloc(), wanted)?));
+        assert_eq!(rt; name.into_bytes().as_slice(), wanted);
+        assert!(rt; part.is_met_by(b"61"));
+        assert_eq!(rt; part.is_met_by(b"60"), wanted == b"city".as_slice());
     }
     Ok(())
 }

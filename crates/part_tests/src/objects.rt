@@ -79,11 +79,16 @@ fn attributes_are_lent_by_their_places(rt: HostRuntime) -> Result<(), Fail> {
 #[test]
 fn those_that_match_are_printed(rt: HostRuntime) -> Result<(), Fail> {
     let object = written(rt.alloc(), b"speed:n:61\n[n]alt::9\n", b"city::Rome\n")?;
-    let cases: [[&[u8]; 2]; 4] = [
+    let cases: [[&[u8]; 2]; 6] = [
         [b"speed>60+city", b"speed:n:61\ncity::Rome\n"],
         [b"alt", b"[n]alt::9\n"],
         [b"speed>61", b""],
         [b"city!=Ottawa+alt=9", b"[n]alt::9\ncity::Rome\n"],
+        [b"alt=8+none+alt<10+alt", b"[n]alt::9\n"],
+        [
+            b"city+alt+speed+city",
+            b"speed:n:61\n[n]alt::9\ncity::Rome\n",
+        ],
     ];
     for [filter, wanted] in cases {
         let filter = read_filter(rt.alloc(), filter)?;

@@ -116,3 +116,14 @@ fn messages_of_the_server(rt: HostRuntime) -> Result<(), Fail> {
     assert!(rt; !queue.can_take(Sender::Server));
     Ok(())
 }
+
+#[test]
+fn lines_are_printed_once(rt: HostRuntime) -> Result<(), Fail> {
+    let alloc = rt.alloc();
+    let change = entry(alloc, Kind::Change(lines(alloc)?))?;
+    let text = change.text().ok_or("lines have a printing")?;
+    assert_eq!(rt; text, b"@s\na:n:1\n".as_slice());
+    assert!(rt; entry(alloc, Kind::Deleted)?.text().is_none());
+    assert!(rt; entry(alloc, Kind::ToAll(lines(alloc)?))?.text().is_none());
+    Ok(())
+}

@@ -117,6 +117,25 @@ fn directories_are_listed_in_byte_order(rt: HostRuntime) -> Result<(), Fail> {
 }
 
 #[test]
+fn a_path_leads_to_a_place(rt: HostRuntime) -> Result<(), Fail> {
+    let alloc = rt.alloc();
+    let tree = small_tree(alloc)?;
+    let places: [(&[&[u8]], Result<Option<Found>, Refusal>); 6] = [
+        (&[], Ok(Some(directory(0)))),
+        (&[b"d", b"b"], Ok(Some(object(1)))),
+        (&[b"d", b"a"], Ok(Some(directory(2)))),
+        (&[b"d", b"x"], Ok(None)),
+        (&[b"x", b"y"], Err(Refusal::NotFound)),
+        (&[b"d", b"b", b"c"], Err(Refusal::NotDirectory)),
+    ];
+    for (names, place) in places {
+        let path = path(alloc, names)?;
+        assert_eq!(rt; tree.place(path.as_slice()), place);
+    }
+    Ok(())
+}
+
+#[test]
 fn members_are_counted(rt: HostRuntime) -> Result<(), Fail> {
     let alloc = rt.alloc();
     let tree = small_tree(alloc)?;

@@ -1,12 +1,11 @@
 -- How what is asked by a path is checked, and what it does.
-use Rattle.std.specs.Prelude.{◌≡◌, ◌≢◌, ◌⊎◌, ◌+◌, ◌-◌, ◌<◌, ◌≤◌, ◌^◌, ◌||◌, ℕ, List, [], ◌∷◌, ◌++◌, Bool, true, false, not, nat_le, nat_lt, Option, Some, None, is_some, ok_or, filter, length, map, Result, Ok, Err, codes}
+use Rattle.std.specs.Prelude.{◌≡◌, ◌≢◌, ◌⊎◌, ◌+◌, ◌-◌, ◌<◌, ◌^◌, ◌||◌, ℕ, List, [], ◌∷◌, ◌++◌, Bool, true, false, nat_le, nat_lt, Option, Some, None, is_some, ok_or, length, map, Result, Ok, Err}
 use Rattle.std.specs.Option.{option_map_or}
 use Rattle.std.specs.List.{concat}
 use Rattle.std.proofs.Common.{refl, sym, ◌∙◌, ap, subst, cond, inl, inr, arith}
 use Rattle.std.proofs.lemmas.Bool.Decides.{nat_tests}
 use Rattle.pps_types.specs.declared.refusal.Refusal.{Refusal}
 use Rattle.pps_types.specs.declared.refusal.Refusal.TheVariants.{BadPath, OutOfMemory, TableFull, Exists}
-use Rattle.pps_types.specs.declared.event.Request.{Request}
 use Rattle.pps_types.specs.declared.event.Request.TheVariants.{Unlink, Mkdir, List as ListRequest}
 use Rattle.pps_types.specs.declared.outcome.Outcome.{Outcome}
 use Rattle.pps_types.specs.declared.outcome.Outcome.TheVariants.{Done, Data}
@@ -14,12 +13,12 @@ use Rattle.pps_types.specs.declared.found.Found.{Found}
 use Rattle.pps_types.specs.Bytes.{◌>>=◌}
 use Rattle.pps_types.specs.Names.{Name, Path, parent, place, find_at, new_refusal, refusal_of, is_object, is_directory}
 use Rattle.pps_types.specs.OpenText.{path_text}
-use Rattle.pps_types.specs.Content.{Content, at, object_at, directory_at, subdirectories}
-use Rattle.pps_types.specs.Checks.{Check, Refuse, Memory, first_refusal, reaches_memory, refused, parsed, on_path, list_checks, mkdir_checks, unlink_checks, request_checks}
-use Rattle.pps_types.specs.Plan.{Move, MakesDirectory, effect, with_path, listing, unlinking, apply_all_seen, passes_last_number}
+use Rattle.pps_types.specs.Content.{Content, at, subdirectories}
+use Rattle.pps_types.specs.Checks.{Check, Refuse, Memory, first_refusal, refused, parsed, on_path, list_checks, mkdir_checks, unlink_checks}
+use Rattle.pps_types.specs.Plan.{Move, MakesDirectory, effect, with_path, listing, apply_all_seen, passes_last_number}
 use Rattle.settling_laws.specs.Targets.{last_number_passed, last_number_passed_after}
 use Rattle.settling_laws.specs.Laws.{EventsAreSettled}
-use Rattle.engine_names.specs.Listed.{suffix, members_at, entries_at, MembersAreListed}
+use Rattle.engine_names.specs.Listed.{suffix, members_at, MembersAreListed}
 use Rattle.engine_names.specs.Standing.{Standing, content_of, standing_in}
 use Rattle.engine_names.specs.Laws.{QuestionsAreTold}
 use Rattle.open_options.specs.Refused.{IsPathRefusal}

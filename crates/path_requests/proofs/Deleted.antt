@@ -5,7 +5,6 @@ use Rattle.std.proofs.Common.{refl, sym, ◌∙◌, ap, subst, cond, inl, inr}
 use Rattle.pps_types.specs.declared.refusal.Refusal.{Refusal}
 use Rattle.pps_types.specs.declared.refusal.Refusal.TheVariants.{OutOfMemory, TableFull}
 use Rattle.pps_types.specs.declared.event.Request.TheVariants.{Unlink}
-use Rattle.pps_types.specs.declared.outcome.Outcome.{Outcome}
 use Rattle.pps_types.specs.declared.outcome.Outcome.TheVariants.{Done}
 use Rattle.pps_types.specs.declared.record.Kind.TheVariants.{Deleted}
 use Rattle.pps_types.specs.Names.{Path}
@@ -13,7 +12,7 @@ use Rattle.pps_types.specs.OpenText.{path_text}
 use Rattle.pps_types.specs.History.{Entry}
 use Rattle.pps_types.specs.Content.{Content, Known, Directory, object_at, directory_at}
 use Rattle.pps_types.specs.Checks.{first_refusal, unlink_checks}
-use Rattle.pps_types.specs.Plan.{Move, RemovesDirectory, entry_of, effect, apply_all_seen, passes_last_number}
+use Rattle.pps_types.specs.Plan.{Move, entry_of, effect, apply_all_seen, passes_last_number}
 use Rattle.pps_types.specs.WellFormed.{IsContent}
 use Rattle.settling_laws.specs.Targets.{last_number_passed, last_number_passed_after}
 use Rattle.settling_laws.specs.Laws.{EventsAreSettled}

@@ -1,5 +1,5 @@
 -- What an Unlink finds at its path, how it is checked, and what it does.
-use Rattle.std.specs.Prelude.{◌≡◌, ◌≢◌, ◌↔◌, ◌==◌, ◌&&◌, ◌||◌, ℕ, List, [], ◌∷◌, ◌++◌, Bool, true, false, not, nat_lt, Option, Some, None, IsTrue, IfSome, is_some, ok_or, filter, find, length, map, option_map, option_and_then, Result, Ok, Err}
+use Rattle.std.specs.Prelude.{◌≡◌, ◌≢◌, ◌↔◌, ◌==◌, ◌&&◌, ◌||◌, ℕ, List, [], ◌∷◌, Bool, true, false, not, nat_lt, Option, Some, None, IsTrue, IfSome, is_some, ok_or, filter, find, length, option_map, option_and_then, Result, Ok, Err}
 use Rattle.std.specs.Option.{option_map_or, option_or}
 use Rattle.std.specs.List.{AllByRecursion}
 use Rattle.std.proofs.Common.{refl, sym, ◌∙◌, ap, subst, cond, arith}
@@ -14,12 +14,12 @@ use Rattle.pps_types.specs.declared.record.Kind.TheVariants.{Deleted}
 use Rattle.pps_types.specs.declared.found.Found.{Found}
 use Rattle.pps_types.specs.declared.found.Found.TheVariants.{Object as FoundObject, Directory as FoundDirectory}
 use Rattle.pps_types.specs.Bytes.{◌>>=◌, is_empty}
-use Rattle.pps_types.specs.Names.{Path, last_name, place, find_at, refusal_of, same_path}
+use Rattle.pps_types.specs.Names.{Path, last_name, place, find_at, same_path}
 use Rattle.pps_types.specs.OpenText.{path_text}
 use Rattle.pps_types.specs.Reading.{Open, is_directory_kind}
 use Rattle.pps_types.specs.Rests.{Seen}
 use Rattle.pps_types.specs.Content.{Content, Known, Directory, at, object_at, object_in, directory_at, parent_number, object_numbered, members, subdirectories, has_directory_handle}
-use Rattle.pps_types.specs.Checks.{Check, Refuse, Memory, first_refusal, parsed, unlink_checks, unlink_found}
+use Rattle.pps_types.specs.Checks.{Check, Refuse, first_refusal, parsed, unlink_checks, unlink_found}
 use Rattle.pps_types.specs.Plan.{Move, Happens, RemovesDirectory, entry_of, effect, unlinking}
 use Rattle.pps_types.specs.WellFormed.{IsContent, directory_numbered}
 use Rattle.pps_types.proofs.Finds.{all-find, find-true}
@@ -98,6 +98,21 @@ module _ (c : Content) (w : IsContent c) (path : Path) (n : ℕ) where
               numbered = subst (λ k. directory_numbered c k ≡ Some d) same (all-find (λ (d : Directory). directory_numbered c d.number ≡ Some d) (λ (d : Directory). same_path d.path path) c.directories d each is);
             },
           )
+
+-- ---- what stands there, as a directory and as an object
+
+pub numbered_there : (c : Content) → IsContent c → (path : Path) (n : ℕ) → at c path ≡ Some (FoundDirectory n) → option_map (λ (d : Directory). d.number) (directory_at c path) ≡ Some n
+numbered_there c w path n e = let found = directory_found c w path n e in ap (option_map (λ (d : Directory). d.number)) found.1.stands ∙ ap Some found.1.number
+
+pub no_directory_there : (c : Content) (path : Path) (n : ℕ) → at c path ≡ Some (FoundObject n) → directory_at c path ≡ None
+no_directory_there c path n e = by (directory_at c path) (object_at c path) e
+  where
+    by : (d : Option Directory) (o : Option Known) → either d o ≡ Some (FoundObject n) → d ≡ None
+    by None o e = refl
+    by (Some d) o e = absurd (let bad = e in cc)
+
+pub object_there : (c : Content) → IsContent c → (path : Path) (n : ℕ) → at c path ≡ Some (FoundObject n) → object_numbered c n ≡ object_at c path
+object_there c w path n e = let found = object_found c w path n e in found.1.numbered ∙ sym found.1.stands
 
 -- ---- the checks
 

@@ -108,42 +108,44 @@ fn find(tables: &Tables, path: &[Bytes]) -> Result<Found, Refusal>
     tables.names().find(path)
 }
 
-// Whether what stands at a path may be removed.
-fn check_unlink(tables: &Tables, path: &[Bytes]) -> Result<(), Refusal>
-    ensures { names.refusal_of result ≡ checking.first_refusal (checking.unlink_checks (content_in tables.now) path.now) }
+// The same object or directory.
+fn same(found: &Found) -> Found
+    ensures { result ≡ found.now }
+{
+    *found
+}
+
+// Whether what stands at a path may be removed, and what that is.
+fn check_unlink(tables: &Tables, path: &[Bytes]) -> Result<Found, Refusal>
+    ensures refusal { names.refusal_of result ≡ checking.first_refusal (checking.unlink_checks (content_in tables.now) path.now) }
+    ensures found { IfOk result (λ found. content.at (content_in tables.now) path.now ≡ Some found) }
 {
     if path.is_empty() {
         return Err(Refusal::Busy);
     }
-    match find(tables, path) {
+    let found = match find(tables, path) {
+        Err(refusal) => return Err(refusal),
+        Ok(found) => found,
+    };
+    match check_found(tables, path, same(&found)) {
         Err(refusal) => Err(refusal),
-        Ok(found) => check_found(tables, path, found),
+        Ok(()) => Ok(found),
     }
 }
 
-// What the deletion of the object at a path begins with. AllocError comes only where memory is wanting.
-fn deletion(tables: &Tables, alloc: Global, path: &[Bytes]) -> Result<Vec<Beginning>, AllocError>
-    ensures begun { IfOk result (λ beginning. map bare beginning.items ≡ telling (option_map (λ (o : content.Known). planning.entry_of o.object Deleted None) (content.object_at (content_in tables.now) path.now))) }
+// What the deletion of an object begins with. AllocError comes only where memory is wanting.
+fn deletion(tables: &Tables, alloc: Global, object: ObjId) -> Result<Vec<Beginning>, AllocError>
+    ensures begun { IfOk result (λ beginning. map bare beginning.items ≡ telling (option_map (λ (o : content.Known). planning.entry_of o.object Deleted None) (content.object_numbered (content_in tables.now) object))) }
     ensures shared { IfOk result (λ beginning. AllByRecursion (IsSharedBy tables.now.handles) beginning.items) }
 {
     questions_are_told();
     let mut beginning = Vec::new(alloc);
-    let Some(known) = tables.names().find_object(path) else {
+    let Some(known) = tables.names().object(object) else {
         return Ok(beginning);
     };
     let entry = record_of(alloc, known, Kind::Deleted, None)?;
     tell(&mut beginning, tables, alloc, entry)?;
     Ok(beginning)
-}
-
-// The directory at a path, if there is one.
-fn directory_at(tables: &Tables, path: &[Bytes]) -> Option<DirId>
-    ensures { result ≡ option_map (λ (d : content.Directory). d.number) (content.directory_at (content_in tables.now) path.now) }
-{
-    match tables.names().find_directory(path) {
-        None => None,
-        Some(directory) => Some(directory.number()),
-    }
 }
 
 /// What an Unlink of a path removes, with all memory taken for it. What stands stays.
@@ -168,11 +170,12 @@ pub fn unlink(
     events_are_settled();
     numbers_are_within(tables);
     let names = read_names(alloc, path)?;
-    check_unlink(tables, &names)?;
-    if let Some(directory) = directory_at(tables, &names) {
-        return Ok(Unlinked::Directory(directory));
-    }
-    let beginning = deletion(tables, alloc, &names)?;
+    let found = check_unlink(tables, &names)?;
+    let object = match found {
+        Found::Directory(directory) => return Ok(Unlinked::Directory(directory)),
+        Found::Object(object) => object,
+    };
+    let beginning = deletion(tables, alloc, object)?;
     begin_ready(tables, alloc, &beginning)?;
     Ok(Unlinked::Object(beginning))
 }

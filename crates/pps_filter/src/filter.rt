@@ -5,6 +5,7 @@ ghost use Rattle.std.specs.Option.{option_copied};
 ghost use Rattle.pps_types.specs.Filter as meant;
 ghost use Rattle.pps_filter.specs.Seen.{condition_seen, part_seen};
 
+use crate::name::Name;
 use crate::number::whole_number;
 use pps_types::{Bytes, Line, Refusal};
 use std::alloc::{AllocError, Global};
@@ -48,12 +49,26 @@ impl Condition {
 
 /// What a filter asks of the attributes of one name.
 #[derive(Debug, PartialEq, Eq, Drop)]
-pub(crate) struct Part {
-    pub(crate) name: Bytes,
+pub struct Part {
+    pub(crate) name: Name,
     pub(crate) condition: Condition,
 }
 
 impl Part {
+    /// The name of the attributes that it asks about.
+    pub fn name(&self) -> &Name
+        ensures { result.now ≡ (part_seen self.now).name }
+    {
+        &self.name
+    }
+
+    /// Whether the value of an attribute of its name meets it. It takes no memory.
+    pub fn is_met_by(&self, value: &[u8]) -> bool
+        ensures { result ≡ meant.value_meets (part_seen self.now).condition value.now }
+    {
+        self.condition.is_met_by(value)
+    }
+
     fn matches(&self, line: &Line) -> bool
         ensures { result ≡ meant.part_matches line.now (part_seen self.now) }
     {
@@ -76,7 +91,7 @@ impl Part {
         ensures { IfOk result (λ copy. copy ≡ self.now) }
     {
         Ok(Part {
-            name: self.name.copy()?,
+            name: self.name.clone()?,
             condition: self.condition.copy()?,
         })
     }
@@ -123,6 +138,13 @@ impl Filter {
         ensures { result ≡ parts_seen parts.items }
     {
         Filter { parts }
+    }
+
+    /// Its parts, of which one has to match.
+    pub fn parts(&self) -> &[Part]
+        ensures { parts_seen result.now ≡ self.now }
+    {
+        self.parts.as_slice()
     }
 
     /// Whether one of its parts matches the line. It takes no memory.

@@ -6,7 +6,7 @@ ghost use Rattle.pps_filter.specs.Refused.{IsOptionRefusal};
 ghost use Rattle.pps_filter.specs.Seen.{condition_seen, part_seen, parts_seen};
 
 use crate::filter::{Condition, Filter, Part};
-use crate::name::name_len;
+use crate::name::{Name, name_len};
 use crate::number::whole_number;
 use crate::pieces::{escapes, first_plain_piece};
 use pps_types::{Bytes, Refusal};
@@ -75,7 +75,10 @@ fn read_part(alloc: Global, text: &[u8]) -> Result<Part, Refusal>
     }
     let condition = read_condition(alloc, rest)?;
     let name = Bytes::from_slice(alloc, name)?;
-    Ok(Part { name, condition })
+    Ok(Part {
+        name: Name::new(name),
+        condition,
+    })
 }
 
 /// Reads the parts of a filter, with a plain `+` between each two, as they stand behind `f=` in an open's options.

@@ -2,6 +2,7 @@ pub mod Refusal
 pub mod Outcome
 pub mod Device
 pub mod Bytes
+pub mod HeldBytes
 pub mod Text
 pub mod ShownValue
 pub mod Filter

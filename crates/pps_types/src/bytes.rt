@@ -1,5 +1,5 @@
 //! Bytes that one value owns. A contract sees them as a list.
-ghost use Rattle.std.specs.Prelude.{◌≡◌, ◌↔◌, IfOk, IsTrue, [], length, nat_eq};
+ghost use Rattle.std.specs.Prelude.{◌≡◌, ◌≤◌, ◌↔◌, IfOk, IfSome, IsSome, IsTrue, [], length, take, nat_eq};
 ghost use Rattle.std.proofs.Common.{rules};
 ghost use Rattle.std.specs.Cmp.Rules.{comparing};
 ghost use lib.Pointwise.{pointwise};
@@ -7,68 +7,137 @@ ghost use lib.Pointwise.{pointwise};
 use std::alloc::{AllocError, Global};
 use std::marker::Model;
 
-/// Bytes that one value owns: a name, a path, a text.
+/// How many bytes stand in place.
+const SHORT_MAX: usize = 23;
+
+/// At most 23 bytes, which stand in place.
+#[derive(Debug, Drop)]
+struct Short {
+    bytes: [u8; SHORT_MAX],
+    len: u8,
+}
+
+impl Model for Short {
+    ghost use Rattle.std.specs.Prelude.{◌≤◌, List, ℕ, take};
+
+    ghost Value = { List ℕ };
+
+    ghost view = { λ a. take a.len a.bytes };
+
+    ghost invariant = { λ a. a.len ≤ 23 };
+}
+
+impl Short {
+    // A copy of these bytes, if they are few enough.
+    fn from_slice(content: &[u8]) -> Option<Short>
+        ensures few { IsSome result ↔ (length content.now ≤ 23) }
+        ensures bytes { IfSome result (λ short. short ≡ content.now) }
+    {
+        if content.len() > SHORT_MAX {
+            return None;
+        }
+        let mut bytes = [0; SHORT_MAX];
+        bytes[..content.len()].copy_from_slice(content);
+        Some(Short {
+            bytes,
+            len: content.len() as u8,
+        })
+    }
+
+    fn as_slice(&self) -> &[u8]
+        ensures { result.now ≡ self.now }
+    {
+        &self.bytes[..usize::from(self.len)]
+    }
+
+    fn copy(&self) -> Short
+        ensures { result ≡ self.now }
+    {
+        Short {
+            bytes: self.bytes,
+            len: self.len,
+        }
+    }
+}
+
+/// Where bytes stand.
+#[derive(Debug, Drop)]
+enum Content {
+    Short(Short),
+    Long(Vec<u8>),
+}
+
+/// Bytes that one value owns: a name, a path, a text. Up to 23 bytes stand in place, and take no memory.
 #[derive(Debug, Drop)]
 pub struct Bytes {
-    content: Vec<u8>,
+    content: Content,
 }
 
 impl Model for Bytes {
     ghost use Rattle.std.specs.Prelude.{List, ℕ};
+    ghost use Rattle.pps_types.specs.HeldBytes.{held_bytes};
 
     ghost Value = { List ℕ };
 
-    ghost view = { λ a. a.content.items };
+    ghost view = { λ a. held_bytes a.content };
 }
 
 impl Bytes {
-    /// These bytes. It takes no memory.
+    /// These bytes. It takes no memory, and gives the vector's back where they stand in place.
     pub fn new(content: Vec<u8>) -> Bytes
         ensures { result ≡ content.items }
     {
+        let content = match Short::from_slice(content.as_slice()) {
+            Some(short) => Content::Short(short),
+            None => Content::Long(content),
+        };
         Bytes { content }
     }
 
-    /// A copy of these bytes.
+    /// A copy of these bytes, in memory of just that size where they do not stand in place.
     pub fn from_slice(alloc: Global, content: &[u8]) -> Result<Bytes, AllocError>
         ensures { IfOk result (λ bytes. bytes ≡ content.now) }
     {
-        let content = content.to_vec(alloc)?;
-        Ok(Bytes::new(content))
-    }
-
-    /// The vector that holds them. It takes no memory.
-    pub fn into_vec(self) -> Vec<u8>
-        ensures { result.items ≡ self }
-    {
-        let Bytes { content } = self;
-        content
+        if let Some(short) = Short::from_slice(content) {
+            return Ok(Bytes {
+                content: Content::Short(short),
+            });
+        }
+        let mut copy = Vec::with_capacity(alloc, content.len())?;
+        copy.extend_from_slice(content)?;
+        Ok(Bytes::new(copy))
     }
 
     pub fn as_slice(&self) -> &[u8]
         ensures { result.now ≡ self.now }
     {
-        self.content.as_slice()
+        match &self.content {
+            Content::Short(short) => short.as_slice(),
+            Content::Long(content) => content.as_slice(),
+        }
     }
 
     /// A copy of its own.
     pub fn copy(&self) -> Result<Bytes, AllocError>
         ensures { IfOk result (λ bytes. bytes ≡ self.now) }
     {
-        let content = self.content.clone()?;
-        Ok(Bytes::new(content))
+        let content = match &self.content {
+            Content::Short(short) => Content::Short(short.copy()),
+            Content::Long(content) => Content::Long(content.clone()?),
+        };
+        Ok(Bytes { content })
     }
 
     pub fn len(&self) -> usize
         ensures { result ≡ length self.now }
     {
-        self.content.len()
+        self.as_slice().len()
     }
 
     pub fn is_empty(&self) -> bool
         ensures { IsTrue result ↔ (self.now ≡ []) }
     {
-        self.content.is_empty()
+        self.as_slice().is_empty()
     }
 }
 

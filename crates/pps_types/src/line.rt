@@ -3,8 +3,6 @@ ghost use Rattle.std.specs.Prelude.{◌≡◌};
 ghost use Rattle.std.specs.Cmp.Lexicographic.{pointwise, lists_equiv, lists_per};
 
 use crate::bytes::Bytes;
-use std::alloc::Global;
-use std::default::MadeWith;
 use std::marker::Model;
 
 /// What a written line says of whether its attribute is kept when the service is saved.
@@ -49,20 +47,6 @@ pub enum WriteLine {
     },
 }
 
-/// A blank line, as short vectors keep one in each place that is free. It takes no memory.
-impl MadeWith<Global> for WriteLine {
-    ghost use Rattle.std.specs.Prelude.{◌≡◌, []};
-    ghost use Rattle.pps_types.specs.declared.line.WriteLine.TheVariants.{Del};
-
-    ghost is_made_with = { λ line. line ≡ Del [] };
-
-    fn made_with(alloc: Global) -> WriteLine {
-        WriteLine::Del {
-            name: Bytes::new(Vec::new(alloc)),
-        }
-    }
-}
-
 /// A line as objects and records hold it. Where `n` is true the attribute is nonpersistent.
 #[derive(Debug, PartialEq, Eq, Drop)]
 pub enum Line {
@@ -98,14 +82,6 @@ impl Lines {
         ensures { result ≡ items.items }
     {
         Lines { items }
-    }
-
-    /// The vector that holds them. It takes no memory.
-    pub fn into_vec(self) -> Vec<Line>
-        ensures { result.items ≡ self }
-    {
-        let Lines { items } = self;
-        items
     }
 
     pub fn as_slice(&self) -> &[Line]

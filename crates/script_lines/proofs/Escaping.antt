@@ -8,6 +8,9 @@ use Rattle.std.proofs.lemmas.Simd.{first_set_mask_l, length-chunk, run_in_chunk_
 use lib.Count.{count_trailing_zeros}
 use lib.Lanes.{chunk, put_chunk, mask_l}
 use Rattle.std.proofs.lemmas.List.Concat.{flat_map-append}
+use Rattle.std.proofs.Common.{◌-◌, replicate}
+use Rattle.std.proofs.lemmas.List.{take-replicate, drop-replicate, length-append, length-replicate}
+use Rattle.std.proofs.Math.Seq.{take-append_seam}
 use Rattle.script_lines.specs.Escapes.{escaped_byte, escaped, is_plain}
 
 escaped-plain : (b : ℕ) → is_plain b ≡ true → escaped_byte b ≡ b ∷ []
@@ -84,3 +87,36 @@ piece-behind out rest all n so_far =
 pub chunks-all : (bs : List ℕ) (n : ℕ) → escaped (take n bs) ++ escaped (drop n bs) ≡ escaped (take (length bs) bs)
 chunks-all bs n =
     sym (flat_map-append escaped_byte (take n bs) (drop n bs)) ∙ ap escaped (take-append-drop n bs) ∙ ap escaped (sym (take_all (length bs) bs (omega arith)))
+
+-- ---- less than a chunk
+
+spaces-shown : (n : ℕ) → escaped (replicate n 32) ≡ replicate n 32
+spaces-shown zero = refl
+spaces-shown (suc n) = ap (λ more. 32 ∷ more) (spaces-shown n)
+
+-- all bytes, and some of the spaces behind them
+with-spaces : (bs : List ℕ) (taken spaces : ℕ) → length bs ≤ taken → taken ≤ length bs + spaces
+    → escaped (take taken (bs ++ replicate spaces 32)) ≡ escaped bs ++ replicate (taken - length bs) 32
+with-spaces bs taken spaces all some =
+    let extra = taken - length bs in
+    let is : length bs + extra ≡ taken = omega (arith, all) in
+    ap (λ n. escaped (take n (bs ++ replicate spaces 32))) (sym is) ∙ ap escaped (take-append-add bs (replicate spaces 32) extra ∙ ap (λ more. bs ++ more) (take-replicate extra spaces 32 (omega (arith, all, some))))
+    ∙ flat_map-append escaped_byte bs (replicate extra 32) ∙ ap (λ more. escaped bs ++ more) (spaces-shown extra)
+
+-- bytes over spaces
+pub padded-is : (bs over : List ℕ) (n : ℕ) → over ≡ bs → length bs ≤ n → over ++ drop (length bs) (replicate n 32) ≡ bs ++ replicate (n - length bs) 32
+padded-is bs over n is few = rw (is, drop-replicate {X = ℕ} (length bs) n 32) refl
+
+-- what stands before the spaces that were written too much
+pub without-spaces : (front bs text : List ℕ) (end taken spaces : ℕ) → end ≤ length text → length bs ≤ taken → taken ≤ length bs + spaces
+    → take end text ≡ front ++ escaped (take taken (bs ++ replicate spaces 32))
+    → (taken - length bs ≤ end) × (take (end - (taken - length bs)) text ≡ front ++ escaped bs)
+without-spaces front bs text end taken spaces within all some is =
+    let extra = taken - length bs in
+    let shown = front ++ escaped bs in
+    let text_is : take end text ≡ shown ++ replicate extra 32 =
+    is ∙ ap (λ more. front ++ more) (with-spaces bs taken spaces all some) ∙ sym (append_assoc front (escaped bs) (replicate extra 32)) in
+    let long : end ≡ length shown + extra =
+    sym (length-take-le end text within) ∙ ap length text_is ∙ length-append shown (replicate extra 32) ∙ ap (λ n. length shown + n) (length-replicate extra 32) in
+    let before : end - extra ≡ length shown = omega (arith, long) in
+    (omega (arith, long), sym (take-take (end - extra) end text (omega arith)) ∙ ap (take (end - extra)) text_is ∙ ap (λ n. take n (shown ++ replicate extra 32)) before ∙ take-append_seam shown (replicate extra 32))

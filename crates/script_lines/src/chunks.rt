@@ -15,8 +15,8 @@ pub(crate) const ROOM: usize = 256;
 // The most bytes that a chunk's plain bytes and the byte behind them are shown as.
 const STEP_MAX: usize = 20;
 
-// The most bytes that less than a chunk is shown as.
-const FEW_MAX: usize = 60;
+// The most bytes that are written for less than a chunk, and the spaces behind it.
+const FEW_MAX: usize = 76;
 
 // A bit for each byte that is below the space.
 #[inline(always)]
@@ -143,6 +143,7 @@ fn write_chunk(text: &mut [u8], at: usize, bytes: &[u8]) -> (usize, usize)
     ensures some { 0 < result.0 }
     ensures taken { result.0 ≤ length bytes.now }
     ensures within { result.1 ≤ at + 20 }
+    ensures short { result.1 ≤ at + 4 * result.0 }
     ensures text { take result.1 text.new ≡ take at text.old ++ escapes.escaped (take result.0 bytes.now) }
 {
     let plain = plain_front(bytes);
@@ -170,17 +171,24 @@ fn write_chunks(text: &mut [u8; ROOM], bytes: &[u8]) -> (usize, usize)
     (taken, end)
 }
 
-// Puts bytes as answers show them behind what there is, one after the other, and gives the end.
+// Puts less than a chunk of bytes as answers show them behind what there is, and gives the end. Spaces behind them, which
+// are shown as they are, make chunks of them; what is written for these is left out.
 fn put_few(text: &mut [u8], at: usize, bytes: &[u8]) -> usize
-    requires { at + 4 * length bytes.now ≤ length text.old }
-    ensures within { result ≤ at + 4 * length bytes.now }
+    requires few { length bytes.now < 16 }
+    requires room { at + 76 ≤ length text.old }
+    ensures within { result ≤ at + 76 }
     ensures text { take result text.new ≡ take at text.old ++ escapes.escaped bytes.now }
 {
+    let mut padded = [b' '; 2 * CHUNK];
+    padded[..bytes.len()].copy_from_slice(bytes);
+    let mut taken = 0;
     let mut end = at;
-    for byte in bytes {
-        end = put_shown(text, end, *byte);
+    'few: while taken < bytes.len() {
+        let (more, next) = write_chunk(text, end, &padded[taken..]);
+        taken += more;
+        end = next;
     }
-    end
+    end - (taken - bytes.len())
 }
 
 /// Writes bytes at the front as answers show them. Gives how many were taken, which are all of them where there is room,

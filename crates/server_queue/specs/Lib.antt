@@ -5,3 +5,4 @@ pub mod Queued
 pub mod Reads
 pub mod Senders
 pub mod Tally
+pub mod Printed

@@ -1,6 +1,8 @@
 //! Records that queues share.
-ghost use Rattle.std.specs.Prelude.{◌≡◌, ◌↔◌, IsTrue, IfOk};
+ghost use Rattle.std.specs.Prelude.{◌≡◌, ◌↔◌, IsTrue, IfOk, option_map};
+ghost use Rattle.server_queue.specs.Printed.{printed_text};
 
+use crate::printed::printed;
 use crate::same::{same_name, same_record};
 use crate::sender::{Sender, said_by};
 use pps_types::{Bytes, Record};
@@ -14,6 +16,9 @@ struct Told {
     directory: u64,
     name: Bytes,
     made: Record,
+    /// Its lines as they are printed for all handles of its object that have no filter.
+    text: Option<Bytes>,
+    ghost printed: { text ≡ printed_text name made.kind },
 }
 
 /// A record in the history, with the directory and the name of its object. Queues share it.
@@ -35,7 +40,7 @@ impl Entry {
     ghost use Rattle.server_queue.specs.Senders.{client_messages};
 
     /// This record, so that it can be shared, with the number of the directory that its object is in, and the object's
-    /// name.
+    /// name. Lines of an object are printed, once for all handles.
     ///
     /// AllocError comes only where memory is wanting.
     pub fn new(
@@ -46,12 +51,14 @@ impl Entry {
     ) -> Result<Entry, AllocError>
         ensures { IfOk result (λ entry. entry ≡ record { directory = directory; name = name; record_of = made }) }
     {
+        let text = printed(alloc, name.as_slice(), &made.kind)?;
         let told = Arc::new(
             alloc,
             Told {
                 directory,
                 name,
                 made,
+                text,
             },
         )?;
         Ok(Entry { told })
@@ -76,6 +83,16 @@ impl Entry {
         ensures { result.now ≡ self.now.record_of }
     {
         &self.told.made
+    }
+
+    /// Its lines, where it has some of its object, as they are printed for a handle that has no filter.
+    pub fn text(&self) -> Option<&[u8]>
+        ensures { option_map (λ t. t.now) result ≡ printed_text self.now.name self.now.record_of.kind }
+    {
+        match &self.told.text {
+            None => None,
+            Some(text) => Some(text.as_slice()),
+        }
     }
 
     /// How many messages of clients it is: one, or none. A queue counts these by client.

@@ -6,6 +6,7 @@ mod counts;
 mod entry;
 mod fitting;
 mod plan;
+mod printed;
 mod queue;
 mod same;
 mod sender;

@@ -1,4 +1,4 @@
-use Rattle.std.specs.Prelude.{◌≡◌, true, false, Some, None}
+use Rattle.std.specs.Prelude.{true, false}
 use Rattle.std.proofs.Common.{sym, ◌∙◌, ap, inl}
 use Rattle.std.proofs.lemmas.Result.{err_from_is_err_and}
 use Rattle.pps_types.specs.Checks.{first_refusal, mkdir_checks}

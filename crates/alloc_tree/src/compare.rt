@@ -1,0 +1,49 @@
+//! Whether names are the same.
+ghost use Rattle.std.specs.Prelude.{◌≡◌, ◌↔◌, ◌+◌, ◌≤◌, IsTrue, length};
+ghost use Rattle.alloc_tree.specs.Entries.{four_bytes, AreFourBytes};
+
+/// Four bytes of a name, the first counting most.
+#[inline(always)]
+fn four_at(name: &[u8], at: usize) -> u32
+    requires { at + 4 ≤ length name.now }
+    ensures value { result ≡ four_bytes name.now at }
+    ensures bytes { AreFourBytes name.now at }
+{
+    let high = u32::from(name[at]) * 256 + u32::from(name[at + 1]);
+    let low = u32::from(name[at + 2]) * 256 + u32::from(name[at + 3]);
+    high * 65_536 + low
+}
+
+/// Whether two names of four to eight bytes are the same.
+#[inline(always)]
+fn same_ends(one: &[u8], other: &[u8]) -> bool
+    requires length { length one.now ≡ length other.now }
+    requires least { 4 ≤ length one.now }
+    requires most { length one.now ≤ 8 }
+    ensures { IsTrue result ↔ (one.now ≡ other.now) }
+{
+    let last = one.len() - 4;
+    four_at(one, 0) == four_at(other, 0) && four_at(one, last) == four_at(other, last)
+}
+
+/// Whether two names are the same, at any length.
+#[inline(never)]
+fn same_bytes(one: &[u8], other: &[u8]) -> bool
+    ensures { IsTrue result ↔ (one.now ≡ other.now) }
+{
+    one == other
+}
+
+/// Whether two names are the same.
+#[inline(always)]
+pub(crate) fn same_name(one: &[u8], other: &[u8]) -> bool
+    ensures { IsTrue result ↔ (one.now ≡ other.now) }
+{
+    if one.len() != other.len() {
+        return false;
+    }
+    if one.len() >= 4 && one.len() <= 8 {
+        return same_ends(one, other);
+    }
+    same_bytes(one, other)
+}

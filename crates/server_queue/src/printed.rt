@@ -1,0 +1,41 @@
+//! Lines of an object as they are printed for all handles that have no filter.
+ghost use Rattle.std.specs.Prelude.{◌≡◌, Some, IfOk};
+ghost use Rattle.pps_types.specs.Reading as reading;
+ghost use Rattle.server_queue.specs.Printed.{printed_text};
+
+use pps_block::Block;
+use pps_types::{Bytes, Handle, HandleKind, Kind};
+use std::alloc::{AllocError, Global};
+
+// The printing of a block for an object of that name. The memory for it is taken at once.
+fn print(alloc: Global, name: &[u8], block: &Block<'_>) -> Result<Bytes, AllocError>
+    ensures { IfOk result (λ text. text ≡ reading.print_shown name.now (Some block.now)) }
+{
+    let Some(len) = block.print_len(name) else {
+        return Err(AllocError);
+    };
+    let mut text = Vec::new(alloc);
+    text.reserve(len)?;
+    block.push(&mut text, name);
+    Ok(Bytes::new(text))
+}
+
+/// The printing of lines of the object of that name, where there are any. No other record has one.
+///
+/// AllocError comes only where memory is wanting, and only where there are lines.
+pub(crate) fn printed(alloc: Global, name: &[u8], kind: &Kind) -> Result<Option<Bytes>, AllocError>
+    ensures { IfOk result (λ text. text ≡ printed_text name.now kind.now) }
+{
+    if !matches!(kind, Kind::Change(_)) {
+        return Ok(None);
+    }
+    match Block::of(
+        HandleKind::Object { delta: true },
+        Handle::new(0),
+        None,
+        kind,
+    ) {
+        None => Ok(None),
+        Some(block) => Ok(Some(print(alloc, name, &block)?)),
+    }
+}
