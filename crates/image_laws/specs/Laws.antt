@@ -7,6 +7,7 @@ use Rattle.pps_types.specs.declared.event.Event.{Event}
 use Rattle.pps_types.specs.Bytes.{after_prefix, is_empty, pieces}
 use Rattle.pps_types.specs.Text.{print_lines}
 use Rattle.pps_types.specs.Names.{Path, path_cmp}
+use Rattle.pps_types.specs.OpenText.{are_names}
 use Rattle.pps_types.specs.Content.{Content}
 use Rattle.pps_types.specs.WellFormed.{IsContent}
 use Rattle.pps_types.specs.Plan.{step_seen}
@@ -17,6 +18,7 @@ use Rattle.pps_types.specs.Restore.{restore_directory, restore_object, restore_l
 use Rattle.content_bounds.specs.Bounds.{IsBound}
 use Rattle.image_laws.specs.Images.{is_plain, are_plain, joined, read_all, is_saved_line, is_new, IsSavedPath, HasText, IsPrintable}
 use Rattle.image_laws.specs.Savable.{CanBeSaved}
+use Rattle.image_laws.specs.Unused.{IsUnused}
 
 -- the first line is that of version 2
 abbrev pub is_newer : List ℕ → Bool
@@ -98,3 +100,9 @@ pub record CallsDecide : Type 0 where
   pub line : (i : Image) → IsImage i → IsPrintable i → (path : Path) (lines : List SavedLine) (l : SavedLine) → may_follow i.entries (SavedObject path lines) ≡ true → HasText 65536 (SavedObject path lines) → is_saved_line l ≡ true → length lines < 1024
       → (is_new lines l && nat_le (length (print_lines (map as_line (lines ++ l ∷ [])))) 65536)
       ≡ is_ok (restore_line (shown (started (record { default_limit = i.default_limit; entries = i.entries ++ SavedObject path lines ∷ [] }))) path (as_line l))
+
+-- What the calls leave that restore entries, of a service of which nobody has a handle, is such a service.
+pub record RestoringStays : Type 0 where
+  pub directory : (c : Content) → IsUnused c → (path : Path) → are_names path ≡ true → (d : Content) → restore_directory c path ≡ Ok d → IsUnused d
+  pub object : (c : Content) → IsUnused c → (path : Path) → are_names path ≡ true → (d : Content) → restore_object c path ≡ Ok d → IsUnused d
+  pub line : (c : Content) → IsUnused c → (path : Path) → (l : SavedLine) → (d : Content) → restore_line c path (as_line l) ≡ Ok d → IsUnused d

@@ -1,3 +1,4 @@
 pub mod Images
 pub mod Savable
+pub mod Unused
 pub mod Laws

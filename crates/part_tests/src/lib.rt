@@ -17,6 +17,8 @@ mod devices;
 #[cfg(test)]
 mod filters;
 #[cfg(test)]
+mod images;
+#[cfg(test)]
 mod objects;
 #[cfg(test)]
 mod opens;

@@ -1,0 +1,182 @@
+-- What the calls leave that restore entries, of a service of which nobody has a handle.
+use Rattle.std.proofs.Common.{◌≡◌, ℕ, ◌≤◌, Bool, true, false, cond, ◌&&◌, eqb, List, [], ◌∷◌, ◌++◌, length, map, Option, Some, None, Result, Ok, Err, refl, sym, ap, subst, ◌∙◌, length-append, arith}
+use Rattle.std.specs.Prelude.{is_some, unwrap_or, option_map, nat_le, nat_lt}
+use Rattle.std.specs.Option.{option_map_or}
+use Rattle.std.specs.List.{list_any, AllByRecursion}
+use Rattle.std.proofs.lemmas.Bool.Decides.{nat_tests}
+use Rattle.pps_types.specs.declared.found.Found.{Found}
+use Rattle.pps_types.specs.declared.record.Kind.TheVariants.{Change}
+use Rattle.pps_types.specs.declared.refusal.Refusal.{Refusal}
+use Rattle.pps_types.specs.Bytes.{same, ◌>>=◌}
+use Rattle.pps_types.specs.Text.{print_line, print_lines}
+use Rattle.pps_types.specs.Names.{Path, parent, last_name, place, is_directory, find_at, new_refusal, refusal_of}
+use Rattle.pps_types.specs.OpenText.{are_names}
+use Rattle.pps_types.specs.History.{Attribute, line_of, text_length, put, apply_line}
+use Rattle.pps_types.specs.Reading.{Open}
+use Rattle.pps_types.specs.Rests.{Seen}
+use Rattle.pps_types.specs.Content.{Directory, Known, Content, at, directory_at, parent_number, object_at, members, subdirectories}
+use Rattle.pps_types.specs.Checks.{Check, Refuse, first_refusal, refused, parsed, object_checks, objects_beside, limit_checks, mkdir_checks}
+use Rattle.pps_types.specs.Plan.{Move, Creates, Happens, MakesDirectory, creation, entry_of, offer, apply_seen, apply_all_seen, passes_last_number}
+use Rattle.pps_types.specs.Image.{SavedLine, as_line, restored_object}
+use Rattle.pps_types.specs.Restore.{decided, with_numbers, restored_by, restore_directory, restore_object, restore_line, name_of, attributes_at, line_moves, line_checks}
+use Rattle.pps_types.proofs.Fits.{Fits, IsFree, Tree}
+use Rattle.pps_types.proofs.Holders.{basis-kept}
+use Rattle.pps_types.proofs.Lists.{all-weaken}
+use Rattle.pps_types.proofs.Parked.{AreIdle}
+use Rattle.pps_types.proofs.Passes.{all-pass, passes-both, or-false, free-place, object-found}
+use Rattle.pps_types.proofs.Rising.{only-one}
+use Rattle.pps_types.proofs.Servers.{Served, served-created, served-stays}
+use Rattle.pps_types.proofs.Trees.{same_path-is}
+use Rattle.pps_types.proofs.WellSteps.{basis-in, content-out}
+use Rattle.content_bounds.specs.Bounds.{crowd}
+use Rattle.content_bounds.specs.Fit.{IsFit}
+use Rattle.content_bounds.proofs.Effects.{AllStay, found-fit}
+use Rattle.content_bounds.proofs.Moves.{keeps-bound}
+use Rattle.content_bounds.proofs.Opens.{members-crowd}
+use Rattle.content_bounds.proofs.Paths.{last-short}
+use Rattle.image_laws.specs.Unused.{IsUnused}
+use Rattle.image_laws.proofs.Paths.{names-of}
+
+-- ---- an accepted call
+
+-- no check refused it, and its moves were made
+pub record IsAccepted (c : Content) (moves : List Move) (checks : List Check) (d : Content) : Type 0 where
+  pub passes : first_refusal checks ≡ None
+  pub is : apply_all_seen moves c ≡ d
+
+accepted : (c : Content) (moves : List Move) (checks : List Check) (d : Content) → restored_by c moves checks ≡ Ok d → IsAccepted c moves checks d
+accepted c moves checks d h = by (first_refusal (with_numbers c moves checks)) refl h
+  where
+    by : (r : Option Refusal) → first_refusal (with_numbers c moves checks) ≡ r → decided c moves r ≡ Ok d → IsAccepted c moves checks d
+    by None none h = record { passes = (passes-both checks (Refuse (passes_last_number (apply_all_seen moves c)) Refusal.TableFull ∷ []) none).0; is = cc }
+    by (Some r) e h = absurd cc
+
+-- ---- one move
+
+no-handles : (e : Rattle.pps_types.specs.History.Entry) (hs : List (Open Seen)) → hs ≡ [] → map (offer e) hs ≡ []
+no-handles e hs none = ap (map (offer e)) none
+
+idle-unused : (d : Content) → d.handles ≡ [] → AreIdle d
+idle-unused d none = subst (AllByRecursion Rattle.pps_types.proofs.Parked.IsIdle) (sym none) tt
+
+-- a move that fits leaves a service that nobody has a handle of
+moved : (c : Content) → IsUnused c → (x : Move) → Fits c x → IsFit c x → Served (apply_seen x c) → (apply_seen x c).handles ≡ [] → IsUnused (apply_seen x c)
+moved c w x fits fit served none = record {
+  formed = content-out (apply_seen x c) (basis-kept x c (basis-in c w.formed) fits) served (idle-unused (apply_seen x c) none);
+  bound = keeps-bound c x w.bound fit;
+  handles = none;
+}
+
+served-in : (c : Content) → IsUnused c → Served c
+served-in c w = (w.formed.served.servers, w.formed.served.users)
+
+-- ---- a free path
+
+new-free : (c : Content) → Tree c → (path : Path) → new_refusal (at c) path ≡ None → IsFree c path
+new-free c t path none = go (place (at c) path) refl none
+  where
+    go : (r : Result (Option Found) Refusal) → place (at c) path ≡ r → refusal_of (r >>= (λ found. cond (is_some found) (Err Refusal.Exists) (Ok found))) ≡ None → IsFree c path
+    go (Err r) e p = absurd (let h = p in cc)
+    go (Ok (Some found)) e p = absurd (let h = p in cc)
+    go (Ok None) e p = free-place c t path e
+
+refused-none : (o : Option Refusal) → first_refusal (refused o) ≡ None → o ≡ None
+refused-none None h = refl
+refused-none (Some r) h = absurd (let e = h in cc)
+
+last-few : (path : Path) → are_names path ≡ true → length (last_name path) ≤ 255
+last-few path names = last-short path (names-of path names)
+
+-- ---- a directory
+
+pub directory-stays : (c : Content) → IsUnused c → (path : Path) → are_names path ≡ true → (d : Content) → restore_directory c path ≡ Ok d → IsUnused d
+directory-stays c w path names d ok =
+    let call = accepted c (MakesDirectory path ∷ []) (mkdir_checks c path) d ok in
+    let room = Refuse (nat_le 256 (length (subdirectories c (parent path)))) Refusal.TableFull ∷ Refuse (nat_lt 65535 (length c.directories)) Refusal.TableFull ∷ [] in
+    let both = passes-both (refused (new_refusal (at c) path)) room call.passes in
+    let few : nat_le 256 (length (subdirectories c (parent path))) ≡ false = (all-pass room both.1).0 in
+    let fit : IsFit c (MakesDirectory path) = (last-few path names, (λ q is. rw (sym (same_path-is (parent path) q is)) (grind (arith, nat_tests, few)))) in
+    subst IsUnused call.is (moved c w (MakesDirectory path) (new-free c (basis-in c w.formed).tree path (refused-none (new_refusal (at c) path) both.0)) fit (served-in c w) w.handles)
+
+-- ---- an object
+
+numbered : (c : Content) (path : Path) → is_some (directory_at c (parent path)) ≡ true → parent_number c path ≡ Some (unwrap_or (parent_number c path) 0)
+numbered c path above = by (directory_at c (parent path)) above
+  where
+    by : (o : Option Directory) → is_some o ≡ true → option_map (λ (d : Directory). d.number) o ≡ Some (unwrap_or (option_map (λ (d : Directory). d.number) o) 0)
+    by None e = absurd (let h = e in cc)
+    by (Some d) e = refl
+
+beside-crowd : (c : Content) (path : Path) (k : ℕ) → parent_number c path ≡ Some k → objects_beside c path ≡ crowd c.objects k
+beside-crowd c path k is = ap (λ o. option_map_or (λ d. length (members c d)) o 0) is ∙ members-crowd c k
+
+pub object-stays : (c : Content) → IsUnused c → (path : Path) → are_names path ≡ true → (d : Content) → restore_object c path ≡ Ok d → IsUnused d
+object-stays c w path names d ok =
+    let o = restored_object c path in
+    let call = accepted c (Creates o ∷ []) (refused (new_refusal (at c) path) ++ object_checks c path) d ok in
+    let both = passes-both (refused (new_refusal (at c) path)) (object_checks c path) call.passes in
+    let few : nat_le 256 (objects_beside c path) ≡ false = (all-pass (object_checks c path) both.1).0 in
+    let b = basis-in c w.formed in
+    let free = new-free c b.tree path (refused-none (new_refusal (at c) path) both.0) in
+    let number = numbered c path free.above in
+    let beside = beside-crowd c path o.directory number in
+    let fit : IsFit c (Creates o) = (last-few path names, grind (arith, nat_tests, few, beside)) in
+    let fits : Fits c (Creates o) = (refl, record { path = path; at_free = free; number = number; name = refl }) in
+    subst IsUnused call.is (moved c w (Creates o) fits fit (served-created c o refl refl b.held (served-in c w)) (no-handles (creation o) c.handles w.handles))
+
+-- ---- a line
+
+-- an attribute is within the text that it is put into
+within : (attributes : List Attribute) (a : Attribute) → length (print_line (line_of a)) ≤ text_length (put attributes a)
+within [] a = omega (arith, length-append (print_line (line_of a)) [])
+within (x ∷ xs) a = by (same a.name x.name) (within xs a)
+  where
+    by : (b : Bool) → length (print_line (line_of a)) ≤ text_length (put xs a) → length (print_line (line_of a)) ≤ text_length (cond b (a ∷ xs) (x ∷ put xs a))
+    by true rest = omega (arith, length-append (print_line (line_of a)) (print_lines (map line_of xs)))
+    by false rest = omega (arith, rest, length-append (print_line (line_of x)) (print_lines (map line_of (put xs a))))
+
+abbrev attribute_of : SavedLine → Attribute
+attribute_of l = record { name = l.name; enc = l.enc; value = l.value; n = false }
+
+limited : (attributes : List Attribute) → first_refusal (limit_checks attributes) ≡ None → text_length attributes ≤ 65536
+limited attributes p =
+    let long = or-false (nat_lt 1024 (length attributes)) (nat_lt 65536 (text_length attributes)) (all-pass (limit_checks attributes) p).0 in
+    grind (arith, nat_tests, long.1)
+
+-- the limit was asked of the object at the path
+limit-passes : (c : Content) (path : Path) (l : SavedLine) (o : Known) → object_at c path ≡ Some o → first_refusal (line_checks c path (as_line l)) ≡ None → text_length (put o.attributes (attribute_of l)) ≤ 65536
+limit-passes c path l o found passes = by (find_at (at c) path) passes
+  where
+    held : attributes_at c path ≡ o.attributes
+    held = ap (λ x. option_map_or (λ (o : Known). o.attributes) x []) found
+
+    by : (r : Result Found Refusal) → first_refusal (parsed r (λ found. Refuse (is_directory found) Refusal.IsDirectory ∷ Refuse (list_any (λ a. same a.name (name_of (as_line l))) (attributes_at c path)) Refusal.Exists ∷ limit_checks (apply_line (attributes_at c path) (as_line l)))) ≡ None
+        → text_length (put o.attributes (attribute_of l)) ≤ 65536
+    by (Err r) h = absurd (let e = h in cc)
+    by (Ok found) h =
+        let front = Refuse (is_directory found) Refusal.IsDirectory ∷ Refuse (list_any (λ a. same a.name (name_of (as_line l))) (attributes_at c path)) Refusal.Exists ∷ [] in
+        rw (sym held) (limited (apply_line (attributes_at c path) (as_line l)) (passes-both front (limit_checks (apply_line (attributes_at c path) (as_line l))) h).1)
+
+line-fits : (c : Content) → IsUnused c → (path : Path) (l : SavedLine) (o : Known) → object_at c path ≡ Some o → text_length (put o.attributes (attribute_of l)) ≤ 65536
+    → IsFit c (Happens (entry_of o.object (Change (as_line l ∷ [])) None))
+line-fits c w path l o found few =
+    let place = object-found c path o found in
+    let test : Known → Bool = λ o. (eqb o.object.directory place.0) && same o.object.name (last_name path) in
+    let one = length-append (print_line (as_line l)) [] in
+    let le = within o.attributes (attribute_of l) in
+    let stay : AllStay c o.object.number (Change (as_line l ∷ [])) =
+    all-weaken {P = λ (p : Known). p.object.number ≡ o.object.number → p ≡ o} {Q = λ (p : Known). p.object.number ≡ o.object.number → text_length (put p.attributes (attribute_of l)) ≤ 65536}
+    (λ p only own. rw (only own) few) c.objects (only-one (λ (o : Known). o.object.number) test 0 c.next_object c.objects w.formed.order.objects_rise o place.2) in
+    found-fit c o test (Change (as_line l ∷ [])) None w.bound place.2 (omega (arith, le, few, one)) (omega arith) stay
+
+pub line-stays : (c : Content) → IsUnused c → (path : Path) (l : SavedLine) (d : Content) → restore_line c path (as_line l) ≡ Ok d → IsUnused d
+line-stays c w path l d ok =
+    let call = accepted c (line_moves c path (as_line l)) (line_checks c path (as_line l)) d ok in
+    by (object_at c path) refl call.passes call.is
+  where
+    by : (o : Option Known) → object_at c path ≡ o → first_refusal (line_checks c path (as_line l)) ≡ None
+        → apply_all_seen (option_map_or (λ (o : Known). Happens (entry_of o.object (Change (as_line l ∷ [])) None) ∷ []) o []) c ≡ d → IsUnused d
+    by None found passes is = subst IsUnused is w
+    by (Some o) found passes is =
+        let e = entry_of o.object (Change (as_line l ∷ [])) None in
+        subst IsUnused is (moved c w (Happens e) tt (line-fits c w path l o found (limit-passes c path l o found passes)) (served-stays c e refl (served-in c w)) (no-handles e c.handles w.handles))

@@ -1,0 +1,11 @@
+-- A service of which nobody has a handle. Own.
+use Rattle.std.specs.Prelude.{◌≡◌, []}
+use Rattle.pps_types.specs.Content.{Content}
+use Rattle.pps_types.specs.WellFormed.{IsContent}
+use Rattle.content_bounds.specs.Bounds.{IsBound}
+
+-- what stands is well formed and within its bounds
+pub record IsUnused (c : Content) : Type 0 where
+  pub formed : IsContent c
+  pub bound : IsBound c
+  pub handles : c.handles ≡ []
