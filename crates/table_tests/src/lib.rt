@@ -9,6 +9,8 @@ mod names;
 #[cfg(test)]
 mod opens;
 #[cfg(test)]
+mod restores;
+#[cfg(test)]
 mod settlings;
 #[cfg(test)]
 mod tables;
