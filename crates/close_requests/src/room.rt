@@ -20,15 +20,6 @@ pub fn numbers_are_within(tables: &Tables)
     let _next_directory = tables.names().next_directory();
 }
 
-// Whether so many more records would pass the last number.
-fn passes_last_number(tables: &Tables, records: usize) -> bool
-    ensures { result ≡ last_number_passed (content_in tables.now) records 0 0 }
-{
-    let _next_object = tables.names().next_object();
-    let _next_directory = tables.names().next_directory();
-    (records as u64) > u64::MAX - tables.records()
-}
-
 /// Takes the memory for what an event begins with, where no record changes attributes by lines. What stands stays.
 ///
 /// It is TableFull where the records would pass the last number, and else OutOfMemory is the only error.
@@ -48,7 +39,7 @@ pub fn begin_ready(
 {
     tables.handles().handles_are_placed();
     let entries = entries_in(alloc, beginning)?;
-    if passes_last_number(tables, entries.len()) {
+    if tables.passes_last_number(entries.len() as u64, 0, 0) {
         return Err(Refusal::TableFull);
     }
     tables.records_ready(&entries)?;

@@ -13,4 +13,4 @@ pub use laws::{members_are_listed, moves_are_told, questions_are_told};
 pub use members::Objects;
 pub use named::{NamedDirectory, NamedObject};
 pub use names::Names;
-pub use paths::parent;
+pub use paths::{last_name, parent};

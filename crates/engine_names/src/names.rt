@@ -11,7 +11,8 @@ ghost use Rattle.pps_types.specs.declared.record.Kind.TheVariants.{Change, Trunc
 ghost use Rattle.pps_types.specs.declared.found.Found.TheVariants.{Directory as FoundDirectory};
 ghost use Rattle.pps_types.specs.declared.refusal.Refusal.TheVariants.{OutOfMemory};
 ghost use Rattle.number_table.specs.Numbered.{without_first, has_number, IsCloneEntry};
-ghost use Rattle.std.specs.List.{AllZip, filter_map};
+ghost use Rattle.std.specs.List.{AllByRecursion, AllZip, filter_map};
+ghost use Rattle.engine_names.specs.Agrees.{HasPath};
 ghost use Rattle.engine_names.specs.Listed.{objects_at, members_at, IsBare};
 ghost use Rattle.engine_names.specs.Standing.{standing_of, content_of, after, first_standing, happened, known_of, placed_at, lines_ready, AreSame, IsCopy, IsReadyToCreate, IsReadyToMake};
 
@@ -19,7 +20,7 @@ use crate::compared::{same_directories, same_objects};
 use crate::members::{Objects, object_numbers};
 use crate::named::{NamedDirectory, NamedObject};
 use alloc_tree::{Member, Tree};
-use number_table::Table;
+use number_table::{Iter, Table};
 use object_state::Object;
 use pps_types::{Bytes, DirId, Found, Handle, Line, ObjId, Refusal};
 use std::alloc::{AllocError, Global};
@@ -393,6 +394,23 @@ impl Names {
         ensures { result ≡ length (subdirectories (content_of (standing_of self.now)) path.now) }
     {
         self.tree.directories_in(path)
+    }
+
+    /// The alive objects in rising number, as the names lend them. It takes no memory.
+    ///
+    /// Each has the path of its directory with its name behind it.
+    pub fn objects(&self) -> Iter<'_, NamedObject>
+        ensures known { map known_of result ≡ (standing_of self.now).objects }
+        ensures paths { AllByRecursion (HasPath (content_of (standing_of self.now))) result }
+    {
+        self.objects.iter()
+    }
+
+    /// The directories in rising number, with the root, as the names lend them. It takes no memory.
+    pub fn directories(&self) -> Iter<'_, NamedDirectory>
+        ensures { result ≡ (standing_of self.now).directories }
+    {
+        self.directories.iter()
     }
 
     /// How many objects are alive. It is kept, so it costs nothing.

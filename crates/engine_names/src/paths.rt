@@ -13,3 +13,13 @@ pub fn parent(path: &[Bytes]) -> &[Bytes]
         Some((_, above)) => above,
     }
 }
+
+/// A path's last name. The root's is empty.
+pub fn last_name(path: &[Bytes]) -> &[u8]
+    ensures { result.now ≡ names.last_name path.now }
+{
+    match path.split_last() {
+        None => &[],
+        Some((last, _)) => last.as_slice(),
+    }
+}

@@ -1,6 +1,5 @@
 -- What an event begins with: that what the rest of it wants is still there.
-use Rattle.std.specs.Prelude.{◌≡◌, ◌+◌, ◌<◌, ◌≤◌, ◌^◌, ◌==◌, ◌&&◌, ◌⊎◌, ℕ, List, [], ◌∷◌, ◌++◌, Bool, true, false, Option, Some, None, is_some, length, map, filter, sum_by, option_map, IfSome, not}
-use Rattle.std.specs.List.{AllByRecursion, filter_map, cons_option, list_all}
+use Rattle.std.specs.Prelude.{◌≡◌, ◌+◌, ◌<◌, ◌≤◌, ◌⊎◌, ℕ, List, [], ◌∷◌, Bool, true, false, Option, Some, None, length, map, filter, sum_by, IfSome}
 use Rattle.std.proofs.Common.{refl, sym, ◌∙◌, ap, subst, cond, inl, inr, arith, le_refl, le_trans}
 use Rattle.std.proofs.lemmas.List.{length-map}
 use Rattle.std.proofs.lemmas.List.Sums.{sum_by-cons}
@@ -9,14 +8,14 @@ use Rattle.pps_types.specs.declared.found.Found.TheVariants.{Object as FoundObje
 use Rattle.pps_types.specs.History.{Entry}
 use Rattle.pps_types.specs.Reading.{Open, visible}
 use Rattle.pps_types.specs.Rests.{Seen}
-use Rattle.pps_types.specs.Plan.{offer, without_first, apply_all_seen}
+use Rattle.pps_types.specs.Plan.{offer, without_first}
 use Rattle.pps_types.proofs.Effects.{filter-map}
-use Rattle.engine_servers.specs.Standing.{Spare, HasRoom as HasSpare, HaveRoom, messages_in}
+use Rattle.engine_servers.specs.Standing.{Spare, HaveRoom}
 use Rattle.server_queue.specs.Senders.{client_messages}
 use Rattle.engine_seats.specs.declared.seats.Seats.{Seats}
 use Rattle.engine_seats.specs.declared.seats.Seats.TheVariants.{Readers, Service}
 use Rattle.engine_seats.specs.Seated.{IsReady, handles_of}
-use Rattle.open_handles.specs.Whole.{Whole, Site, HasRoom, HasRoomAt, IsShared, IsSharedAt, is_on, is_told, handles_in, handles_at, seats_at, site_at}
+use Rattle.open_handles.specs.Whole.{Whole, Site, HasRoom, IsShared, is_on, is_told, handles_at, site_at}
 use Rattle.engine_tables.specs.Tied.{KeepsOrDrops}
 
 -- ---- shares

@@ -1,6 +1,6 @@
 -- Handles, connections and directories that come and go.
 use Rattle.std.specs.Prelude.{◌≡◌, ◌+◌, ◌<◌, ◌≤◌, ◌==◌, ◌++◌, ℕ, List, [], ◌∷◌, Bool, true, false, Option, Some, None, is_some, map, filter, option_map}
-use Rattle.std.specs.List.{AllByRecursion, list_all}
+use Rattle.std.specs.List.{AllByRecursion}
 use Rattle.std.specs.Option.{option_map_or}
 use Rattle.std.proofs.Common.{refl, sym, ◌∙◌, ap, subst, cond, arith}
 use Rattle.std.proofs.lemmas.Bool.{eqb-true, eq-eqb}
@@ -11,8 +11,8 @@ use Rattle.pps_types.specs.Outbox.{Outbox, empty_outbox, put_rising}
 use Rattle.pps_types.specs.Reading.{Open, reseen, style}
 use Rattle.pps_types.specs.Rests.{Seen}
 use Rattle.pps_types.specs.Content.{Content, Connection, Object, Known, Directory, connection_numbered, is_attached, handles_of}
-use Rattle.pps_types.specs.WellFormed.{AreRising, AreInOrder}
-use Rattle.pps_types.specs.Plan.{Move, Creates, Opens, Attaches, Leaves, MakesDirectory, RemovesDirectory, apply_seen, apply_all_seen, first_seen, without_first, offer, creation}
+use Rattle.pps_types.specs.WellFormed.{AreRising}
+use Rattle.pps_types.specs.Plan.{Move, Creates, Opens, Attaches, Leaves, MakesDirectory, RemovesDirectory, apply_seen, first_seen, without_first, offer, creation}
 use Rattle.pps_types.proofs.Rising.{rising-below, rising-ends}
 use Rattle.settling_laws.specs.Told.{HandlesRise}
 use Rattle.engine_names.specs.Standing.{Named, standing_of, standing_in as names_in, after}

@@ -1,10 +1,10 @@
 -- Tables of which the same stands.
-use Rattle.std.proofs.Common.{◌≡◌, ℕ, Some, refl, sym, ap, ◌∙◌, subst}
+use Rattle.std.proofs.Common.{◌≡◌, sym, ap, ◌∙◌, subst}
 use Rattle.std.specs.List.{AllByRecursion}
 use Rattle.pps_types.proofs.Finds.{all-imp}
 use Rattle.pps_types.specs.declared.found.Found.{Found}
 use Rattle.pps_types.specs.declared.found.Found.TheVariants.{Object as FoundObject, Directory as FoundDirectory}
-use Rattle.pps_types.specs.Content.{Content, Known, Directory}
+use Rattle.pps_types.specs.Content.{Content}
 use Rattle.engine_names.specs.Standing.{standing_of}
 use Rattle.engine_connections.specs.Standing.{standing_in}
 use Rattle.engine_connections.specs.Laws.{queues_of}

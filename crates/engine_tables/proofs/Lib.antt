@@ -7,3 +7,4 @@ pub mod Begins
 pub mod Ready
 pub mod Replaces
 pub mod Copied
+pub mod Free

@@ -1,28 +1,28 @@
 -- What the rest of a beginning wants is still there behind each of its steps.
-use Rattle.std.specs.Prelude.{◌≡◌, ◌+◌, ◌<◌, ◌≤◌, ◌^◌, ◌==◌, ◌&&◌, ◌⊎◌, ℕ, List, [], ◌∷◌, ◌++◌, Bool, true, false, Option, Some, None, length, map, filter, option_map, IfSome, not}
-use Rattle.std.specs.List.{AllByRecursion, filter_map, cons_option, list_all}
-use Rattle.std.proofs.Common.{refl, sym, ◌∙◌, ap, subst, cond, inl, arith, le_trans, le_refl}
+use Rattle.std.specs.Prelude.{◌≡◌, ◌+◌, ◌<◌, ◌≤◌, ◌^◌, ◌==◌, ℕ, List, [], ◌∷◌, Bool, true, Option, length, map, filter, IfSome, not}
+use Rattle.std.specs.List.{AllByRecursion, list_all}
+use Rattle.std.proofs.Common.{refl, sym, ◌∙◌, ap, subst, inl, arith, le_trans, le_refl}
 use Rattle.pps_types.specs.declared.found.Found.{Found}
 use Rattle.pps_types.specs.declared.record.Kind.{Kind}
 use Rattle.pps_types.specs.declared.record.Kind.TheVariants.{Created, Change, Truncated, Dropped, Deleted, Opened, Closed, FromClient, ToClient, ToAll}
 use Rattle.pps_types.specs.History.{Entry}
 use Rattle.pps_types.specs.Reading.{Open, visible}
 use Rattle.pps_types.specs.Rests.{Seen}
-use Rattle.pps_types.specs.Plan.{Happens as HappensTo, offer, without_number, apply_all_seen}
+use Rattle.pps_types.specs.Plan.{Happens as HappensTo, offer, without_number}
 use Rattle.pps_types.proofs.Finds.{and-both}
 use Rattle.engine_servers.specs.Shared.{Shared}
 use Rattle.engine_targets.specs.declared.opening.Opening.{Opening}
 use Rattle.engine_names.specs.Standing.{Named}
 use Rattle.engine_targets.specs.Opened.{is_directory}
 use Rattle.engine_seats.specs.Seated.{suits}
-use Rattle.open_handles.specs.Whole.{Whole, Site, HasRoom, KeepsSites, KeepsRecords, IsShared, SuitsAt, is_on, handles_in, handles_at, site_at}
+use Rattle.open_handles.specs.Whole.{Whole, Site, HasRoom, KeepsSites, KeepsRecords, is_on, handles_in, handles_at}
 use Rattle.engine_tables.specs.Tables.{Tabled, content_in}
 use Rattle.engine_tables.specs.Moves.{closing}
 use Rattle.engine_tables.specs.Lines.{HasLinesFor, is_change}
 use Rattle.engine_tables.specs.Tied.{Moves, KeepsOrDrops, KeepsHandleRoom, CanOpen}
 use Rattle.engine_tables.specs.declared.beginning.Beginning.{Beginning}
 use Rattle.engine_tables.specs.declared.beginning.Beginning.TheVariants.{Closes, Happens}
-use Rattle.engine_tables.specs.Beginning.{moves_of, entry_of, entries_in, CanBeginAll, HaveLines, IsSharedBy, AreReady, is_plain}
+use Rattle.engine_tables.specs.Beginning.{entries_in, CanBeginAll, HaveLines, IsSharedBy, AreReady, is_plain}
 use Rattle.engine_tables.proofs.Waits.{closed_aside, closed_handles}
 use Rattle.engine_tables.proofs.Begins.{fewer-without, same-offered, shared_stays, room_first}
 

@@ -1,13 +1,12 @@
 -- An object that takes another's place.
-use Rattle.std.specs.Prelude.{◌≡◌, ◌+◌, ◌<◌, ◌==◌, ◌++◌, ℕ, List, [], ◌∷◌, Bool, true, false, Option, Some, None, is_some, map, IsSomeAnd, IfSome}
+use Rattle.std.specs.Prelude.{◌≡◌, ◌+◌, ℕ, List, [], ◌∷◌, true, Option, Some, None, is_some, map, IsSomeAnd, IfSome}
 use Rattle.std.specs.List.{AllByRecursion, filter_map, cons_option}
-use Rattle.std.proofs.Common.{refl, sym, ◌∙◌, ap, subst, cond, arith}
-use Rattle.pps_types.specs.declared.found.Found.{Found}
+use Rattle.std.proofs.Common.{refl, sym, ◌∙◌, ap, subst}
 use Rattle.pps_types.specs.declared.found.Found.TheVariants.{Object as FoundObject, Directory as FoundDirectory}
 use Rattle.pps_types.specs.History.{Entry}
-use Rattle.pps_types.specs.Content.{Content, Object, Known, Directory}
+use Rattle.pps_types.specs.Content.{Object, Known}
 use Rattle.pps_types.specs.WellFormed.{AreRising}
-use Rattle.pps_types.specs.Plan.{Happens, Creates, apply_seen, apply_all_seen, touched, offer, creation}
+use Rattle.pps_types.specs.Plan.{Happens, Creates, apply_seen, touched, offer, creation}
 use Rattle.engine_names.specs.Standing.{Named, standing_of, standing_in as names_in, happened, after}
 use Rattle.engine_names.specs.Laws.{MovesAreTold}
 use Rattle.open_handles.specs.Whole.{Whole, site_at, handles_in}

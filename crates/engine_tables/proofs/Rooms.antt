@@ -1,10 +1,9 @@
 -- What is to come for a connection, and the memory for more.
-use Rattle.std.specs.Prelude.{◌≡◌, ◌==◌, ℕ, List, Option, Some, None, find, map, option_map, IsSomeAnd}
+use Rattle.std.specs.Prelude.{◌≡◌, ℕ, Option, Some, None, option_map, IsSomeAnd}
 use Rattle.std.specs.Option.{option_map_or}
-use Rattle.std.proofs.Common.{refl, sym, ◌∙◌, ap, subst}
-use Rattle.pps_types.specs.Outbox.{Outbox, empty_outbox, arm_refusal, park_refusal}
+use Rattle.std.proofs.Common.{refl, ◌∙◌, ap}
+use Rattle.pps_types.specs.Outbox.{empty_outbox, arm_refusal, park_refusal}
 use Rattle.pps_types.specs.Content.{outbox_of}
-use Rattle.notify_box.specs.Roomed.{Roomed}
 use Rattle.engine_connections.specs.Standing.{RoomedConnections, RoomedConnection, Standing, standing_in, standing_of, is_numbered, connection_at, roomed_at, outbox_of as outbox_at, LacksPulseRoom, LacksReadRoom}
 use Rattle.connection_laws.specs.Connections.{AreOwned}
 use Rattle.connection_laws.specs.Laws.{ConnectionsAreFound}

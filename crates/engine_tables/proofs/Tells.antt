@@ -1,19 +1,17 @@
 -- Records that are told.
-use Rattle.std.specs.Prelude.{◌≡◌, ◌+◌, ◌==◌, ℕ, List, [], ◌∷◌, Bool, true, false, Option, Some, None, is_some, map, not}
-use Rattle.std.specs.List.{AllByRecursion, filter_map, cons_option, list_all}
+use Rattle.std.specs.Prelude.{◌≡◌, ◌+◌, ◌==◌, ℕ, List, [], ◌∷◌, Bool, true, false, Option, Some, None, is_some, map}
+use Rattle.std.specs.List.{AllByRecursion, filter_map, cons_option}
 use Rattle.std.proofs.Common.{refl, sym, ◌∙◌, ap, subst, cond}
 use Rattle.pps_types.specs.declared.line.Line.{Line}
 use Rattle.pps_types.specs.declared.record.Kind.{Kind}
 use Rattle.pps_types.specs.declared.record.Kind.TheVariants.{Created, Change, Truncated, Dropped, Deleted, Opened, Closed, FromClient, ToClient, ToAll}
-use Rattle.pps_types.specs.declared.found.Found.{Found}
 use Rattle.pps_types.specs.declared.found.Found.TheVariants.{Object as FoundObject, Directory as FoundDirectory}
 use Rattle.pps_types.specs.History.{Entry, after_kind}
-use Rattle.pps_types.specs.Content.{Content, Known, Directory}
-use Rattle.pps_types.specs.Plan.{Move, Happens, apply_seen, apply_all_seen, touched, still_known, offer}
+use Rattle.pps_types.specs.Content.{Known, Directory}
+use Rattle.pps_types.specs.Plan.{Happens, apply_seen, touched, still_known, offer}
 use Rattle.engine_names.specs.Standing.{Standing, Named, standing_of, standing_in as names_in, happened, bare_entry}
 use Rattle.engine_names.specs.Laws.{MovesAreTold}
-use Rattle.open_handles.specs.Whole.{Whole, KeepsSites, KeepsTable, site_at, handles_in}
-use Rattle.engine_connections.specs.Standing.{RoomedConnections, standing_in}
+use Rattle.open_handles.specs.Whole.{Whole, site_at, handles_in}
 use Rattle.connection_laws.specs.Connections.{connections_of, ConnectionsRise}
 use Rattle.connection_laws.specs.Laws.{ConnectionsAreFound, ConnectionsAreTold}
 use Rattle.std.proofs.lemmas.Bool.{eq-eqb}

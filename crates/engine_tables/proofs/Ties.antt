@@ -1,13 +1,12 @@
 -- That a change keeps names, handles and connections tied, and that what stands is what its moves make of it.
-use Rattle.std.specs.Prelude.{◌≡◌, ℕ, List, [], ◌∷◌, true, map}
-use Rattle.std.specs.List.{AllByRecursion, list_all}
+use Rattle.std.specs.Prelude.{◌≡◌, List, [], ◌∷◌}
+use Rattle.std.specs.List.{AllByRecursion}
 use Rattle.std.proofs.Common.{refl, sym, ◌∙◌, ap, subst, le_refl}
-use Rattle.pps_types.specs.declared.found.Found.{Found}
 use Rattle.pps_types.specs.declared.found.Found.TheVariants.{Object as FoundObject, Directory as FoundDirectory}
 use Rattle.pps_types.specs.Content.{Content, Known, Directory}
 use Rattle.pps_types.specs.Plan.{Move, apply_all_seen}
 use Rattle.engine_names.specs.Standing.{Named, standing_of, standing_in as names_in}
-use Rattle.open_handles.specs.Whole.{Whole, KeepsSites, site_at, handles_in}
+use Rattle.open_handles.specs.Whole.{Whole, KeepsSites, handles_in}
 use Rattle.engine_connections.specs.Standing.{Standing, RoomedConnections, standing_in}
 use Rattle.engine_connections.specs.Laws.{queues_of}
 use Rattle.connection_laws.specs.Connections.{connections_of, ConnectionsRise}

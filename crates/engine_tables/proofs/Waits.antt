@@ -1,26 +1,24 @@
 -- Changes of one handle, and of the connection that it belongs to.
-use Rattle.std.specs.Prelude.{◌≡◌, ℕ, List, [], ◌∷◌, ◌++◌, Bool, true, false, if◌then◌else◌, Option, Some, None, is_some, IsSome, Result, Err, map, option_map, IsTrue, ◌==◌, ◌&&◌, find}
-use Rattle.std.specs.List.{list_all, filter_map, list_any}
+use Rattle.std.specs.Prelude.{◌≡◌, ℕ, List, [], ◌∷◌, Bool, true, false, Option, Some, None, is_some, IsSome, Result, option_map, IsTrue, ◌==◌, ◌&&◌}
+use Rattle.std.specs.List.{list_all}
 use Rattle.std.specs.Option.{option_map_or}
 use Rattle.std.proofs.Common.{refl, sym, ◌∙◌, ap, subst, cond}
 use Rattle.std.proofs.lemmas.Bool.{eqb-true}
 use Rattle.pps_types.specs.declared.refusal.Refusal.{Refusal}
-use Rattle.pps_types.specs.Reading.{Open, reseen}
+use Rattle.pps_types.specs.Reading.{Open}
 use Rattle.pps_types.specs.Rests.{Seen}
-use Rattle.pps_types.specs.Outbox.{Outbox, PulseOf, is_parked, fired_in, finished_in, disarmed, with_pulse, with_parked, behind_first, empty_outbox}
-use Rattle.pps_types.specs.Content.{Content, Connection, own_handle, connection_numbered, outbox_of, handles_of}
-use Rattle.pps_types.specs.Plan.{Move, CatchesUp, Passes, Parks, Arms, Takes, Closes, Queues, apply_all_seen, on_numbered, without_number, without_first, caught_up, left}
+use Rattle.pps_types.specs.Outbox.{PulseOf, is_parked, disarmed, empty_outbox}
+use Rattle.pps_types.specs.Content.{Content, Connection, own_handle, connection_numbered}
+use Rattle.pps_types.specs.Plan.{CatchesUp, Passes, Parks, Arms, Takes, apply_all_seen, without_number, without_first}
 use Rattle.settling_laws.specs.Told.{HandlesRise}
-use Rattle.open_handles.specs.Whole.{Whole, KeepsSites, handles_in}
-use Rattle.engine_connections.specs.Standing.{RoomedConnections, Standing, standing_in, standing_at, with_outbox, with_handles, parked_ended, HasParked, is_attached as is_kept, outbox_of as outbox_at}
+use Rattle.engine_connections.specs.Standing.{Standing, with_outbox, with_handles, parked_ended, HasParked, is_attached as is_kept, outbox_of as outbox_at}
 use Rattle.connection_laws.specs.Connections.{standing_of, connections_of, ConnectionsRise, attaches_none}
 use Rattle.connection_laws.specs.Laws.{ConnectionsAreFound, ConnectionsAreTold}
-use Rattle.connection_laws.proofs.Lists.{passes, found-both, found-more, entries-any}
+use Rattle.connection_laws.proofs.Lists.{passes, found-both, entries-any}
 use Rattle.connection_laws.proofs.Standings.{read_by, read-keyed, shown, standing-shown}
 use Rattle.pps_types.proofs.Finds.{and-both}
-use Rattle.engine_tables.specs.Tables.{Tabled, content_in, AreTied}
 use Rattle.engine_tables.specs.Moves.{closing, firing, finishing}
-use Rattle.engine_tables.proofs.Ties.{Aside, Step, both_stepped}
+use Rattle.engine_tables.proofs.Ties.{Aside}
 
 -- ---- what moves leave aside
 

@@ -1,8 +1,6 @@
 -- What an event begins with: handles close, and records are told.
-use Rattle.std.specs.Prelude.{◌≡◌, ◌+◌, ◌<◌, ◌≤◌, ◌^◌, ℕ, List, [], ◌∷◌, ◌++◌, Bool, true, false, Option, Some, None, is_some, length, option_map, not}
-use Rattle.std.specs.List.{AllByRecursion, flat_map, filter_map, list_all}
-use Rattle.pps_types.specs.declared.found.Found.{Found}
-use Rattle.pps_types.specs.declared.found.Found.TheVariants.{Object as FoundObject}
+use Rattle.std.specs.Prelude.{◌≡◌, ◌+◌, ◌<◌, ◌^◌, List, [], ◌∷◌, Bool, true, Option, Some, None, is_some, length, option_map, not}
+use Rattle.std.specs.List.{AllByRecursion, filter_map, list_all}
 use Rattle.pps_types.specs.History.{Entry}
 use Rattle.pps_types.specs.Reading.{Open}
 use Rattle.pps_types.specs.Rests.{Seen}

@@ -1,12 +1,11 @@
 -- What follows from an event, for one handle after the other.
-use Rattle.std.specs.Prelude.{◌≡◌, ℕ, List, [], ◌∷◌, ◌++◌, true, Some, is_some, option_map}
-use Rattle.std.specs.List.{flat_map}
+use Rattle.std.specs.Prelude.{◌≡◌, List, [], ◌∷◌, true, Some, is_some, option_map}
 use Rattle.pps_types.specs.Reading.{Open}
 use Rattle.pps_types.specs.Rests.{Seen}
 use Rattle.pps_types.specs.Content.{Content, own_handle}
 use Rattle.pps_types.specs.Plan.{apply_all_seen}
 use Rattle.engine_replies.specs.declared.following.Following.{Following}
-use Rattle.engine_replies.specs.declared.following.Following.TheVariants.{Fires, CatchesUp, Passes, Ends}
+use Rattle.engine_replies.specs.declared.following.Following.TheVariants.{Fires, Ends}
 use Rattle.engine_replies.specs.Followed.{moves_of}
 
 -- it can follow: the pulse is armed on the connection's own handle, or a read waits on it

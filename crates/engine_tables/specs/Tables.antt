@@ -1,10 +1,10 @@
 -- All that stands of a service: names with their objects and directories, open handles, and connections, beside each other.
-use Rattle.std.specs.Prelude.{◌≡◌, ℕ, List, [], Bool, false, Some, is_some, map}
+use Rattle.std.specs.Prelude.{◌≡◌, ℕ, [], false, Some, is_some}
 use Rattle.std.specs.List.{AllByRecursion}
 use Rattle.pps_types.specs.declared.found.Found.TheVariants.{Object as FoundObject, Directory as FoundDirectory}
 use Rattle.pps_types.specs.Content.{Content, Known, Directory}
 use Rattle.engine_names.specs.Standing.{Named, standing_of}
-use Rattle.open_handles.specs.Whole.{Whole, Site, site_at, handles_in}
+use Rattle.open_handles.specs.Whole.{Whole, site_at, handles_in}
 use Rattle.engine_connections.specs.Standing.{RoomedConnections, standing_in}
 use Rattle.engine_connections.specs.Laws.{queues_of}
 use Rattle.connection_laws.specs.Connections.{connections_of, ConnectionsRise}

@@ -1,5 +1,5 @@
 -- What a change in place leaves.
-use Rattle.std.specs.Prelude.{◌≡◌, ◌≤◌, ◌<◌, ◌⊎◌, ℕ, List, None}
+use Rattle.std.specs.Prelude.{◌≡◌, ◌<◌, ◌⊎◌, ℕ, List, None}
 use Rattle.pps_types.specs.declared.found.Found.{Found}
 use Rattle.engine_targets.specs.declared.opening.Opening.{Opening}
 use Rattle.pps_types.specs.Plan.{Move, apply_all_seen}

@@ -2,6 +2,7 @@
 #![tactic(auto)]
 
 mod beginning;
+mod checks;
 mod coming;
 mod copies;
 mod creating;

@@ -1,5 +1,5 @@
 //! Memory that is taken ahead. What stands stays.
-ghost use Rattle.std.specs.Prelude.{◌≡◌, ◌≢◌, ◌+◌, ◌<◌, ◌≤◌, true, is_some, Some, OnOk, OnErr, IfErr, IfSome, fold, IsSomeAnd};
+ghost use Rattle.std.specs.Prelude.{◌≡◌, ◌≢◌, ◌+◌, ◌<◌, ◌≤◌, ◌∷◌, [], true, is_some, Some, IfOk, OnOk, OnErr, IfErr, IfSome, fold, IsSomeAnd};
 ghost use Rattle.pps_types.specs.Names.{refusal_of, add_refusal, mkdir_refusal};
 ghost use Rattle.pps_types.specs.Checks.{first_refusal, limit_checks};
 ghost use Rattle.pps_types.specs.History.{apply_line};
@@ -8,17 +8,17 @@ ghost use Rattle.pps_types.specs.Outbox.{arm_refusal, park_refusal};
 ghost use Rattle.pps_types.specs.declared.refusal.Refusal.TheVariants.{OutOfMemory};
 ghost use Rattle.connection_laws.specs.Connections.{AreOwned};
 ghost use Rattle.engine_names.specs.Standing.{AreSame, IsReadyToCreate, IsReadyToMake, placed_at};
-ghost use Rattle.open_handles.specs.Whole.{HasRoom, KeepsSites, KeepsTable, KeepsPlaces, KeepsRecords, handles_in, room_at, site_at};
+ghost use Rattle.open_handles.specs.Whole.{HasRoom, IsShared, KeepsSites, KeepsTable, KeepsPlaces, KeepsRecords, handles_in, room_at, site_at};
 ghost use Rattle.engine_connections.specs.Standing.{CanArm, CanPark, HasHandleRoom};
 ghost use Rattle.engine_tables.specs.Tables.{content_in};
 ghost use Rattle.engine_tables.specs.Tied.{KeepsHandleRoom};
 
 use crate::tables::Tables;
 use connection_laws::connections_are_found;
-use open_handles::Handles;
+use open_handles::{Handles, Told};
 use pps_types::{Bytes, Conn, Found, Handle, Line, ObjId, Refusal};
 use server_queue::Entry;
-use std::alloc::AllocError;
+use std::alloc::{AllocError, Global};
 
 impl Tables {
     /// Takes the memory for one more connection. OutOfMemory is the only error.
@@ -96,6 +96,21 @@ impl Tables {
         connections_are_found();
         self.handles.reserve_records(entries)?;
         Ok(())
+    }
+
+    /// Takes the memory for a record that is to be told. OutOfMemory is the only error.
+    pub fn tell_ready(&mut self, alloc: Global, entry: Entry) -> Result<Told, Refusal>
+        ensures content { content_in self.new ≡ content_in self.old }
+        ensures names { self.new.names ≡ self.old.names }
+        ensures connections { self.new.connections ≡ self.old.connections }
+        ensures kept { KeepsHandleRoom self.old self.new }
+        ensures entry { IfOk result (λ told. told.entry ≡ entry) }
+        ensures room { OnOk result (HasRoom (entry ∷ []) self.new.handles) }
+        ensures shared { IfOk result (λ told. IsShared told.count entry self.new.handles) }
+        ensures err { IfErr result (λ r. r ≡ OutOfMemory) }
+    {
+        self.records_ready(std::slice::from_ref(&entry))?;
+        Ok(self.handles.shares(alloc, entry)?)
     }
 
     /// Takes the memory for lines that change an object.

@@ -4,3 +4,4 @@ pub mod LineChanges
 pub mod Entries
 pub mod Foretold
 pub mod Dropping
+pub mod Having

@@ -1,6 +1,8 @@
 //! One object's attributes.
 ghost use Rattle.std.specs.Prelude.{◌≡◌, ◌≢◌, ◌^◌, ◌+◌, ◌≤◌, ◌<◌, ◌++◌, ◌↔◌, IsTrue, IfOk, IfSome, IsSome, OnOk, OnErr, IsOkUnless, None, Some, [], option_map, slice_get, fold, length, vec_len, vec_capacity};
+ghost use Rattle.std.specs.List.{list_any};
 ghost use Rattle.std.specs.Option.{option_copied};
+ghost use Rattle.pps_types.specs.Bytes.{same};
 ghost use Rattle.pps_types.specs.History.{text_length, persistent, apply_line};
 ghost use Rattle.pps_types.specs.History as history;
 ghost use Rattle.pps_types.specs.Names as names;
@@ -19,7 +21,7 @@ use crate::marks::resolve;
 use crate::print::{matching_len, push_all, push_matching};
 use attr_text::passes_limits;
 use indexmap::IndexMap;
-use pps_filter::Filter;
+use pps_filter::{Filter, Name};
 use pps_types::{Line, Refusal, WriteLine};
 use std::alloc::{AllocError, Global};
 use std::marker::Model;
@@ -94,6 +96,13 @@ impl Object {
             value: content.value.as_slice(),
             n: content.n,
         })
+    }
+
+    /// Whether there is an attribute of that name.
+    pub fn has(&self, name: &Name) -> bool
+        ensures { result ≡ list_any (λ a. same a.name name.now) self.now.attributes }
+    {
+        self.map.contains_key(name)
     }
 
     /// How many bytes the printed lines of all attributes have. It is kept, so it costs nothing.

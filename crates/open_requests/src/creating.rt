@@ -14,8 +14,7 @@ ghost use Rattle.engine_tables.specs.Tables.{content_in};
 ghost use Rattle.open_requests.specs.Planned.{moves_of, IsReady};
 
 use crate::planned::Opens;
-use crate::records::told;
-use engine_names::questions_are_told;
+use engine_names::{last_name, questions_are_told};
 use engine_tables::{NewObject, Tables, entry_about};
 use engine_targets::Opening;
 use open_handles::NewSite;
@@ -27,16 +26,6 @@ pub(crate) fn owner(number: Handle, is_served: bool) -> Option<Handle>
     ensures { result ≡ (if is_served then Some number else None) }
 {
     if is_served { Some(number) } else { None }
-}
-
-// A path's last name. The root's is empty.
-fn last_name(path: &[Bytes]) -> &[u8]
-    ensures { result.now ≡ paths.last_name path.now }
-{
-    match path.split_last() {
-        None => &[],
-        Some((last, _)) => last.as_slice(),
-    }
 }
 
 // Room for a new object at a path with its first handle. OutOfMemory is the only error, where a place for it is free.
@@ -94,7 +83,7 @@ pub(crate) fn creating(
     let name = last_name(&path);
     let site = NewSite::of_object(alloc, number, Bytes::from_slice(alloc, name)?, is_served)?;
     let entry = entry_about(alloc, number, directory, name, Kind::Created, None)?;
-    let creation = told(tables, alloc, entry)?;
+    let creation = tables.tell_ready(alloc, entry)?;
     let object = NewObject {
         path,
         directory,

@@ -14,3 +14,4 @@ mod ways;
 
 pub use planned::{Opens, carry_out};
 pub use request::open;
+pub use ways::directory_above;

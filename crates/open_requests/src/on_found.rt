@@ -11,7 +11,7 @@ ghost use Rattle.open_requests.specs.Planned.{moves_of, IsReady};
 ghost use Rattle.open_requests.specs.Ways.{SuitsOn, CanTell};
 
 use crate::planned::Opens;
-use crate::records::{entry_of, told};
+use crate::records::entry_of;
 use engine_tables::{Beginning, Tables};
 use engine_targets::Opening;
 use pps_types::{Conn, Found, Kind, ObjId, Refusal};
@@ -78,7 +78,7 @@ pub(crate) fn on_told(
 {
     let entry = entry_of(tables, alloc, object, kind)?;
     tables.open_ready(Found::Object(object), conn)?;
-    let told = told(tables, alloc, entry)?;
+    let told = tables.tell_ready(alloc, entry)?;
     let mut beginning = Vec::new(alloc);
     beginning.push(Beginning::Happens(told))?;
     Ok(opens_on(beginning, Found::Object(object), opening))

@@ -38,8 +38,8 @@ pub(crate) struct Way {
     pub(crate) step: Step,
 }
 
-// The directory above a path where nothing stands.
-fn directory_above(tables: &Tables, path: &[Bytes]) -> DirId
+/// The directory above a path where nothing stands, and something can.
+pub fn directory_above(tables: &Tables, path: &[Bytes]) -> DirId
     requires content { IsContent (content_in tables.now) }
     requires place { paths.place (content.at (content_in tables.now)) path.now ≡ Ok None }
     ensures { paths.find_at (content.at (content_in tables.now)) (paths.parent path.now) ≡ Ok (FoundDirectory result) }

@@ -3,8 +3,8 @@
 use crate::samples::{deletion, set_line};
 use attr_text::read_write;
 use object_state::{AttributeRef, Object};
-use pps_filter::read_filter;
-use pps_types::{Line, Refusal};
+use pps_filter::{Name, read_filter};
+use pps_types::{Bytes, Line, Refusal};
 use std::alloc::{AllocError, Global};
 use std::process::Abort;
 use std::test::Fail;
@@ -58,6 +58,16 @@ fn lines_take_effect_in_turn_and_keep_the_order(rt: HostRuntime) -> Result<(), F
         let object = written(rt.alloc(), first, second)?;
         assert_prints(&rt, &object, wanted)?;
     }
+    Ok(())
+}
+
+#[test]
+fn attributes_are_found_by_their_names(rt: HostRuntime) -> Result<(), Fail> {
+    let object = written(rt.alloc(), b"c::3\n", b"[n]d:e:f:g\n")?;
+    let there = Name::new(Bytes::from_slice(rt.alloc(), b"d")?);
+    assert!(rt; object.has(&there));
+    let absent = Name::new(Bytes::from_slice(rt.alloc(), b"e")?);
+    assert!(rt; !object.has(&absent));
     Ok(())
 }
 

@@ -1,20 +1,19 @@
 -- How what is asked by a path is checked, and what it does.
-use Rattle.std.specs.Prelude.{◌≡◌, ◌≢◌, ◌⊎◌, ◌+◌, ◌-◌, ◌<◌, ◌^◌, ◌||◌, ℕ, List, [], ◌∷◌, ◌++◌, Bool, true, false, nat_le, nat_lt, Option, Some, None, is_some, ok_or, length, map, Result, Ok, Err}
+use Rattle.std.specs.Prelude.{◌≡◌, ◌≢◌, ◌⊎◌, ◌+◌, ◌-◌, ◌<◌, ◌^◌, ◌||◌, ℕ, List, [], ◌∷◌, ◌++◌, Bool, true, false, nat_lt, Option, Some, None, ok_or, map}
 use Rattle.std.specs.Option.{option_map_or}
 use Rattle.std.specs.List.{concat}
 use Rattle.std.proofs.Common.{refl, sym, ◌∙◌, ap, subst, cond, inl, inr, arith}
 use Rattle.std.proofs.lemmas.Bool.Decides.{nat_tests}
 use Rattle.pps_types.specs.declared.refusal.Refusal.{Refusal}
-use Rattle.pps_types.specs.declared.refusal.Refusal.TheVariants.{BadPath, OutOfMemory, TableFull, Exists}
+use Rattle.pps_types.specs.declared.refusal.Refusal.TheVariants.{BadPath, OutOfMemory, TableFull}
 use Rattle.pps_types.specs.declared.event.Request.TheVariants.{Unlink, Mkdir, List as ListRequest}
 use Rattle.pps_types.specs.declared.outcome.Outcome.{Outcome}
 use Rattle.pps_types.specs.declared.outcome.Outcome.TheVariants.{Done, Data}
 use Rattle.pps_types.specs.declared.found.Found.{Found}
-use Rattle.pps_types.specs.Bytes.{◌>>=◌}
-use Rattle.pps_types.specs.Names.{Name, Path, parent, place, find_at, new_refusal, refusal_of, is_object, is_directory}
+use Rattle.pps_types.specs.Names.{Name, Path, find_at, is_object, is_directory}
 use Rattle.pps_types.specs.OpenText.{path_text}
-use Rattle.pps_types.specs.Content.{Content, at, subdirectories}
-use Rattle.pps_types.specs.Checks.{Check, Refuse, Memory, first_refusal, refused, parsed, on_path, list_checks, mkdir_checks, unlink_checks}
+use Rattle.pps_types.specs.Content.{Content}
+use Rattle.pps_types.specs.Checks.{Check, Refuse, Memory, first_refusal, parsed, on_path, list_checks, mkdir_checks, unlink_checks}
 use Rattle.pps_types.specs.Plan.{Move, MakesDirectory, effect, with_path, listing, apply_all_seen, passes_last_number}
 use Rattle.settling_laws.specs.Targets.{last_number_passed, last_number_passed_after}
 use Rattle.settling_laws.specs.Laws.{EventsAreSettled}
@@ -99,17 +98,6 @@ pub list_same : QuestionsAreTold → (c : Content) (names : Path) → list_check
 list_same told c names = ap (λ (a : Path → Option Found). parsed (find_at a names) (λ found. Refuse (is_object found) Refusal.NotDirectory ∷ [])) (told.at c)
 
 -- ---- Mkdir
-
-pub free_by : QuestionsAreTold → (c : Content) (path : Path) (r : Result (Option Found) Refusal) → r ≡ place (at (content_of (standing_in c))) path
-    → refusal_of (r >>= (λ (found : Option Found). cond (is_some found) (Err Exists) (Ok found))) ≡ new_refusal (at c) path
-free_by told c path r is =
-    ap (λ r. refusal_of (r >>= (λ (found : Option Found). cond (is_some found) (Err Exists) (Ok found)))) is
-    ∙ ap (λ (a : Path → Option Found). new_refusal a path) (told.at c)
-
--- the checks of a new directory, by what they come to
-pub mkdir_by : (c : Content) (path : Path) (free : Option Refusal) → free ≡ new_refusal (at c) path → (beside all : Bool) → beside ≡ nat_le 256 (length (subdirectories c (parent path))) → all ≡ nat_lt 65535 (length c.directories)
-    → first_refusal (refused free ++ (Refuse beside TableFull ∷ Refuse all TableFull ∷ [])) ≡ first_refusal (mkdir_checks c path)
-mkdir_by c path free free-is beside all beside-is all-is = λ i. first_refusal (refused (free-is i) ++ (Refuse (beside-is i) TableFull ∷ Refuse (all-is i) TableFull ∷ []))
 
 mkdir_does_by : (text : List ℕ) (names : Path) → path_text text ≡ Some names → with_path text (λ names. (Done, MakesDirectory names ∷ [])) ≡ (Done, MakesDirectory names ∷ [])
 mkdir_does_by text names is = ap (λ o. option_map_or {U = Outcome × List Move} (λ (names : Path). (Done, MakesDirectory names ∷ [])) o (Done, [])) is

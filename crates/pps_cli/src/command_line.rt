@@ -1,30 +1,100 @@
 //! The command line.
+ghost use Rattle.std.specs.Prelude.{◌≡◌, ◌≤◌, IfSome};
 
 use crate::fault::Fault;
 use clap::error::ErrorKind;
 use clap::{Arg, ArgAction, ArgMatches, Command, value_parser};
 use std::alloc::{AllocError, Global};
 use std::convert::AsStr;
+use std::marker::Model;
 use std::num::NonZeroU16;
 
 /// The limit of handles that name none, where no other is asked for.
 const DEFAULT_LIMIT: u16 = 256;
 
+/// The most workers.
+const WORKERS_MAX: u16 = 8;
+
+/// The most script files.
+const SCRIPTS_MAX: usize = 1_024;
+
+/// What a service begins with.
+#[derive(Clone, Copy, Debug, PartialEq, Eq)]
+pub(crate) enum Beginning<'w> {
+    /// Nothing but the root. Handles that name no limit have this one.
+    Empty(NonZeroU16),
+    /// The image in this file.
+    Image(&'w str),
+}
+
+/// A service: what it begins with, and the file that it is saved to at its end.
+#[derive(Clone, Copy, Debug, PartialEq, Eq)]
+pub(crate) struct ServiceOptions<'w> {
+    pub beginning: Beginning<'w>,
+    pub save: Option<&'w str>,
+}
+
 /// How a script is to be run.
 #[derive(Clone, Copy, Debug, PartialEq, Eq)]
-pub(crate) struct RunOptions {
+pub(crate) struct RunOptions<'w> {
     /// Whether values are shown.
     pub show: bool,
-    /// The limit of handles that name none.
-    pub limit: NonZeroU16,
+    pub service: ServiceOptions<'w>,
+}
+
+/// How many workers serve.
+#[derive(Clone, Copy, Debug, PartialEq, Eq)]
+pub(crate) struct Workers(u16);
+
+impl Model for Workers {
+    ghost use Rattle.std.specs.Prelude.{◌≤◌, ℕ};
+
+    ghost Value = { ℕ };
+
+    ghost view = { λ a. a.0 };
+
+    ghost inverse = { λ n. record { 0 = n } };
+
+    ghost invariant = { λ a. (1 ≤ a.0) × (a.0 ≤ 8) };
+}
+
+impl Workers {
+    // So many workers, if they are 1 to 8.
+    fn new(count: u16) -> Option<Workers>
+        ensures { IfSome result (λ workers. workers ≡ count) }
+    {
+        if (1..=WORKERS_MAX).contains(&count) {
+            return Some(Workers(count));
+        }
+        None
+    }
+
+    /// How many they are.
+    pub(crate) fn count(self) -> usize
+        ensures same { result ≡ self }
+        ensures range { (1 ≤ result) × (result ≤ 8) }
+    {
+        let Workers(count) = self;
+        usize::from(count)
+    }
+}
+
+/// How script files are to be served.
+#[derive(Debug, Drop)]
+pub(crate) struct ServeOptions<'w> {
+    pub workers: Workers,
+    /// The script files, 1 to 1,024.
+    pub scripts: Vec<&'w str>,
 }
 
 /// What a command line asks for.
 #[derive(Drop)]
-pub(crate) enum Asked {
-    Run(RunOptions),
-    /// Frames are to be served; handles that name no limit have this one.
-    Frames(NonZeroU16),
+pub(crate) enum Asked<'w> {
+    Run(RunOptions<'w>),
+    /// Frames are to be served.
+    Frames(ServiceOptions<'w>),
+    /// Script files are to be served.
+    Serve(ServeOptions<'w>),
     /// The help or the version.
     Text(String),
 }
@@ -39,23 +109,63 @@ fn limit_option<'a>(alloc: Global) -> Arg<'a> {
         .value_parser(value_parser!(u16))
 }
 
+fn image_option<'a>(alloc: Global) -> Result<Arg<'a>, AllocError> {
+    Arg::new(alloc, "image")
+        .long("image")
+        .value_name("F")
+        .help("Begins with the image in file F, in place of an empty service")
+        .conflicts_with("limit")
+}
+
+fn save_option<'a>(alloc: Global) -> Arg<'a> {
+    Arg::new(alloc, "save")
+        .long("save")
+        .value_name("F")
+        .help("Saves the service to file F at the end")
+}
+
+// The options of a service's beginning and end.
+fn with_service<'a>(alloc: Global, command: Command<'a>) -> Result<Command<'a>, AllocError> {
+    command
+        .arg(image_option(alloc)?)?
+        .arg(save_option(alloc))?
+        .arg(limit_option(alloc))
+}
+
 fn run_command<'a>(alloc: Global) -> Result<Command<'a>, AllocError> {
     let show = Arg::new(alloc, "show")
         .long("show")
         .help("Shows the values of encoding b and b64 in the answers to reads")
         .action(ArgAction::SetTrue);
-    Command::new(alloc, "run")
+    let command = Command::new(alloc, "run")
         .about("Takes a script from standard input, and prints an answer for each of its commands")
-        .arg(show)?
-        .arg(limit_option(alloc))
+        .arg(show)?;
+    with_service(alloc, command)
 }
 
 fn frames_command<'a>(alloc: Global) -> Result<Command<'a>, AllocError> {
-    Command::new(alloc, "frames")
-        .about(
-            "Takes requests as frames from standard input, and writes a frame for each as its answer",
-        )
-        .arg(limit_option(alloc))
+    let command = Command::new(alloc, "frames").about(
+        "Takes requests as frames from standard input, and writes a frame for each as its answer",
+    );
+    with_service(alloc, command)
+}
+
+fn serve_command<'a>(alloc: Global) -> Result<Command<'a>, AllocError> {
+    let workers = Arg::new(alloc, "workers")
+        .long("workers")
+        .value_name("N")
+        .help("How many workers serve, 1 to 8")
+        .required(true)
+        .value_parser(value_parser!(u16));
+    let scripts = Arg::new(alloc, "F")
+        .help("Script files, 1 to 1024: the one at place K is connection K")
+        .required(true)
+        .num_args(1..=SCRIPTS_MAX)
+        .action(ArgAction::Append);
+    Command::new(alloc, "serve")
+        .about("Runs one script per session, in several threads, and prints the answers of each")
+        .arg(workers)?
+        .arg(scripts)
 }
 
 fn whole_command<'a>(alloc: Global) -> Result<Command<'a>, AllocError> {
@@ -71,7 +181,8 @@ fn whole_command<'a>(alloc: Global) -> Result<Command<'a>, AllocError> {
         .subcommand_required(true)
         .arg(version)?
         .subcommand(run_command(alloc)?)?
-        .subcommand(frames_command(alloc)?)
+        .subcommand(frames_command(alloc)?)?
+        .subcommand(serve_command(alloc)?)
 }
 
 fn asked_limit(matches: &ArgMatches<'_>) -> Result<NonZeroU16, Fault> {
@@ -79,8 +190,30 @@ fn asked_limit(matches: &ArgMatches<'_>) -> Result<NonZeroU16, Fault> {
     NonZeroU16::new(limit).ok_or(Fault::BadCommandLine)
 }
 
+fn asked_service<'w>(matches: &ArgMatches<'w>) -> Result<ServiceOptions<'w>, Fault> {
+    let beginning = match matches.get_str("image") {
+        Some(image) => Beginning::Image(image),
+        None => Beginning::Empty(asked_limit(matches)?),
+    };
+    Ok(ServiceOptions {
+        beginning,
+        save: matches.get_str("save"),
+    })
+}
+
+fn asked_scripts<'w>(alloc: Global, matches: &ArgMatches<'w>) -> Result<ServeOptions<'w>, Fault> {
+    let count = matches.get_one::<u16>("workers").unwrap_or(0);
+    let workers = Workers::new(count).ok_or(Fault::BadCommandLine)?;
+    let Some(files) = matches.get_strs("F") else {
+        return Err(Fault::BadCommandLine);
+    };
+    let mut scripts = Vec::new(alloc);
+    scripts.extend_from_slice(files)?;
+    Ok(ServeOptions { workers, scripts })
+}
+
 /// What the words of a command line ask for, the first of which is the program's name.
-pub(crate) fn read_words<S: AsStr>(alloc: Global, words: &[S]) -> Result<Asked, Fault> {
+pub(crate) fn read_words<'w, S: AsStr>(alloc: Global, words: &'w [S]) -> Result<Asked<'w>, Fault> {
     let matches = match whole_command(alloc)?.try_get_matches_from(words) {
         Ok(matches) => matches,
         Err(e) if e.kind() == ErrorKind::OutOfMemory => return Err(Fault::OutOfMemory),
@@ -90,9 +223,10 @@ pub(crate) fn read_words<S: AsStr>(alloc: Global, words: &[S]) -> Result<Asked, 
     match matches.subcommand() {
         Some(("run", matches)) => Ok(Asked::Run(RunOptions {
             show: matches.get_flag("show"),
-            limit: asked_limit(matches)?,
+            service: asked_service(matches)?,
         })),
-        Some(("frames", matches)) => Ok(Asked::Frames(asked_limit(matches)?)),
+        Some(("frames", matches)) => Ok(Asked::Frames(asked_service(matches)?)),
+        Some(("serve", matches)) => Ok(Asked::Serve(asked_scripts(alloc, matches)?)),
         _ => Err(Fault::BadCommandLine),
     }
 }

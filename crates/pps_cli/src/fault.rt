@@ -53,3 +53,49 @@ impl From<AllocError> for Fault {
         Fault::OutOfMemory
     }
 }
+
+/// A fault, or what is wrong with a file that the command line names.
+#[derive(Clone, Copy, Debug, PartialEq, Eq, Error)]
+pub(crate) enum Failure<'w> {
+    #[error("{0}")]
+    Fault(Fault),
+    #[error("cannot read {file}")]
+    CannotRead { file: &'w str },
+    #[error("cannot write {file}")]
+    CannotWrite { file: &'w str },
+    /// A line of an image, counted from 1, at which it is certain that it is none.
+    #[error("bad image line {line}")]
+    BadImage { line: u64 },
+    /// A line of a script file, counted from 1, that is none of its session.
+    #[error("{file}: line {line}: bad script line")]
+    BadLineOf { file: &'w str, line: u64 },
+    /// Serving ended with a fault of this name.
+    #[error("serve: {name}")]
+    Serve { name: &'static str },
+}
+
+impl Failure<'_> {
+    /// The exit status.
+    pub(crate) fn status(self) -> u8 {
+        match self {
+            Failure::Fault(fault) => fault.status(),
+            Failure::CannotRead { .. }
+            | Failure::CannotWrite { .. }
+            | Failure::BadImage { .. }
+            | Failure::Serve { .. } => 3,
+            Failure::BadLineOf { .. } => 1,
+        }
+    }
+}
+
+impl<'w> From<Fault> for Failure<'w> {
+    fn from(fault: Fault) -> Failure<'w> {
+        Failure::Fault(fault)
+    }
+}
+
+impl<'w> From<AllocError> for Failure<'w> {
+    fn from(_refused: AllocError) -> Failure<'w> {
+        Failure::Fault(Fault::OutOfMemory)
+    }
+}

@@ -9,7 +9,6 @@ use pps_frame::{Ended, RunError, run};
 use pps_types::Device;
 use std::alloc::Global;
 use std::io::{Read, Write};
-use std::num::NonZeroU16;
 
 // Serves the stream, and says what it ended with.
 fn serve_stream<I: Read, O: Write>(
@@ -35,17 +34,16 @@ fn serve_stream<I: Read, O: Write>(
     }
 }
 
-/// Serves the frames of the input on a new service, and writes a frame for each to the output, before it reads on.
+/// Serves the frames of the input, and writes a frame for each to the output, before it reads on.
 pub(crate) fn serve_frames<I: Read, O: Write>(
     alloc: Global,
-    limit: NonZeroU16,
+    engine: &mut Engine,
     input: &mut I,
     output: &mut O,
 ) -> Result<(), Fault> {
-    let mut engine = Engine::with_limit(alloc, u32::from(limit.get()))?;
     serve_stream(
         alloc,
-        &mut engine,
+        engine,
         &mut Device::new(input),
         &mut Device::new(output),
     )

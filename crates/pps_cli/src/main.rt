@@ -4,47 +4,83 @@
 mod command_line;
 mod fault;
 mod frames;
+mod images;
 mod script;
 mod serving;
+mod sessions;
 
-use command_line::{Asked, read_words};
-use fault::Fault;
+use command_line::{Asked, RunOptions, ServiceOptions, read_words};
+use fault::{Failure, Fault};
 use frames::serve_frames;
+use images::{begin, end};
 use script::run_script;
+use sessions::serve_scripts;
+use std::alloc::Global;
 use std::convert::AsStr;
 use std::env;
+use std::fs::Files;
 use std::io::{ErrorKind, Read, Write};
 use std::process::ExitCode;
+use std::sync::Wait;
+use std::thread::Threads;
 
 #[cfg(test)]
 mod tests;
 
-// What a command line asks for is done.
-fn run_asked<S: AsStr, I: Read, O: Write>(
-    rt: &HostRuntime,
-    words: &[S],
+// A script is run on a service that begins and is saved as it is asked for.
+fn serve_script<'w, F: Files, I: Read, O: Write>(
+    files: &F,
+    alloc: Global,
+    options: RunOptions<'w>,
     input: &mut I,
     output: &mut O,
-) -> Result<(), Fault> {
-    match read_words(rt.alloc(), words)? {
-        Asked::Run(options) => run_script(rt.alloc(), options, input, output),
-        Asked::Frames(limit) => serve_frames(rt.alloc(), limit, input, output),
+) -> Result<(), Failure<'w>> {
+    let engine = begin(alloc, files, options.service.beginning)?;
+    let engine = run_script(alloc, engine, options.show, input, output)?;
+    end(alloc, files, &engine, options.service.save)
+}
+
+// A stream is served by a service that begins and is saved as it is asked for.
+fn serve_requests<'w, F: Files, I: Read, O: Write>(
+    files: &F,
+    alloc: Global,
+    options: ServiceOptions<'w>,
+    input: &mut I,
+    output: &mut O,
+) -> Result<(), Failure<'w>> {
+    let mut engine = begin(alloc, files, options.beginning)?;
+    serve_frames(alloc, &mut engine, input, output)?;
+    end(alloc, files, &engine, options.save)
+}
+
+// What a command line asks for is done.
+fn run_asked<'w, R: AllocGlobal + Files + Threads + Wait + Sync, S: AsStr, I: Read, O: Write>(
+    rt: &R,
+    words: &'w [S],
+    input: &mut I,
+    output: &mut O,
+) -> Result<(), Failure<'w>> {
+    let alloc = rt.alloc();
+    match read_words(alloc, words)? {
+        Asked::Run(options) => serve_script(rt, alloc, options, input, output),
+        Asked::Frames(options) => serve_requests(rt, alloc, options, input, output),
+        Asked::Serve(options) => serve_scripts(rt, alloc, &options, output),
         Asked::Text(text) => match output.write_all(text.as_bytes()) {
-            Err(_) => Err(Fault::CannotWriteOutput),
+            Err(_) => Err(Failure::Fault(Fault::CannotWriteOutput)),
             Ok(()) => Ok(()),
         },
     }
 }
 
-// Tells a fault in one line. That it can't be told changes nothing.
-fn tell<E: Write>(fault: Fault, errors: &mut E) -> u8 {
-    let _ = writeln!(errors, "pps: {fault}");
-    fault.status()
+// Tells a failure in one line. That it can't be told changes nothing.
+fn tell<E: Write>(failure: Failure<'_>, errors: &mut E) -> u8 {
+    let _ = writeln!(errors, "pps: {failure}");
+    failure.status()
 }
 
 /// Does what the words of a command line ask for, the first of which is the program's name. It answers the exit status.
-fn run_words<S: AsStr, I: Read, O: Write, E: Write>(
-    rt: &HostRuntime,
+fn run_words<R: AllocGlobal + Files + Threads + Wait + Sync, S: AsStr, I: Read, O: Write, E: Write>(
+    rt: &R,
     words: &[S],
     input: &mut I,
     output: &mut O,
@@ -52,7 +88,7 @@ fn run_words<S: AsStr, I: Read, O: Write, E: Write>(
 ) -> u8 {
     match run_asked(rt, words, input, output) {
         Ok(()) => 0,
-        Err(fault) => tell(fault, errors),
+        Err(failure) => tell(failure, errors),
     }
 }
 
@@ -68,7 +104,7 @@ fn words_of(rt: &HostRuntime) -> Result<Vec<String>, Fault> {
 
 fn main(rt: HostRuntime) -> ExitCode {
     let status = match words_of(&rt) {
-        Err(fault) => tell(fault, &mut rt.stderr()),
+        Err(fault) => tell(Failure::Fault(fault), &mut rt.stderr()),
         Ok(words) => run_words(
             &rt,
             words.as_slice(),

@@ -4,7 +4,6 @@ ghost use Rattle.std.specs.Io.KnownBytes.{Keeps};
 ghost use Rattle.pps_types.specs.Text.{without_empty_end};
 ghost use Rattle.pps_cli.specs.Serving.{Runs, RunsWhole, RunsInput, IsPart};
 
-use crate::command_line::RunOptions;
 use crate::fault::Fault;
 use crate::serving::{LineFault, serve_line};
 use memchr::memchr;
@@ -157,20 +156,30 @@ fn run_pieces<I: Read, W: Write>(
     Err(Fault::CannotReadInput)
 }
 
-// Runs a script from the input on a new service.
+impl<W: Write + Drop> Script<W> {
+    // The service, behind the last line.
+    fn into_engine(self) -> Engine {
+        let Script { session, .. } = self;
+        let Session { engine, .. } = session;
+        engine
+    }
+}
+
+// Runs a script from the input on a service, and gives what it has become.
 fn run_on<I: Read, W: Write + Drop>(
     alloc: Global,
-    options: RunOptions,
+    engine: Engine,
+    show: bool,
     input: &mut I,
     output: W,
-) -> Result<(), Fault> {
+) -> Result<Engine, Fault> {
     let mut buffer = Vec::new(alloc);
     buffer.resize(PIECE, 0u8)?;
     let mut script = Script {
         session: Session {
             alloc,
-            engine: Engine::with_limit(alloc, u32::from(options.limit.get()))?,
-            show: options.show,
+            engine,
+            show,
             output,
             text: Vec::new(alloc),
             lines: 0,
@@ -178,23 +187,24 @@ fn run_on<I: Read, W: Write + Drop>(
         part: Vec::new(alloc),
     };
     let ended = run_pieces(input, buffer.as_mut_slice(), &mut script);
-    if ended == Err(Fault::CannotWriteOutput) {
-        return ended;
+    if ended != Err(Fault::CannotWriteOutput) {
+        script.session.send()?;
     }
-    script.session.send()?;
-    ended
+    ended?;
+    Ok(script.into_engine())
 }
 
-/// Runs a script from the input on a new service, and writes its answers to the output. The first fault ends it; the
-/// answers before it are written.
+/// Runs a script from the input on a service, writes its answers to the output, and gives what the service has become.
+/// The first fault ends it; the answers before it are written.
 pub(crate) fn run_script<I: Read, O: Write>(
     alloc: Global,
-    options: RunOptions,
+    engine: Engine,
+    show: bool,
     input: &mut I,
     output: &mut O,
-) -> Result<(), Fault> {
+) -> Result<Engine, Fault> {
     match BufWriter::with_capacity(alloc, PIECE, output) {
         Err(_) => Err(Fault::OutOfMemory),
-        Ok(output) => run_on(alloc, options, input, output),
+        Ok(output) => run_on(alloc, engine, show, input, output),
     }
 }

@@ -1,11 +1,21 @@
 //! Tests of the program as it is called: with words, a reader and two writers.
 
 use crate::run_words;
+use std::fs::Files;
+use std::sync::Wait;
+use std::thread::Threads;
 
 mod commands;
 mod faults;
 mod frames;
+mod images;
+mod sessions;
 mod waiting;
+
+/// What a program may use of its host.
+trait Host: AllocGlobal + Files + Threads + Wait + Sync {}
+
+impl<R: AllocGlobal + Files + Threads + Wait + Sync> Host for R {}
 
 /// What the program printed, what it said on standard error, and its status.
 #[derive(Drop)]
@@ -15,7 +25,7 @@ struct Ended {
     status: u8,
 }
 
-fn run(rt: &HostRuntime, words: &[&str], script: &[u8]) -> Ended {
+fn run<R: Host>(rt: &R, words: &[&str], script: &[u8]) -> Ended {
     let mut input = script;
     let mut output = Vec::new(rt.alloc());
     let mut errors = Vec::new(rt.alloc());
@@ -28,8 +38,8 @@ fn run(rt: &HostRuntime, words: &[&str], script: &[u8]) -> Ended {
 }
 
 /// Whether the program ends so.
-fn ends(
-    rt: &HostRuntime,
+fn ends<R: Host>(
+    rt: &R,
     words: &[&str],
     script: &[u8],
     output: &[u8],

@@ -1,3 +1,4 @@
 pub mod Marks
 pub mod Plans
 pub mod Lists
+pub mod Restored

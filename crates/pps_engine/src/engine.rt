@@ -20,16 +20,16 @@ use std::marker::Model;
 /// The limit of handles that name none, where the engine is made with no other.
 const DEFAULT_LIMIT: u32 = 256;
 
-// Does nothing. Its contract is the law that just the records are held that have to be kept.
-fn are_cut(tables: &Tables)
+/// Does nothing. Its contract is the law that just the records are held that have to be kept.
+pub(crate) fn are_cut(tables: &Tables)
     ensures { HoldsJust tables.now }
 {
     tables.holds_what_is_owed();
     tables.handles().places_rise();
 }
 
-// Nothing is pending any more.
-fn forget(pending: &mut Option<Pending>)
+/// Nothing is pending any more.
+pub(crate) fn forget(pending: &mut Option<Pending>)
     ensures { pending.new ≡ None }
 {
     *pending = None;
@@ -62,10 +62,10 @@ impl Plan {
 /// What stands is held in tables that are changed in place: a message costs what it touches.
 #[derive(Drop)]
 pub struct Engine {
-    alloc: Global,
-    tables: Box<Tables>,
+    pub(crate) alloc: Global,
+    pub(crate) tables: Box<Tables>,
     /// What the latest plan will do, where it is ready.
-    pending: Box<Option<Pending>>,
+    pub(crate) pending: Box<Option<Pending>>,
 }
 
 impl Model for Engine {

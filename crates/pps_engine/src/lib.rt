@@ -4,6 +4,9 @@
 
 mod engine;
 mod private;
+mod restoring;
+mod saving;
 
 pub use engine::{Engine, Plan};
+pub use image_entries::{SavedAttribute, SavedAttributes, SavedEntry};
 pub use private::{BothAnswers, run_both};

@@ -1,49 +1,12 @@
 //! Directories, made at their paths.
 ghost use Rattle.std.specs.Prelude.{◌≡◌, ◌⊎◌, Ok, Err, IfErr, OnOk, OnErr};
 ghost use Rattle.pps_types.specs.declared.refusal.Refusal.TheVariants.{OutOfMemory};
-ghost use Rattle.pps_types.specs.Names as paths;
-ghost use Rattle.pps_types.specs.Content as content;
-ghost use Rattle.pps_types.specs.Checks as checking;
 ghost use Rattle.pps_types.specs.Restore as restoring;
 ghost use Rattle.pps_types.specs.WellFormed.{IsContent};
 ghost use Rattle.engine_tables.specs.Tables.{content_in};
 
-use crate::numbers::passes_last_number;
-use engine_names::{parent, questions_are_told};
 use engine_tables::Tables;
 use pps_types::{Bytes, Refusal};
-
-/// The most directories in one.
-const SUBDIRECTORIES_MAX: usize = 256;
-
-/// The most directories, beside the root.
-const DIRECTORIES_MAX: usize = 65_535;
-
-/// Whether nothing stands at a path, and something can.
-pub(crate) fn check_free(tables: &Tables, path: &[Bytes]) -> Result<(), Refusal>
-    ensures { paths.refusal_of result ≡ paths.new_refusal (content.at (content_in tables.now)) path.now }
-{
-    questions_are_told();
-    match tables.names().place(path) {
-        Err(refusal) => Err(refusal),
-        Ok(Some(_)) => Err(Refusal::Exists),
-        Ok(None) => Ok(()),
-    }
-}
-
-// Whether one more directory can stand at a path.
-fn check_new(tables: &Tables, path: &[Bytes]) -> Result<(), Refusal>
-    ensures { paths.refusal_of result ≡ checking.first_refusal (checking.mkdir_checks (content_in tables.now) path.now) }
-{
-    check_free(tables, path)?;
-    if tables.names().directories_in(parent(path)) >= SUBDIRECTORIES_MAX {
-        return Err(Refusal::TableFull);
-    }
-    if tables.names().directory_count() > DIRECTORIES_MAX {
-        return Err(Refusal::TableFull);
-    }
-    Ok(())
-}
 
 /// Makes a directory at a path.
 ///
@@ -56,8 +19,8 @@ pub fn restore_directory(tables: &mut Tables, path: Vec<Bytes>) -> Result<(), Re
     ensures refused { IfErr result (λ r. (restoring.restore_directory (content_in tables.old) path.items ≡ Err r) ⊎ (r ≡ OutOfMemory)) }
     ensures kept { OnErr result (content_in tables.new ≡ content_in tables.old) }
 {
-    check_new(tables, &path)?;
-    if passes_last_number(tables, 0, 0, 1) {
+    tables.check_new_directory(&path)?;
+    if tables.passes_last_number(0, 0, 1) {
         return Err(Refusal::TableFull);
     }
     let Ok(()) = tables.make_directory_ready(&path) else {

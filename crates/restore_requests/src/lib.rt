@@ -2,8 +2,9 @@
 #![tactic(auto)]
 
 mod directories;
-mod numbers;
+mod lines;
 mod objects;
 
 pub use directories::restore_directory;
+pub use lines::restore_line;
 pub use objects::restore_object;

@@ -1,7 +1,9 @@
 //! Tests of the service: the engine's calls, how much it keeps and owes, full directories, refused requests for memory,
-//! and streams of frames.
+//! streams of frames, what images restore and save, and books.
 #![tactic(auto)]
 
+#[cfg(test)]
+mod books;
 #[cfg(test)]
 mod calls;
 #[cfg(test)]
@@ -10,6 +12,8 @@ mod crowds;
 mod debts;
 #[cfg(test)]
 mod frames;
+#[cfg(test)]
+mod images;
 #[cfg(test)]
 mod private;
 #[cfg(test)]

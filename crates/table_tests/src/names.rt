@@ -2,7 +2,7 @@
 ghost use Rattle.std.specs.Prelude.{◌≡◌, ◌∷◌, [], IfOk};
 
 use alloc_tree::Member;
-use engine_names::{Names, members_are_listed, moves_are_told};
+use engine_names::{Names, last_name, members_are_listed, moves_are_told, parent};
 use pps_types::{Bytes, DirId, Found, Line, ObjId, Refusal};
 use std::alloc::{AllocError, Global};
 use std::test::Fail;
@@ -34,6 +34,15 @@ fn create(names: &mut Names, alloc: Global, name: &[u8]) -> Result<Option<ObjId>
         return Ok(Some(names.create(path, root, true, None)));
     }
     Ok(None)
+}
+
+#[test]
+fn a_path_ends_in_its_last_name(rt: HostRuntime) -> Result<(), Fail> {
+    let path = path_of(rt.alloc(), b"gps")?;
+    assert_eq!(rt; last_name(&path), b"gps".as_slice());
+    assert!(rt; parent(&path).is_empty());
+    assert!(rt; last_name(&[]).is_empty());
+    Ok(())
 }
 
 #[test]

@@ -1,6 +1,6 @@
 use engine_tables::Tables;
 use notify_box::Outbox;
-use pps_types::{Bytes, Conn, DirId, Found};
+use pps_types::{Bytes, Conn, DirId, Found, Refusal};
 use std::alloc::{AllocError, Global};
 use std::test::Fail;
 
@@ -19,6 +19,17 @@ fn a_new_service_has_the_root(rt: HostRuntime) -> Result<(), Fail> {
     assert_eq!(rt; tables.names().directory_count(), 1);
     assert_eq!(rt; tables.handles().next(), 7);
     assert!(rt; tables.connections().is_empty());
+    Ok(())
+}
+
+#[test]
+fn places_and_numbers_are_free(rt: HostRuntime) -> Result<(), Fail> {
+    let tables = Tables::new(rt.alloc(), 1, 256)?;
+    let free = path(rt.alloc(), b"cars")?;
+    assert_eq!(rt; tables.check_free(&free), Ok(()));
+    assert_eq!(rt; tables.check_free(&[]), Err(Refusal::Exists));
+    assert_eq!(rt; tables.check_new_directory(&free), Ok(()));
+    assert!(rt; !tables.passes_last_number(1, 1, 1));
     Ok(())
 }
 

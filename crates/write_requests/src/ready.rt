@@ -9,12 +9,10 @@ ghost use Rattle.engine_names.specs.Standing.{known_of, placed_at};
 ghost use Rattle.engine_tables.specs.Tables.{content_in};
 ghost use Rattle.engine_tables.specs.Beginning.{moves_of, AreReady};
 ghost use Rattle.engine_tables.specs.Lines.{HasLines};
-ghost use Rattle.open_handles.specs.Whole.{HasRoom, IsShared};
 ghost use Rattle.write_requests.specs.Writes.{late_refusal, HasLinesAt, told_by, tells, is_past};
 
 use crate::draft::Draft;
 use engine_tables::{Beginning, Tables, record_of};
-use open_handles::Told;
 use pps_types::{Handle, Kind, ObjId, Refusal};
 use server_queue::Entry;
 use std::alloc::{AllocError, Global};
@@ -78,19 +76,6 @@ fn is_last(tables: &Tables) -> bool
     tables.records() == u64::MAX
 }
 
-// Takes the memory for a record that is to be told.
-fn told(tables: &mut Tables, alloc: Global, entry: Entry) -> Result<Told, Refusal>
-    ensures content { content_in tables.new ≡ content_in tables.old }
-    ensures names { tables.new.names ≡ tables.old.names }
-    ensures entry { IfOk result (λ told. told.entry ≡ entry) }
-    ensures room { IfOk result (λ told. HasRoom (told.entry ∷ []) tables.new.handles) }
-    ensures shared { IfOk result (λ told. IsShared told.count told.entry tables.new.handles) }
-    ensures err { IfErr result (λ r. r ≡ OutOfMemory) }
-{
-    tables.records_ready(std::slice::from_ref(&entry))?;
-    Ok(tables.handles().shares(alloc, entry)?)
-}
-
 /// Takes the memory for what a write begins with: its record, if it has one. What stands stays.
 ///
 /// It is TableFull where the record would be past the last number. Else OutOfMemory is the only error.
@@ -113,7 +98,7 @@ pub(crate) fn begun(
     if is_last {
         return Err(Refusal::TableFull);
     }
-    let told = told(tables, alloc, entry)?;
+    let told = tables.tell_ready(alloc, entry)?;
     let mut beginning = Vec::with_capacity(alloc, 1)?;
     beginning.push_reserved(Beginning::Happens(told));
     Ok(beginning)

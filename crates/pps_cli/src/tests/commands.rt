@@ -48,11 +48,17 @@ fn other_words_are_a_bad_command_line(rt: HostRuntime) -> Result<(), Fail> {
         &["pps", "-V"],
         &["pps", "help"],
         &["pps", "walk"],
-        &["pps", "serve", "--workers", "2", "a"],
+        &["pps", "serve"],
+        &["pps", "serve", "--workers", "2"],
+        &["pps", "serve", "--workers", "0", "a"],
+        &["pps", "serve", "--workers", "9", "a"],
+        &["pps", "serve", "a"],
         &["pps", "run", "more"],
         &["pps", "run", "--version"],
-        &["pps", "run", "--image", "a"],
-        &["pps", "run", "--save", "a"],
+        &["pps", "run", "--image"],
+        &["pps", "run", "--image", "a", "--limit", "3"],
+        &["pps", "run", "--image", "a", "--image", "a"],
+        &["pps", "run", "--save", "a", "--save", "b"],
         &["pps", "run", "--show", "--show"],
         &["pps", "run", "--limit"],
         &["pps", "run", "--limit", "0"],
@@ -63,6 +69,7 @@ fn other_words_are_a_bad_command_line(rt: HostRuntime) -> Result<(), Fail> {
         &["pps", "frames", "more"],
         &["pps", "frames", "--show"],
         &["pps", "frames", "--limit", "0"],
+        &["pps", "frames", "--image", "a", "--limit", "3"],
     ] {
         assert!(rt;
             ends(

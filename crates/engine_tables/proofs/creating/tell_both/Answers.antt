@@ -1,5 +1,5 @@
-use Rattle.std.specs.Prelude.{◌≡◌, ◌≤◌, ℕ, List, [], ◌∷◌, map, filter, length}
-use Rattle.std.proofs.Common.{refl, sym, ◌∙◌, ap, subst, inl, le_refl}
+use Rattle.std.specs.Prelude.{◌≤◌, [], ◌∷◌, filter, length}
+use Rattle.std.proofs.Common.{sym, ◌∙◌, ap, subst, inl, le_refl}
 use Rattle.pps_types.specs.Reading.{Open, visible}
 use Rattle.pps_types.specs.Rests.{Seen}
 use Rattle.open_handles.specs.Whole.{is_on, handles_in, handles_at}

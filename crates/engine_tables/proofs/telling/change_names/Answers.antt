@@ -1,4 +1,4 @@
-use Rattle.std.proofs.Common.{◌≡◌, sym, ◌∙◌, ap}
+use Rattle.std.proofs.Common.{sym, ◌∙◌, ap}
 use Rattle.engine_names.specs.Standing.{standing_of, happened}
 use Rattle.engine_tables.proofs.Tells.{unchanged_by}
 use Rattle.engine_tables.proofs.telling.change_names.Goals as goal

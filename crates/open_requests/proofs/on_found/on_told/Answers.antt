@@ -14,16 +14,16 @@ use Rattle.open_requests.proofs.on_found.on_told.Goals as goal
 
 pub returns-clause-moves : goal.returns-clause-moves
 returns-clause-moves c =
-    subst (λ (o : Opens). IfSome (object_numbered (content_in c.args.tables.now) c.args.object) (λ known. moves_of o c.told.new.tables ≡ Happens (entry_of known.object c.args.kind None) ∷ opens_at (FoundObject c.args.object) c.args.tables.now c.args.opening)) (sym c.opens_on.ensures)
-    (told_moved c.args.tables.now c.open_ready.new.self c.told.new.tables c.push.new.self c.in_ok-told.told c.args.object c.args.kind c.args.opening c.in_ok-entry.entry
+    subst (λ (o : Opens). IfSome (object_numbered (content_in c.args.tables.now) c.args.object) (λ known. moves_of o c.tell_ready.new.self ≡ Happens (entry_of known.object c.args.kind None) ∷ opens_at (FoundObject c.args.object) c.args.tables.now c.args.opening)) (sym c.opens_on.ensures)
+    (told_moved c.args.tables.now c.open_ready.new.self c.tell_ready.new.self c.push.new.self c.in_ok-told.told c.args.object c.args.kind c.args.opening c.in_ok-entry.entry
     (c.in_ok-push.ensures.items ∙ ap (λ (xs : List Beginning). xs ++ HappensTo c.in_ok-told.told ∷ []) c.new-beginning.ensures.items)
-    c.in_ok-told.ensures.entry c.in_ok-entry.ensures.ok c.open_ready.ensures.kept c.told.ensures.kept)
+    c.in_ok-told.ensures.entry c.in_ok-entry.ensures.ok c.open_ready.ensures.kept c.tell_ready.ensures.kept)
 
 pub returns-clause-ready : goal.returns-clause-ready
 returns-clause-ready c =
-    subst (λ (o : Opens). IsReady o c.told.new.tables) (sym c.opens_on.ensures)
-    (told_ready c.args.tables.now c.open_ready.new.self c.told.new.tables c.push.new.self c.in_ok-told.told c.args.conn c.args.object c.args.kind c.args.opening c.in_ok-entry.entry
+    subst (λ (o : Opens). IsReady o c.tell_ready.new.self) (sym c.opens_on.ensures)
+    (told_ready c.args.tables.now c.open_ready.new.self c.tell_ready.new.self c.push.new.self c.in_ok-told.told c.args.conn c.args.object c.args.kind c.args.opening c.in_ok-entry.entry
     (c.in_ok-push.ensures.items ∙ ap (λ (xs : List Beginning). xs ++ HappensTo c.in_ok-told.told ∷ []) c.new-beginning.ensures.items)
-    c.open_ready.ensures.content c.told.ensures.content c.requires.able c.requires.connection c.requires.number c.requires.last
-    c.in_ok-told.ensures.entry c.in_ok-entry.ensures.ok c.open_ready.ensures.kept c.told.ensures.kept
+    c.open_ready.ensures.content c.tell_ready.ensures.content c.requires.able c.requires.connection c.requires.number c.requires.last
+    c.in_ok-told.ensures.entry c.in_ok-entry.ensures.ok c.open_ready.ensures.kept c.tell_ready.ensures.kept
     c.in_ok-open_ready.ensures.room c.in_ok-open_ready.ensures.place c.in_ok-open_ready.ensures.connection c.in_ok-told.ensures.room c.in_ok-told.ensures.shared)

@@ -1,6 +1,5 @@
-use Rattle.std.specs.Prelude.{◌≡◌, List, ◌∷◌}
-use Rattle.std.proofs.Common.{subst, ap}
-use Rattle.engine_tables.specs.declared.beginning.Beginning.{Beginning}
+use Rattle.std.specs.Prelude.{◌∷◌}
+use Rattle.std.proofs.Common.{subst}
 use Rattle.engine_tables.specs.Beginning.{AreReady}
 use Rattle.engine_tables.proofs.Ready.{closed_ready, happened_ready}
 use Rattle.engine_tables.proofs.tables.Tables.begin.Goals as goal

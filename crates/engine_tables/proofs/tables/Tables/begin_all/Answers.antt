@@ -1,4 +1,3 @@
-use Rattle.std.specs.Prelude.{◌≡◌, ◌∷◌}
 use Rattle.std.proofs.Common.{subst}
 use Rattle.engine_tables.specs.Beginning.{AreReady}
 use Rattle.engine_tables.proofs.Ready.{first_ready}

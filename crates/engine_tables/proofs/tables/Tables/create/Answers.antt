@@ -1,13 +1,12 @@
-use Rattle.std.specs.Prelude.{◌≡◌, ◌+◌, ℕ, List, [], ◌∷◌, Some, is_some, map, option_map}
+use Rattle.std.specs.Prelude.{◌≡◌, ◌+◌, [], ◌∷◌, Some, map, option_map}
 use Rattle.std.proofs.Common.{refl, sym, ◌∙◌, ap, subst}
 use Rattle.pps_types.specs.declared.found.Found.TheVariants.{Object as FoundObject}
-use Rattle.pps_types.specs.Names.{last_name}
 use Rattle.pps_types.specs.Content.{Known}
 use Rattle.pps_types.specs.WellFormed.{AreRising}
 use Rattle.pps_types.specs.Plan as planning
 use Rattle.open_handles.specs.Whole.{site_of, site_at, handles_in}
 use Rattle.engine_tables.specs.Tables.{content_in}
-use Rattle.engine_tables.specs.Objects.{object_of, new_object}
+use Rattle.engine_tables.specs.Objects.{new_object}
 use Rattle.engine_tables.proofs.Ties.{Step}
 use Rattle.engine_tables.proofs.Comes.{created_step}
 use Rattle.engine_tables.specs.contracts.tables.Tables.{the_view}

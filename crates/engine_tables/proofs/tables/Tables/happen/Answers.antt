@@ -1,5 +1,5 @@
-use Rattle.std.specs.Prelude.{◌≡◌, ◌+◌, ℕ, [], ◌∷◌, Bool, true}
-use Rattle.std.proofs.Common.{sym, ◌∙◌, ap, subst}
+use Rattle.std.specs.Prelude.{◌≡◌, ◌+◌, [], ◌∷◌}
+use Rattle.std.proofs.Common.{sym, ◌∙◌, ap}
 use Rattle.pps_types.specs.declared.found.Found.TheVariants.{Object as FoundObject, Directory as FoundDirectory}
 use Rattle.pps_types.specs.Plan as planning
 use Rattle.engine_names.specs.Standing.{standing_of, happened}

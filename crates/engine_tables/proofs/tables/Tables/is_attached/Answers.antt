@@ -1,4 +1,3 @@
-use Rattle.std.specs.Prelude.{◌≡◌}
 use Rattle.std.proofs.Common.{◌∙◌, ap}
 use Rattle.pps_types.specs.Content as content
 use Rattle.engine_connections.specs.Standing.{is_attached}

@@ -1,5 +1,5 @@
-use Rattle.std.specs.Prelude.{◌≡◌, ◌+◌, ℕ, List, [], ◌∷◌, map, option_map, Some, false}
-use Rattle.std.proofs.Common.{refl, sym, ◌∙◌, ap, subst}
+use Rattle.std.specs.Prelude.{◌≡◌, ◌+◌, [], ◌∷◌, map, option_map, Some, false}
+use Rattle.std.proofs.Common.{sym, ◌∙◌, ap, subst}
 use Rattle.pps_types.specs.declared.found.Found.TheVariants.{Directory as FoundDirectory}
 use Rattle.pps_types.specs.Content.{Directory}
 use Rattle.pps_types.specs.WellFormed.{AreRising}
@@ -7,7 +7,7 @@ use Rattle.pps_types.specs.Plan as planning
 use Rattle.open_handles.specs.Whole.{site_of, site_at}
 use Rattle.engine_tables.specs.Tables.{content_in}
 use Rattle.engine_tables.proofs.Ties.{Step, moved_from}
-use Rattle.engine_tables.proofs.Comes.{made_step, removed_step}
+use Rattle.engine_tables.proofs.Comes.{made_step}
 use Rattle.engine_tables.specs.contracts.tables.Tables.{the_view}
 use Rattle.engine_tables.proofs.tables.Tables.make_directory.Goals as goal
 

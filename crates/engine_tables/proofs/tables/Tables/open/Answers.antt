@@ -1,15 +1,14 @@
-use Rattle.std.specs.Prelude.{◌≡◌, ◌+◌, ◌<◌, ℕ, [], ◌∷◌, false}
+use Rattle.std.specs.Prelude.{◌≡◌, ◌+◌, ◌<◌, [], ◌∷◌}
 use Rattle.std.specs.List.{AllByRecursion}
 use Rattle.std.proofs.Common.{refl, sym, ◌∙◌, ap, subst}
-use Rattle.pps_types.specs.Content as content
 use Rattle.pps_types.specs.Plan as planning
 use Rattle.engine_targets.specs.Opened.{opened, number_of}
 use Rattle.open_handles.specs.Whole.{name_at}
-use Rattle.engine_connections.specs.Standing.{handles_of, is_attached}
+use Rattle.engine_connections.specs.Standing.{handles_of}
 use Rattle.connection_laws.specs.Connections.{connections_of}
 use Rattle.engine_tables.specs.Tables.{content_in}
-use Rattle.engine_tables.proofs.Ties.{Step, moved_from}
-use Rattle.engine_tables.proofs.Comes.{numbers_below, opened_step, attached_step, left_step}
+use Rattle.engine_tables.proofs.Ties.{Step}
+use Rattle.engine_tables.proofs.Comes.{numbers_below, opened_step}
 use Rattle.engine_tables.specs.contracts.tables.Tables.{the_view}
 use Rattle.engine_tables.proofs.tables.Tables.open.Goals as goal
 

@@ -1,4 +1,4 @@
-use Rattle.std.proofs.Common.{refl, ap}
+use Rattle.std.proofs.Common.{refl}
 use Rattle.engine_tables.proofs.Ties.{roomed}
 use Rattle.engine_tables.specs.contracts.tables.Tables.{the_view}
 use Rattle.engine_tables.proofs.tables.Tables.open_ready.Goals as goal

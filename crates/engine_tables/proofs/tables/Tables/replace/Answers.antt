@@ -1,12 +1,10 @@
-use Rattle.std.specs.Prelude.{◌≡◌, ◌+◌, ℕ, List, [], ◌∷◌, Option, Some, is_some, map, option_map, IsSomeAnd, IfSome}
+use Rattle.std.specs.Prelude.{◌≡◌, ◌+◌, [], ◌∷◌, Some, map, option_map, IsSomeAnd, IfSome}
 use Rattle.std.proofs.Common.{refl, sym, ◌∙◌, ap, subst, arith}
 use Rattle.pps_types.specs.declared.found.Found.TheVariants.{Object as FoundObject, Directory as FoundDirectory}
 use Rattle.pps_types.specs.declared.record.Kind.TheVariants.{Deleted}
-use Rattle.pps_types.specs.Content.{Known}
 use Rattle.pps_types.specs.Plan as planning
 use Rattle.engine_names.specs.Standing.{Placed, placed_at, standing_of, happened, after}
 use Rattle.open_handles.specs.Whole.{site_of, site_at, handles_in}
-use Rattle.engine_tables.specs.Tables.{content_in}
 use Rattle.engine_tables.specs.Lines.{deletes}
 use Rattle.engine_tables.specs.Objects.{CanReplace, replacing_object}
 use Rattle.engine_tables.specs.Tied.{Moves}

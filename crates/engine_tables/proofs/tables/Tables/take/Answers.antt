@@ -1,18 +1,12 @@
-use Rattle.std.specs.Prelude.{◌≡◌, ℕ, List, [], ◌∷◌, Some, None, Option, option_map, is_some, true}
-use Rattle.std.proofs.Common.{refl, sym, ◌∙◌, ap, subst}
+use Rattle.std.specs.Prelude.{[], ◌∷◌}
+use Rattle.std.proofs.Common.{refl}
 use Rattle.pps_types.specs.Plan as planning
-use Rattle.pps_types.specs.Reading.{Open}
-use Rattle.pps_types.specs.Rests.{Seen}
-use Rattle.pps_types.specs.Content.{own_handle}
-use Rattle.engine_connections.specs.Standing.{Standing, with_outbox, with_handles, parked_ended}
-use Rattle.pps_types.specs.Outbox.{fired_in, finished_in, disarmed, with_pulse, with_parked, behind_first}
-use Rattle.engine_tables.specs.Tables.{Tabled, content_in}
-use Rattle.engine_tables.specs.Moves.{closing, firing, finishing}
+use Rattle.engine_connections.specs.Standing.{with_outbox}
+use Rattle.pps_types.specs.Outbox.{behind_first}
+use Rattle.engine_tables.specs.Tables.{content_in}
 use Rattle.engine_tables.proofs.Ties.{Step, both_stepped, moved_from, sites_same}
 use Rattle.engine_tables.specs.contracts.tables.Tables.{the_view}
 use Rattle.engine_tables.proofs.Waits.{taken_aside}
-use Rattle.settling_laws.specs.Told.{HandlesRise}
-use Rattle.open_handles.specs.Whole.{KeepsSites}
 use Rattle.engine_tables.proofs.tables.Tables.take.Goals as goal
 
 step : (c : goal.Joined-item) → Step (planning.Takes c.args.conn ∷ []) (the_view c.self.inside) (record (the_view c.self.inside) { handles = c.self.inside.handles; connections = c.take-item.new.self })

@@ -1,0 +1,7 @@
+//! Tests of workers and of the sessions that they serve.
+#![tactic(auto)]
+
+#[cfg(test)]
+mod gates;
+#[cfg(test)]
+mod sessions;

@@ -1,0 +1,4 @@
+pub mod Persistent
+pub mod Unique
+pub mod Apart
+pub mod Saved

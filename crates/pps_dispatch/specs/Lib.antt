@@ -1,0 +1,4 @@
+pub mod RunQueue
+pub mod Sessions
+pub mod History
+pub mod Search

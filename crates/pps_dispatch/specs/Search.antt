@@ -1,0 +1,85 @@
+-- What is found of the sessions, as the entries of the history are gone through.
+use Rattle.std.specs.Prelude.{◌≡◌, ℕ, ◌<◌, Bool, true, List, [], ◌++◌, length, slice_index_or, drop, Some, IsSome}
+use Rattle.std.specs.List.{list_all}
+use Rattle.std.specs.Ordering.{nat_cmp}
+use Rattle.std.specs.BTreeMap.{BTreeMap, get}
+use Rattle.pps_types.specs.declared.event.Event.{Event}
+use Rattle.pps_types.specs.Runs.{Answered}
+use Rattle.pps_lock.specs.declared.book.Receipt.{Receipt}
+use Rattle.pps_lock.specs.Trace.{Piece}
+use Rattle.pps_dispatch.specs.declared.history.Found.{Found}
+use Rattle.pps_dispatch.specs.Sessions.{Conversation, is_known}
+use Rattle.pps_dispatch.specs.History.{joined, asked_by, frames_for, named_in, named_for}
+
+-- ---- sessions by their connections
+
+-- The map knows the first sessions, so many of them: each number in it is that of a session with this connection, and each
+-- connection of theirs has one.
+pub record Knows (numbers : BTreeMap ℕ ℕ) (sessions : List Conversation) (count : ℕ) : Type 0 where
+  pub bound : (c k : ℕ) → get nat_cmp numbers c ≡ Some k → k < count
+  pub own : (c k : ℕ) (d : Conversation) → get nat_cmp numbers c ≡ Some k → (slice_index_or sessions k d).connection ≡ c
+  pub each : (k : ℕ) (d : Conversation) → k < count → IsSome (get nat_cmp numbers (slice_index_or sessions k d).connection)
+
+-- ---- of one session
+
+-- nothing has been found
+abbrev pub not_begun : Found
+not_begun = record { messages = 0; bytes = 0 }
+
+-- what has not been found so far
+pub record Left : Type 0 where
+  pub events : List Event
+  pub receipts : List Receipt
+  pub replies : List ℕ
+
+abbrev pub nothing_left : Left
+nothing_left = record { events = []; receipts = []; replies = [] }
+
+-- what is left of the messages of the one session and of what the other was answered, behind what was found
+abbrev pub left_of : Conversation → Conversation → Found → Left
+left_of asked answered found = record {
+  events = drop found.messages asked.events;
+  receipts = drop found.messages answered.receipts;
+  replies = drop found.bytes answered.replies;
+}
+
+-- between the one and the other these entries are found, the first of which is at that index of its segment
+pub record Finds (c number index : ℕ) (xs : List Answered) (before after : Left) : Type 0 where
+  pub events : before.events ≡ asked_by c xs ++ after.events
+  pub receipts : before.receipts ≡ named_in c number index xs ++ after.receipts
+  pub replies : before.replies ≡ frames_for c xs ++ after.replies
+
+-- these segments are found
+pub record FindsAll (c : ℕ) (ps : List Piece) (before after : Left) : Type 0 where
+  pub events : before.events ≡ asked_by c (joined ps) ++ after.events
+  pub receipts : before.receipts ≡ named_for c ps ++ after.receipts
+  pub replies : before.replies ≡ frames_for c (joined ps) ++ after.replies
+
+-- ---- of all sessions
+
+-- the same of the sessions at that place
+abbrev pub left_at : List Conversation → List Conversation → List Found → ℕ → Conversation → Found → Left
+left_at asked answered found k d f = left_of (slice_index_or asked k d) (slice_index_or answered k d) (slice_index_or found k f)
+
+-- whether each entry is of a session's connection
+abbrev pub are_known : List Conversation → List Answered → Bool
+are_known sessions xs = list_all (λ x. is_known sessions x.event.conn) xs
+
+-- these entries are found, each of them in one of the sessions
+pub record FindsEach (asked answered : List Conversation) (before after : List Found) (number index : ℕ) (xs : List Answered) : Type 0 where
+  pub count : length after ≡ length before
+  pub known : are_known asked xs ≡ true
+  pub each : (k : ℕ) (d : Conversation) (f : Found) → k < length asked
+      → Finds (slice_index_or asked k d).connection number index xs (left_at asked answered before k d f) (left_at asked answered after k d f)
+
+-- these segments are found
+pub record FindsSegments (asked answered : List Conversation) (before after : List Found) (ps : List Piece) : Type 0 where
+  pub count : length after ≡ length before
+  pub known : are_known asked (joined ps) ≡ true
+  pub each : (k : ℕ) (d : Conversation) (f : Found) → k < length asked
+      → FindsAll (slice_index_or asked k d).connection ps (left_at asked answered before k d f) (left_at asked answered after k d f)
+
+-- the sessions, as many of them, have the same connections, and nothing of them is left
+pub record AreFound (asked answered : List Conversation) (found : List Found) (count : ℕ) : Type 0 where
+  pub connections : (k : ℕ) (d : Conversation) → k < count → (slice_index_or answered k d).connection ≡ (slice_index_or asked k d).connection
+  pub nothing : (k : ℕ) (d : Conversation) (f : Found) → k < count → left_at asked answered found k d f ≡ nothing_left

@@ -1,0 +1,26 @@
+//! Workers that serve many sessions around one book, and the one history of what they did.
+#![tactic(auto)]
+
+mod alike;
+mod fault;
+mod gate;
+mod history;
+mod message;
+mod run_queue;
+mod serving;
+mod session;
+mod session_index;
+mod shared_book;
+mod work;
+
+pub use fault::ServeError;
+pub use gate::Gate;
+pub use history::joined_segments_replay;
+pub use run_queue::{
+    EachOnce, PutIn, QueuePass, RunQueue, SessionCount, Shares, TakenOut, fill, join_to, new_queue,
+    none_stands_twice, put_in, split_off, take_out,
+};
+pub use serving::{Served, serve};
+pub use session::{Session, distinct};
+pub use shared_book::SharedBook;
+pub use work::{Worked, fan_out, worker};

@@ -1,0 +1,86 @@
+//! The calls that restore an image.
+ghost use Rattle.std.specs.Prelude.{◌≡◌, ◌⊎◌, [], true, Ok, Err, None, IfErr, OnOk, OnErr};
+ghost use Rattle.pps_types.specs.declared.refusal.Refusal.TheVariants.{OutOfMemory};
+ghost use Rattle.pps_types.specs.Image.{SavedLine, as_line};
+ghost use Rattle.pps_types.specs.OpenText.{are_names};
+ghost use Rattle.pps_types.specs.Restore as restoring;
+ghost use Rattle.pps_engine.specs.Serving.{IsExact};
+
+use crate::engine::{Engine, are_cut, forget};
+use image_laws::restoring_stays;
+use pps_types::{Bytes, Line, Refusal};
+
+impl Engine {
+    /// Makes a directory at a path, in a service of which nobody has a handle. The path is as the formats allow.
+    ///
+    /// It is NotFound or NotDirectory where the path leads nowhere, Exists where something stands there, and TableFull
+    /// where 256 directories stand in the one above, where there are 65,536 directories, and where the directory would
+    /// pass the last number. Else OutOfMemory is the only error. After an error all is as it was. A plan before it is no
+    /// longer ready.
+    pub fn restore_directory(&mut self, path: Vec<Bytes>) -> Result<(), Refusal>
+        requires unused { self.old.content.handles ≡ [] }
+        requires path { are_names path.items ≡ true }
+        ensures done { OnOk result (restoring.restore_directory self.old.content path.items ≡ Ok self.new.content) }
+        ensures refused { IfErr result (λ r. (restoring.restore_directory self.old.content path.items ≡ Err r) ⊎ (r ≡ OutOfMemory)) }
+        ensures kept { OnErr result (self.new.content ≡ self.old.content) }
+        ensures ready { self.new.next ≡ None }
+        ensures unused { self.new.content.handles ≡ [] }
+        ensures cut { IsExact self.new }
+    {
+        forget(&mut self.pending);
+        restoring_stays();
+        let restored = restore_requests::restore_directory(&mut self.tables, path);
+        are_cut(&self.tables);
+        restored
+    }
+
+    /// Creates an object without attributes at a path, persistent and plain, in a service of which nobody has a handle.
+    /// The path is as the formats allow.
+    ///
+    /// It is NotFound or NotDirectory where the path leads nowhere, Exists where something stands there, and TableFull
+    /// where 256 objects stand in the directory, where there are 65,535 objects, and where the object or its record would
+    /// pass the last number. Else OutOfMemory is the only error. After an error all is as it was. A plan before it is no
+    /// longer ready.
+    pub fn restore_object(&mut self, path: Vec<Bytes>) -> Result<(), Refusal>
+        requires unused { self.old.content.handles ≡ [] }
+        requires path { are_names path.items ≡ true }
+        ensures done { OnOk result (restoring.restore_object self.old.content path.items ≡ Ok self.new.content) }
+        ensures refused { IfErr result (λ r. (restoring.restore_object self.old.content path.items ≡ Err r) ⊎ (r ≡ OutOfMemory)) }
+        ensures kept { OnErr result (self.new.content ≡ self.old.content) }
+        ensures ready { self.new.next ≡ None }
+        ensures unused { self.new.content.handles ≡ [] }
+        ensures cut { IsExact self.new }
+    {
+        forget(&mut self.pending);
+        restoring_stays();
+        let alloc = self.alloc;
+        let restored = restore_requests::restore_object(&mut self.tables, alloc, path);
+        are_cut(&self.tables);
+        restored
+    }
+
+    /// Adds an attribute to the object at a path, by the line that sets it, in a service of which nobody has a handle.
+    /// The line is one that an image has: it sets a persistent attribute.
+    ///
+    /// It is NotFound or NotDirectory where the path leads nowhere, IsDirectory where a directory stands there, Exists
+    /// where the object has an attribute of that name, TooLarge where it would pass a limit of objects, and TableFull
+    /// where the record would pass the last number. Else OutOfMemory is the only error. After an error all is as it was.
+    /// A plan before it is no longer ready.
+    pub fn restore_line(&mut self, path: &[Bytes], line: Line) -> Result<(), Refusal>
+        requires unused { self.old.content.handles ≡ [] }
+        requires line { (l : SavedLine) × (line ≡ as_line l) }
+        ensures done { OnOk result (restoring.restore_line self.old.content path.now line ≡ Ok self.new.content) }
+        ensures refused { IfErr result (λ r. (restoring.restore_line self.old.content path.now line ≡ Err r) ⊎ (r ≡ OutOfMemory)) }
+        ensures kept { OnErr result (self.new.content ≡ self.old.content) }
+        ensures ready { self.new.next ≡ None }
+        ensures unused { self.new.content.handles ≡ [] }
+        ensures cut { IsExact self.new }
+    {
+        forget(&mut self.pending);
+        restoring_stays();
+        let alloc = self.alloc;
+        let restored = restore_requests::restore_line(&mut self.tables, alloc, path, line);
+        are_cut(&self.tables);
+        restored
+    }
+}

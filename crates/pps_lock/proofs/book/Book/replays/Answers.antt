@@ -1,0 +1,6 @@
+use Rattle.std.proofs.Common.{sym}
+use Rattle.pps_types.proofs.StandsLaw.{runs-stand}
+use Rattle.pps_lock.proofs.book.Book.replays.Goals as goal
+
+pub returns-clause-runs : goal.returns-clause-runs
+returns-clause-runs c = rw (sym c.self.view_is) (runs-stand _ _ _ c.self.invariant.replays.seen)

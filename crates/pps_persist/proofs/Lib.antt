@@ -1,0 +1,9 @@
+pub mod Orders
+pub mod Restored
+pub mod Added
+pub mod Judging
+pub mod Taken
+pub mod SavedPaths
+pub mod Cuts
+pub mod Inputs
+pub mod Sendings

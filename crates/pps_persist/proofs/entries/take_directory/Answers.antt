@@ -1,0 +1,35 @@
+use Rattle.std.proofs.Common.{◌≡◌, ◌⊎◌, true, ◌+◌, Err, Ok, refl, sym, ap, subst, ◌∙◌}
+use Rattle.std.specs.Prelude.{OnOk, IfErr}
+use Rattle.std.specs.Ordering.{is_lt}
+use Rattle.std.proofs.lemmas.Result.{err_from_is_err_and}
+use Rattle.pps_types.specs.declared.refusal.Refusal.TheVariants.{OutOfMemory}
+use Rattle.pps_types.specs.Names.{Path, path_cmp}
+use Rattle.pps_types.specs.Restore.{restore_directory}
+use Rattle.pps_persist.specs.declared.place.Loaded.{Loaded}
+use Rattle.pps_persist.proofs.Judging.{judged-done, judged-refused, directory-refused}
+use Rattle.pps_persist.proofs.Restored.{not-root, adds-directory, no-directory}
+use Rattle.pps_persist.proofs.entries.take_directory.Goals as goal
+
+pub returns-in_err-judge : goal.returns-in_err-judge
+returns-in_err-judge c =
+    let p = err_from_is_err_and c.from_residual-in_err-judge.result c.from_residual-in_err-judge.ensures.1 in
+    let old = c.args.loaded in
+    let path = c.args.path.items in
+    let behind : is_lt (path_cmp old.last.items path) ≡ true = cc in
+    let names : c.in_ok-names.names.items ≡ path = c.in_ok-names.ensures ∙ c.deref-3.ensures.value in
+    let refused = subst (λ (names : Path). IfErr c.restore_directory.result (λ r. (restore_directory old.engine.content names ≡ Err r) ⊎ (r ≡ OutOfMemory))) names c.restore_directory.ensures.refused in
+    rw p.1
+    (directory-refused old path p.0
+    (λ is r held. no-directory r old held path (c.requires.path (not-root old.last.items path behind)) behind
+    (judged-refused c.restore_directory.result (restore_directory old.engine.content path) (sym c.judge.ensures ∙ c.in_err-judge.was ∙ ap Err (sym p.2 ∙ is)) refused)))
+
+pub returns : goal.returns
+returns c =
+    let old = c.args.loaded in
+    let path = c.args.path.items in
+    let behind : is_lt (path_cmp old.last.items path) ≡ true = cc in
+    let names : c.in_ok-names.names.items ≡ path = c.in_ok-names.ensures ∙ c.deref-3.ensures.value in
+    let done = subst (λ (names : Path). OnOk c.restore_directory.result (restore_directory old.engine.content names ≡ Ok c.restore_directory.new.self.content)) names c.restore_directory.ensures.done in
+    let new : Loaded = record { engine = c.restore_directory.new.self; longest = old.longest; count = old.count + 1; last = c.args.path } in
+    λ r held. adds-directory r old held new path (c.requires.path (not-root old.last.items path behind)) behind
+    (judged-done c.restore_directory.result _ _ (sym c.judge.ensures ∙ c.in_ok-judge.was) done) c.restore_directory.ensures.unused refl refl refl

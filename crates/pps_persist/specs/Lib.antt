@@ -1,0 +1,5 @@
+pub mod Judged
+pub mod Held
+pub mod Begun
+pub mod Loads
+pub mod Sent

@@ -1,0 +1,57 @@
+-- What loading an image reads, and when it answers an error.
+use Rattle.std.specs.Prelude.{◌≡◌, ◌⊎◌, ◌≤◌, ◌+◌, ℕ, min, Bool, true, false, List, ◌++◌, length, Option, Result, Ok, Err}
+use Rattle.std.specs.Io.KnownBytes.{Consumes, IsAtEnd}
+use Rattle.pps_types.specs.Device.{last_count}
+use Rattle.pps_types.specs.Image.{read_image}
+use Rattle.pps_engine.specs.Serving.{Serving}
+use Rattle.pps_persist.specs.declared.errors.LoadError.{LoadError}
+use Rattle.pps_persist.specs.declared.errors.LoadError.TheVariants.{OutOfMemory, BadImage, ReadFault}
+use Rattle.pps_persist.specs.declared.pieces.Reading.{Reading}
+use Rattle.pps_persist.specs.Begun.{IsLoadedFrom, IsReading}
+
+-- The input was read to its end, what was read is an image, and the engine stands for the machine that it starts.
+pub record LoadsImage (from to : Option (List ℕ)) (engine : Serving) : Type 0 where
+  pub bytes : List ℕ
+  pub read : Consumes from to bytes
+  pub ended : IsAtEnd to
+  pub loaded : IsLoadedFrom bytes engine
+
+-- What was read is told to be no image, at this line: whatever follows it, or where the input ends behind it.
+pub record RefusesImage (from to : Option (List ℕ)) (line : ℕ) : Type 0 where
+  pub bytes : List ℕ
+  pub read : Consumes from to bytes
+  pub told : ((more : List ℕ) → read_image (bytes ++ more) ≡ Err line) ⊎ (IsAtEnd to × (read_image bytes ≡ Err line))
+
+-- some bytes were read
+pub record ReadsSome (from to : Option (List ℕ)) : Type 0 where
+  pub bytes : List ℕ
+  pub read : Consumes from to bytes
+
+-- what became of an input
+abbrev pub Loads : Option (List ℕ) → Option (List ℕ) → Result Serving LoadError → Type 0
+Loads from to (Ok engine) = LoadsImage from to engine
+Loads from to (Err (BadImage line)) = RefusesImage from to line
+Loads from to (Err OutOfMemory) = ReadsSome from to
+Loads from to (Err ReadFault) = ReadsSome from to
+
+-- after how many reads an input counts as one that can't be read
+abbrev pub most_reads : ℕ
+most_reads = 4294967295
+
+-- so many reads after others, as far as they are counted
+abbrev pub reads_from : ℕ → ℕ → ℕ
+reads_from n more = min (n + more) last_count
+
+-- a fault is told where the reader failed, or after the last read
+abbrev pub ReadFaultIs : {X : Type 0} → Result X LoadError → (failed : Bool) → (reads_old reads_new : ℕ) → Type 0
+ReadFaultIs (Ok x) failed old new = failed ≡ false
+ReadFaultIs (Err OutOfMemory) failed old new = failed ≡ false
+ReadFaultIs (Err (BadImage line)) failed old new = failed ≡ false
+ReadFaultIs (Err ReadFault) failed old new = (failed ≡ true) ⊎ (new ≡ reads_from old most_reads)
+
+-- so far: these bytes were read, at most so many
+pub record Gone (from to : Option (List ℕ)) (s : Reading) (most : ℕ) : Type 0 where
+  pub taken : List ℕ
+  pub read : Consumes from to taken
+  pub is : IsReading taken s
+  pub few : length taken ≤ most

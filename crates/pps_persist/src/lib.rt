@@ -1,0 +1,16 @@
+//! Images of the service: loaded and saved, exactly.
+#![tactic(auto)]
+
+mod entries;
+mod errors;
+mod lines;
+mod loading;
+mod order;
+mod output;
+mod pieces;
+mod place;
+mod saving;
+
+pub use errors::{LoadError, SaveError};
+pub use loading::load;
+pub use saving::save;

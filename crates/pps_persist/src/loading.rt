@@ -1,0 +1,45 @@
+//! Images, loaded.
+ghost use Rattle.std.specs.Prelude.{◌≡◌, false};
+ghost use Rattle.pps_types.specs.Device.{device_inner, device_failed, device_reads};
+ghost use Rattle.pps_persist.specs.Loads.{Loads, ReadFaultIs};
+
+use crate::errors::LoadError;
+use crate::pieces::Reading;
+use pps_engine::Engine;
+use pps_types::Device;
+use std::alloc::Global;
+use std::io::Read;
+
+/// How many bytes are read at once.
+const PIECE: usize = 65_536;
+
+/// After how many reads an input counts as one that can't be read.
+const READS_MAX: u32 = 4_294_967_295;
+
+/// Loads an image, of version 1 or 2: an engine for the machine that it starts. The input is read in pieces, to its end.
+///
+/// Where what is read begins no image it is BadImage, at the first line that none has there; so it is where the input
+/// ends too early, at the line in which it ends, and where anything stands behind the end, at the line of that. An
+/// object's attributes have at most 65,536 bytes as text, and 32,768 in version 1. ReadFault comes where the reader
+/// fails, or was read 4,294,967,295 times. OutOfMemory, where memory is wanting for what is read or restored, may come
+/// in place of any other answer.
+pub fn load<R: Read>(alloc: Global, device: &mut Device<R>) -> Result<Engine, LoadError>
+    requires { device_failed device.old ≡ false }
+    ensures loads { Loads (R.remaining (device_inner device.old)) (R.remaining (device_inner device.new)) result }
+    ensures fault { ReadFaultIs result (device_failed device.new) (device_reads device.old) (device_reads device.new) }
+{
+    let mut buffer = Vec::new(alloc);
+    buffer.resize(PIECE, 0u8)?;
+    let mut reading = Reading::new(alloc);
+    'pieces: for _ in 0..READS_MAX {
+        let count = match device.read(buffer.as_mut_slice()) {
+            Ok(count) => count,
+            Err(_) => return Err(LoadError::ReadFault),
+        };
+        if count == 0 {
+            return reading.finish();
+        }
+        reading = reading.take_piece(alloc, &buffer[..count])?;
+    }
+    Err(LoadError::ReadFault)
+}
