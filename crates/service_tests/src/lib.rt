@@ -15,6 +15,8 @@ mod frames;
 #[cfg(test)]
 mod images;
 #[cfg(test)]
+mod persisting;
+#[cfg(test)]
 mod private;
 #[cfg(test)]
 mod refusals;
