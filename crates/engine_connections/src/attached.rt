@@ -60,8 +60,9 @@ impl Attached {
     }
 }
 
-/// Where a connection stands, or else where it would go.
-pub(crate) fn search(attached: &[Attached], conn: Conn) -> Result<usize, usize>
+// Where a connection stands, or else where it would go, by the order of the numbers.
+#[inline(never)]
+fn search_by_order(attached: &[Attached], conn: Conn) -> Result<usize, usize>
     requires { IsRising number_of attached.now }
     ensures found { IfOk result (IsPlaceOf number_of attached.now conn) }
     ensures absent { IfErr result (IsGapFor number_of attached.now conn) }
@@ -69,6 +70,26 @@ pub(crate) fn search(attached: &[Attached], conn: Conn) -> Result<usize, usize>
     ensures gap { IfErr result (λ i. i ≤ length attached.now) }
 {
     attached.binary_search_by_key(&conn.number(), |other| other.number.number())
+}
+
+/// Where a connection stands, or else where it would go. Connections are numbered from 1 on, mostly without gaps, so the
+/// place that it has among such is looked at first.
+#[inline(always)]
+pub(crate) fn search(attached: &[Attached], conn: Conn) -> Result<usize, usize>
+    requires { IsRising number_of attached.now }
+    ensures found { IfOk result (IsPlaceOf number_of attached.now conn) }
+    ensures absent { IfErr result (IsGapFor number_of attached.now conn) }
+    ensures place { IfOk result (λ i. i < length attached.now) }
+    ensures gap { IfErr result (λ i. i ≤ length attached.now) }
+{
+    let place = usize::from(conn.number()).saturating_sub(1);
+    if place < attached.len() {
+        let there = &attached[place];
+        if there.number == conn {
+            return Ok(place);
+        }
+    }
+    search_by_order(attached, conn)
 }
 
 /// The same connections once more, without room.

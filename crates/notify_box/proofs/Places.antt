@@ -24,7 +24,8 @@ module _ {X : Type 0} (number : X → ℕ) where
   numbers_rise (x ∷ xs) rising (suc i) zero d order in_range = absurd (omega arith)
   numbers_rise (x ∷ xs) rising (suc i) (suc j) d order in_range = numbers_rise xs rising.1 i j d (omega arith) (omega arith)
 
-  place_found : (xs : List X) (n i : ℕ) → IsRising number xs → i < length xs → ((d : X) → number (get_or xs i d) ≡ n) → IsPlaceOf number xs n i
+  -- the place where a number stands is its place
+  pub place_found : (xs : List X) (n i : ℕ) → IsRising number xs → i < length xs → ((d : X) → number (get_or xs i d) ≡ n) → IsPlaceOf number xs n i
   place_found [] n i rising in_range is = absurd (omega arith)
   place_found (x ∷ xs) n zero rising in_range is = (is x, subst (λ m. AllAbove number m xs) (is x) rising.0)
   place_found (x ∷ xs) n (suc i) rising in_range is = (omega (arith, above_at (number x) xs i x rising.0 (omega arith), is x), place_found xs n i rising.1 (omega arith) is)

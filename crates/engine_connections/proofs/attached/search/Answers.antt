@@ -1,13 +1,14 @@
-use Rattle.std.proofs.Common.{rules}
-use Rattle.std.proofs.lemmas.List.Sorted.{answers_always}
-use Rattle.notify_box.proofs.Places.{searched}
+use Rattle.std.proofs.Common.{◌≡◌, ◌<◌, ◌∙◌, length, ap, sym, rules}
+use Rattle.std.proofs.lemmas.List.{get_or_default}
+use Rattle.notify_box.proofs.Places.{place_found}
 use Rattle.engine_connections.specs.Standing.{number_of}
 use Rattle.engine_connections.proofs.attached.search.Goals as goal
 
--- the closure gives a connection's number
-pub returns : goal.returns
-returns c =
-    let facts = c.binary_search_by_key.ensures in
-    let by_key = rw c.number.ensures.same at (facts.position number_of (answers_always _ _ _ (λ f a r h called. search rules))) in
-    let found = searched number_of c.args.attached.now c.requires c.args.conn c.binary_search_by_key.result facts.bound by_key in
-    record { found = found.found; absent = found.absent; place = found.place; gap = found.gap }
+-- the connection at the place that was looked at has that number
+pub returns-then-eq-clause-found : goal.returns-then-eq-clause-found
+returns-then-eq-clause-found c =
+    let there = c.index-attached-place in
+    let within : c.saturating_sub-place.result < length c.args.attached.now = search (rules, c.if-place-attached.true) in
+    let numbered : number_of there.result ≡ c.args.conn = search (rules, c.there.view_is, c.eq.ensures, c.if-eq.true) in
+    place_found number_of c.args.attached.now c.args.conn c.saturating_sub-place.result c.requires within
+    (λ d. ap number_of (get_or_default c.args.attached.now c.saturating_sub-place.result d there.result within ∙ sym there.is) ∙ numbered)
