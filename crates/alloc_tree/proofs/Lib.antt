@@ -1,4 +1,5 @@
 pub mod Compares
+pub mod FourBytes
 pub mod Orders
 pub mod Flatten
 pub mod Places

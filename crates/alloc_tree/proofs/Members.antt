@@ -87,6 +87,12 @@ member_found es i e below is =
     ∙ ap (option_map (λ (m : Name × Found). m.1)) (slice_get-map (λ e. (e.name.items, node_found e.node)) es i)
     ∙ ap (λ o. option_map (λ (m : Name × Found). m.1) (option_map (λ e. (e.name.items, node_found e.node)) o)) (slice_get_read es (length es) i e refl below is)
 
+pub member_at : {A : Type 0} (es : List (Entry A)) (i : ℕ) (e : Entry A) → i < length es → e ≡ get_or es i e → slice_get (members_in [] (flatten standing es)) i ≡ Some (e.name.items, node_found e.node)
+member_at es i e below is =
+    ap (λ ms. slice_get ms i) (members_here es)
+    ∙ slice_get-map (λ e. (e.name.items, node_found e.node)) es i
+    ∙ ap (option_map (λ e. (e.name.items, node_found e.node))) (slice_get_read es (length es) i e refl below is)
+
 -- beyond an object there is nothing
 pub members_object : (id : ℕ) (p : Path) → members_in p (([], FoundObject id) ∷ []) ≡ []
 members_object id [] = refl

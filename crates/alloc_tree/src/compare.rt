@@ -1,6 +1,9 @@
-//! Whether names are the same.
+//! Whether names are the same, and their order.
 ghost use Rattle.std.specs.Prelude.{◌≡◌, ◌↔◌, ◌+◌, ◌≤◌, IsTrue, length};
+ghost use Rattle.pps_types.specs.Names.{name_cmp};
 ghost use Rattle.alloc_tree.specs.Entries.{four_bytes, AreFourBytes};
+
+use std::cmp::Ordering;
 
 /// Four bytes of a name, the first counting most.
 #[inline(always)]
@@ -46,4 +49,22 @@ pub(crate) fn same_name(one: &[u8], other: &[u8]) -> bool
         return same_ends(one, other);
     }
     same_bytes(one, other)
+}
+
+/// The order of two names, by four bytes at a time.
+#[inline(always)]
+pub(crate) fn order(one: &[u8], other: &[u8]) -> Ordering
+    ensures { result ≡ name_cmp one.now other.now }
+{
+    let both = one.len().min(other.len());
+    let mut passed = 0;
+    while both - passed >= 4 {
+        let mine = four_at(one, passed);
+        let others = four_at(other, passed);
+        if mine != others {
+            return mine.cmp(&others);
+        }
+        passed += 4;
+    }
+    one[passed..].cmp(&other[passed..])
 }

@@ -287,6 +287,15 @@ impl<A: Allocator> Directory<A> {
         found_of(&self.entries[place].node)
     }
 
+    /// The name at a place among its entries, and what stands there.
+    pub(crate) fn listed_at(&self, place: usize) -> (&[u8], Found)
+        requires { place < length (members_in [] (whole self.now)) }
+        ensures { slice_get (members_in [] (whole self.now)) place ≡ Some (result.0.now, result.1) }
+    {
+        let entry = &self.entries[place];
+        (entry.name.as_slice(), found_of(&entry.node))
+    }
+
     fn members(&self) -> Result<Vec<Member<A>, A>, AllocError>
     where
         A: Clone,

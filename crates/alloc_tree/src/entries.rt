@@ -8,7 +8,7 @@ ghost use Rattle.alloc_tree.specs.Refused.{is_of, object_refused, edit_refused, 
 ghost use Rattle.alloc_tree.specs.View.{node_found, node_of, standing, empty_refused, node_refused, made_of, IsAlone};
 ghost use Rattle.alloc_tree.specs.HeldView.{ready_seen};
 
-use crate::compare::same_name;
+use crate::compare::{order, same_name};
 use crate::copies::copy_name;
 use crate::directory::{Entry, Node, Ready};
 use crate::edit::Edit;
@@ -21,21 +21,22 @@ use std::cmp::Ordering;
 /// The most objects of a directory, and the most directories.
 const MEMBERS_MAX: usize = 256;
 
-/// Where a name stands, or else where it would go. The entry in the middle is asked first, which may be the only one.
+/// Where a name stands, or else where it would go. The last entry may be the only one, or the newest.
 #[inline(always)]
 pub(crate) fn search<A: Allocator>(entries: &[Entry<A>], name: &[u8]) -> Result<usize, usize>
     requires { IsRising entries.now }
     ensures found { IfOk result (IsPlaceOf entries.now name.now) }
     ensures absent { IfErr result (IsGapFor entries.now name.now) }
 {
-    let middle = entries.len() / 2;
-    if middle < entries.len() && same_name(entries[middle].name.as_slice(), name) {
-        return Ok(middle);
+    let last = entries.len().saturating_sub(1);
+    if last < entries.len() && same_name(entries[last].name.as_slice(), name) {
+        return Ok(last);
     }
     search_by_order(entries, name)
 }
 
-/// Where a name stands, or else where it would go, by the order of the names.
+/// Where a name stands, or else where it would go, by the order of the names. Names often come in order, so the last
+/// entry is asked first.
 #[inline(never)]
 fn search_by_order<A: Allocator>(entries: &[Entry<A>], name: &[u8]) -> Result<usize, usize>
     requires { IsRising entries.now }
@@ -44,13 +45,14 @@ fn search_by_order<A: Allocator>(entries: &[Entry<A>], name: &[u8]) -> Result<us
 {
     let mut low = 0;
     let mut high = entries.len();
+    let mut middle = high.saturating_sub(1);
     while low < high {
-        let middle = low + (high - low) / 2;
-        match entries[middle].name.as_slice().cmp(name) {
+        match order(entries[middle].name.as_slice(), name) {
             Ordering::Less => low = middle + 1,
             Ordering::Equal => return Ok(middle),
             Ordering::Greater => high = middle,
         }
+        middle = low + (high - low) / 2;
     }
     Err(low)
 }

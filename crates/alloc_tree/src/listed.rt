@@ -92,6 +92,14 @@ impl<'a, A: Allocator> Lent<'a, A> {
     {
         self.directory.found(place)
     }
+
+    /// The name at a place among them, and what stands there. No text is copied.
+    pub fn at(&self, place: usize) -> (&'a [u8], Found)
+        requires { place < length self.now }
+        ensures { slice_get self.now place ≡ Some (result.0.now, result.1) }
+    {
+        self.directory.listed_at(place)
+    }
 }
 
 /// A path, and what stands there.

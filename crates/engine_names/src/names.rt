@@ -19,7 +19,7 @@ ghost use Rattle.engine_names.specs.Standing.{standing_of, content_of, after, fi
 use crate::compared::{same_directories, same_objects};
 use crate::members::{Objects, object_numbers};
 use crate::named::{NamedDirectory, NamedObject};
-use alloc_tree::{Member, Tree};
+use alloc_tree::{Lent, Member, Tree};
 use number_table::{Iter, Table};
 use object_state::Object;
 use pps_types::{Bytes, DirId, Found, Handle, Line, ObjId, Refusal};
@@ -436,6 +436,16 @@ impl Names {
         ensures ok { IfOk result (λ listed. listed.items ≡ members_at (content_of (standing_of self.now)) path.now) }
     {
         self.tree.list(path)
+    }
+
+    /// What stands directly in the directory at a path, in byte order of names, as the names lend it. It takes no memory.
+    ///
+    /// It is NotFound or NotDirectory as [`find`](Names::find) is, and NotDirectory also where an object stands there.
+    pub fn members_lent(&self, path: &[Bytes]) -> Result<Lent<'_, Global>, Refusal>
+        ensures refusal { paths.refusal_of result ≡ first_refusal (list_checks (content_of (standing_of self.now)) path.now) }
+        ensures ok { IfOk result (λ listed. listed ≡ members_at (content_of (standing_of self.now)) path.now) }
+    {
+        self.tree.lent(path)
     }
 
     /// The numbers of the objects directly in a directory, in byte order of names. Where there is no such directory there

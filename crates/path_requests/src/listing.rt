@@ -9,18 +9,18 @@ ghost use Rattle.handle_requests.specs.Refused.{Fails};
 ghost use Rattle.path_requests.specs.Listed.{line_listed};
 
 use crate::paths::read_names;
-use alloc_tree::Member;
+use alloc_tree::Lent;
 use engine_names::{members_are_listed, questions_are_told};
 use engine_tables::Tables;
 use pps_types::{Bytes, Conn, Found, Outcome, Refusal, SharedBytes};
 use std::alloc::{AllocError, Global};
 
 // Puts a member's name behind a text, with `/` where it is a directory's, and a line feed.
-fn put_name(text: &mut Vec<u8>, member: &Member<Global>) -> Result<(), AllocError>
-    ensures { OnOk result (text.new.items ≡ text.old.items ++ line_listed member.now) }
+fn put_name(text: &mut Vec<u8>, name: &[u8], found: Found) -> Result<(), AllocError>
+    ensures { OnOk result (text.new.items ≡ text.old.items ++ line_listed (name.now, found)) }
 {
-    text.extend_from_slice(member.name())?;
-    match member.found() {
+    text.extend_from_slice(name)?;
+    match found {
         Found::Object(_) => {}
         Found::Directory(_) => text.push(b'/')?,
     }
@@ -29,12 +29,13 @@ fn put_name(text: &mut Vec<u8>, member: &Member<Global>) -> Result<(), AllocErro
 }
 
 // The names of members, each in a line.
-fn names_listed(alloc: Global, members: &[Member<Global>]) -> Result<Vec<u8>, AllocError>
+fn names_listed(alloc: Global, members: &Lent<'_, Global>) -> Result<Vec<u8>, AllocError>
     ensures { IfOk result (λ text. text.items ≡ concat (map line_listed members.now)) }
 {
     let mut text = Vec::new(alloc);
-    'members: for member in members {
-        put_name(&mut text, member)?;
+    'members: for place in 0..members.len() {
+        let (name, found) = members.at(place);
+        put_name(&mut text, name, found)?;
     }
     Ok(text)
 }
@@ -52,7 +53,7 @@ pub fn list(tables: &Tables, alloc: Global, conn: Conn, path: &Bytes) -> Result<
     members_are_listed();
     questions_are_told();
     let names = read_names(alloc, path)?;
-    let members = tables.names().members(&names)?;
+    let members = tables.names().members_lent(&names)?;
     let text = names_listed(alloc, &members)?;
     let data = SharedBytes::new(alloc, text)?;
     Ok(Outcome::Data(data))

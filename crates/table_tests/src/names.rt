@@ -196,6 +196,23 @@ fn members_stand_in_order(rt: HostRuntime) -> Result<(), Fail> {
 }
 
 #[test]
+fn members_are_lent_in_order(rt: HostRuntime) -> Result<(), Fail> {
+    let alloc = rt.alloc();
+    let names = some_members(alloc)?;
+    let lent = names.members_lent(&[])?;
+    let mut text = Vec::new(alloc);
+    for place in 0..lent.len() {
+        let (name, found) = lent.at(place);
+        text.extend_from_slice(name)?;
+        if let Found::Directory(_) = found {
+            text.push(b'/')?;
+        }
+    }
+    assert!(rt; text.as_slice() == b"ab/c".as_slice());
+    Ok(())
+}
+
+#[test]
 fn objects_stand_in_order(rt: HostRuntime) -> Result<(), Fail> {
     let alloc = rt.alloc();
     let names = some_members(alloc)?;

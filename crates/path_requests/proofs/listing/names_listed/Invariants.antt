@@ -5,4 +5,4 @@ use Rattle.path_requests.proofs.listing.names_listed.Given as goal
 
 -- what is listed, and what is still to come
 abbrev pub invariant-members : goal.invariant-members
-invariant-members l = l.text.items ++ concat (map line_listed (drop l.member-index l.members)) ≡ concat (map line_listed l.members)
+invariant-members l = l.text.items ++ concat (map line_listed (drop l.place l.members)) ≡ concat (map line_listed l.members)
