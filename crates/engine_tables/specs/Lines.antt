@@ -1,5 +1,6 @@
 -- The memory for lines that change an object.
-use Rattle.std.specs.Prelude.{◌≡◌, ℕ, Bool, true, false, Some}
+use Rattle.std.specs.Prelude.{◌≡◌, ℕ, List, Bool, true, false, Option, Some, None}
+use Rattle.pps_types.specs.declared.line.Line.{Line}
 use Rattle.pps_types.specs.declared.record.Kind.{Kind}
 use Rattle.pps_types.specs.declared.record.Kind.TheVariants.{Change, Deleted}
 use Rattle.pps_types.specs.History.{Entry}
@@ -18,6 +19,11 @@ HasLines e n = HasLinesFor e.record_of.kind e.record_of.object n
 abbrev pub deletes : Kind → Bool
 deletes Deleted = true
 deletes _ = false
+
+-- the lines by which it changes attributes, where it does
+abbrev pub change_of : Kind → Option (List Line)
+change_of (Change lines) = Some lines
+change_of _ = None
 
 -- it changes attributes by lines
 abbrev pub is_change : Kind → Bool

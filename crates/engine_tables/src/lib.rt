@@ -12,6 +12,7 @@ mod following;
 mod room;
 mod tables;
 mod telling;
+mod unheard;
 mod waiting;
 
 pub use beginning::Beginning;

@@ -130,6 +130,11 @@ pub fn restore_line(
     if tables.passes_last_number(1, 0, 0) {
         return Err(Refusal::TableFull);
     }
+    if tables.handles().len() == 0 {
+        objects_are_placed(tables, object);
+        tables.change_unheard(object);
+        return Ok(());
+    }
     let told = change_told(tables, alloc, object, lines)?;
     tables.happen(told);
     Ok(())

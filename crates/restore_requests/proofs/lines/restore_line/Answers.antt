@@ -1,10 +1,16 @@
-use Rattle.std.specs.Prelude.{◌≡◌, ◌∷◌, ◌++◌, [], None, Ok, IfSome, IsSome, true, false}
-use Rattle.std.proofs.Common.{sym, ap, subst, ◌∙◌, inl}
+use Rattle.std.specs.Prelude.{◌≡◌, ◌∷◌, ◌++◌, ℕ, List, [], Option, Some, None, Ok, IfSome, IsSome, true, false, option_map}
+use Rattle.std.specs.Option.{option_and_then}
+use Rattle.std.proofs.Common.{refl, sym, ap, subst, ◌∙◌, inl, eqb, eqb-true}
 use Rattle.std.proofs.lemmas.Result.{err_from_is_err_and}
 use Rattle.pps_types.specs.declared.record.Kind.TheVariants.{Change}
-use Rattle.pps_types.specs.Content.{Content, object_numbered}
+use Rattle.pps_types.specs.Content.{Content, Known, object_numbered}
+use Rattle.pps_types.specs.History.{Entry}
+use Rattle.pps_types.proofs.Finds.{find-true}
 use Rattle.pps_types.specs.Plan.{entry_of}
 use Rattle.pps_types.specs.Restore.{line_checks, line_moves}
+use Rattle.pps_types.specs.declared.line.Line.{Line}
+use Rattle.engine_names.specs.Standing.{Named, Placed, known_of, placed_at, lines_ready as named_ready}
+use Rattle.engine_tables.specs.Lines.{change_of}
 use Rattle.engine_tables.specs.Tables.{content_in}
 use Rattle.restore_requests.proofs.Checked.{refused_by}
 use Rattle.restore_requests.proofs.LineChecks.{has_told, alive_there, line_exists, limited_or, passes_told, past_told, done_told, line_last}
@@ -41,6 +47,47 @@ returns-then-passes_last_number-clause-refused c =
     let passes = passes_told before c.requires c.args.path.now c.args.line c.in_ok-object.object c.in_ok-object.ensures.ok c.deref.result.now one c.in_ok-lines_ready.ensures.passes in
     let past = past_told before c.requires c.args.path.now c.args.line c.in_ok-object.object c.in_ok-object.ensures.ok (content_in c.lines_ready.new.tables) c.passes_last_number.result c.lines_ready.ensures.content c.passes_last_number.ensures in
     inl (line_last before c.requires c.args.path.now c.args.line c.in_ok-object.object c.in_ok-object.ensures.ok true none passes (sym c.if-passes_last_number.true ∙ past))
+
+-- the lines are ready for the object that is there
+ready_there : (n : Named) (d : Content) (object : ℕ) (lines : List Line) → option_map known_of (placed_at object n) ≡ object_numbered d object → IsSome (object_numbered d object)
+    → IfSome (placed_at object n) (λ x. x.held.ready ≡ Some lines) → named_ready object n ≡ Some lines
+ready_there n d object lines placed alive ready = by (placed_at object n) (subst IsSome (sym placed) alive) ready
+  where
+    by : (o : Option Placed) → IsSome (option_map known_of o) → IfSome o (λ x. x.held.ready ≡ Some lines) → option_and_then (λ (x : Placed). x.held.ready) o ≡ Some lines
+    by None alive ready = absurd (let bad = alive in cc)
+    by (Some x) alive ready = ready
+
+-- there is a record of a change of the object that is there
+told_there : {T : Type 0} → (d : Content) (n : ℕ) (ls : List Line) → IsSome (object_numbered d n)
+    → ((e : Entry) → e.record_of.object ≡ n → Some ls ≡ change_of e.record_of.kind → IfSome (object_numbered d n) (λ o. e ≡ entry_of o.object (Change ls) None) → T) → T
+told_there {T = T} d n ls alive by = go (object_numbered d n) refl alive
+  where
+    go : (o : Option Known) → object_numbered d n ≡ o → IsSome o → T
+    go None is alive = absurd (let bad = alive in cc)
+    go (Some o) is alive =
+        by (entry_of o.object (Change ls) None) (eqb-true o.object.number n (find-true (λ (o : Known). eqb o.object.number n) d.objects o is)) refl
+        (subst (λ p. IfSome p (λ (q : Known). entry_of o.object (Change ls) None ≡ entry_of q.object (Change ls) None)) (sym is) refl)
+
+pub change_unheard-requires-clause-lines : goal.change_unheard-requires-clause-lines
+change_unheard-requires-clause-lines c =
+    let alive = subst (λ (d : Content). IsSome (object_numbered d c.in_ok-object.object)) (sym c.lines_ready.ensures.content) (alive_there (content_in c.args.tables.now) c.requires c.args.path.now c.args.line c.in_ok-object.object c.in_ok-object.ensures.ok) in
+    subst IsSome
+    (sym (ready_there c.lines_ready.new.tables.names (content_in c.lines_ready.new.tables) c.in_ok-object.object c.deref.result.now c.objects_are_placed.ensures alive c.in_ok-lines_ready.ensures.ready)) refl
+
+pub returns-then-len-eq0-clause-done : goal.returns-then-len-eq0-clause-done
+returns-then-len-eq0-clause-done c =
+    let before = content_in c.args.tables.now in
+    let there = alive_there before c.requires c.args.path.now c.args.line c.in_ok-object.object c.in_ok-object.ensures.ok in
+    let alive = subst (λ (d : Content). IsSome (object_numbered d c.in_ok-object.object)) (sym c.lines_ready.ensures.content) there in
+    let ready = ready_there c.lines_ready.new.tables.names (content_in c.lines_ready.new.tables) c.in_ok-object.object c.deref.result.now c.objects_are_placed.ensures alive c.in_ok-lines_ready.ensures.ready in
+    let none = sym c.if-has_attribute.false ∙ has_told before c.requires c.args.path.now c.args.line c.in_ok-object.object c.in_ok-object.ensures.ok c.has_attribute.result c.in_ok-name.name c.in_ok-name.ensures c.has_attribute.ensures in
+    let one = c.deref.ensures.value ∙ c.push_reserved.ensures.items ∙ ap (λ ls. ls ++ c.args.line ∷ []) c.in_ok-lines.ensures.items in
+    let passes = passes_told before c.requires c.args.path.now c.args.line c.in_ok-object.object c.in_ok-object.ensures.ok c.deref.result.now one c.in_ok-lines_ready.ensures.passes in
+    let past = past_told before c.requires c.args.path.now c.args.line c.in_ok-object.object c.in_ok-object.ensures.ok (content_in c.lines_ready.new.tables) c.passes_last_number.result c.lines_ready.ensures.content c.passes_last_number.ensures in
+    told_there before c.in_ok-object.object c.deref.result.now there
+    (λ e object kind told.
+    let left = done_told before c.requires c.args.path.now c.args.line c.in_ok-object.object c.in_ok-object.ensures.ok c.deref.result.now e (content_in c.lines_ready.new.tables) (content_in c.change_unheard.new.self) one c.lines_ready.ensures.content told (c.change_unheard.ensures.moves e object (ready ∙ kind)) in
+    line_last before c.requires c.args.path.now c.args.line c.in_ok-object.object c.in_ok-object.ensures.ok false none passes (sym c.if-passes_last_number.false ∙ past) ∙ ap Ok (sym left))
 
 pub change_told-requires-clause-alive : goal.change_told-requires-clause-alive
 change_told-requires-clause-alive c =
