@@ -6,13 +6,13 @@ use Rattle.std.proofs.lemmas.List.{drop-drop, take_rest}
 use Rattle.std.proofs.lemmas.List.Concat.{flat_map-cons}
 use Rattle.std.proofs.lemmas.List.Elements.{All-nil, All-cons, All-append}
 use Rattle.pps_types.specs.declared.event.Event.{Event}
+use Rattle.pps_types.specs.Frame as frames
 use Rattle.pps_types.specs.Frame.{IsBytes, frame, HasFrame, stream_of, front_of}
-use Rattle.pps_types.proofs.FrameEvents.{IsBytes-drop}
 use Rattle.pps_types.proofs.FrameStreams.{IsFront, fronts}
 use Rattle.pps_frame.specs.declared.decoder.Front.{Front}
-use Rattle.pps_frame.specs.Front.{front_seen, IsWithin}
+use Rattle.pps_frame.specs.Front.{IsFirst}
 
-pub front_is : (bytes : List ℕ) (front : Front) → IsBytes bytes → front_seen bytes front ≡ front_of bytes → IsFront bytes (front_seen bytes front)
+pub front_is : (bytes : List ℕ) (front : frames.Front) → IsBytes bytes → front ≡ front_of bytes → IsFront bytes front
 front_is bytes front fits q = subst (IsFront bytes) (sym q) (fronts bytes fits)
 
 -- one more event's frame, and then the rest
@@ -34,15 +34,8 @@ goes_on old events bytes used len e so_far front =
 pub one_more : (events : List Event) (e : Event) → All HasFrame events → HasFrame e → All HasFrame (events ++ e ∷ [])
 one_more events e all has = All-append HasFrame events (e ∷ []) all (All-cons HasFrame e [] has (All-nil HasFrame))
 
--- what a front tells that was found behind so many bytes, by its case
-pub front_at : (bytes : List ℕ) (used : ℕ) (front case : Front) → IsBytes bytes → front ≡ case
-    → front_seen (take (length bytes - used) (drop used bytes)) front ≡ front_of (take (length bytes - used) (drop used bytes))
-    → IsFront (drop used bytes) (front_seen (drop used bytes) case)
-front_at bytes used front case fits is q =
-    let here = subst (λ (x : List ℕ). front_seen x front ≡ front_of x) (take_rest bytes used) q in
-    front_is (drop used bytes) case (IsBytes-drop used bytes fits) (ap (front_seen (drop used bytes)) (sym is) ∙ here)
-
-pub within_at : (bytes : List ℕ) (used : ℕ) (front case : Front) → front ≡ case
-    → IsWithin (take (length bytes - used) (drop used bytes)) front → IsWithin (drop used bytes) case
-within_at bytes used front case is within =
-    subst (IsWithin (drop used bytes)) is (subst (λ (x : List ℕ). IsWithin x front) (take_rest bytes used) within)
+-- what was found behind so many bytes, by its case
+pub first_at : (bytes : List ℕ) (used : ℕ) (old new : List Event) (front case : Front) → front ≡ case
+    → IsFirst (take (length bytes - used) (drop used bytes)) old new front → IsFirst (drop used bytes) old new case
+first_at bytes used old new front case is first =
+    subst (IsFirst (drop used bytes) old new) is (subst (λ (x : List ℕ). IsFirst x old new front) (take_rest bytes used) first)

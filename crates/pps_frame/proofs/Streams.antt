@@ -13,7 +13,7 @@ use Rattle.pps_types.specs.Outcome.{Reply}
 use Rattle.pps_types.specs.Device.{counted_once_more}
 use Rattle.pps_types.specs.Frame.{HasFrame, frame, stream_of, answer_frame, Held, Feeds, IsMalformed, IsPartial}
 use Rattle.pps_types.specs.Runs.{Answered, events_of}
-use Rattle.pps_types.specs.Stands.{StepsSeen, RunsSeen}
+use Rattle.pps_types.specs.Stands.{StepsSeen}
 use Rattle.pps_types.proofs.KnownBytes.{Appends-none, Appends-then, Appends-same, Consumes-none, Consumes-then, Consumes-same, then_part, keeps_itself}
 use Rattle.pps_types.proofs.StandsLaw.{runs-stand}
 use Rattle.pps_frame.specs.declared.ends.Ended.{Ended}

@@ -1,23 +1,29 @@
 -- What a decoder finds at the front of a stream, and what it gathers of a frame that has begun.
-use Rattle.std.specs.Prelude.{◌≡◌, ◌<◌, ◌≤◌, ◌+◌, ◌-◌, ℕ, true, false, nat_lt, if◌then◌else◌, List, ◌++◌, length, take, drop, All, [], ◌⊎◌}
+use Rattle.std.specs.Prelude.{◌≡◌, ◌<◌, ◌≤◌, ◌+◌, ◌-◌, ℕ, true, false, nat_lt, if◌then◌else◌, List, ◌++◌, ◌∷◌, length, take, drop, All, [], ◌⊎◌, Bool, Option, Some, None}
 use Rattle.pps_types.specs.Bytes.{is_empty}
 use Rattle.pps_types.specs.declared.event.Event.{Event}
+use Rattle.pps_types.specs.declared.event.Request.{Request}
 use Rattle.pps_types.specs.Frame as frames
-use Rattle.pps_types.specs.Frame.{told, longest_body, stream_of, HasFrame, IsPartial, IsMalformed}
+use Rattle.pps_types.specs.Frame.{told, longest_body, stream_of, HasFrame, IsPartial, IsMalformed, front_of}
 use Rattle.pps_frame.specs.declared.decoder.Front.{Front}
 use Rattle.pps_frame.specs.declared.decoder.Front.TheVariants.{Whole, Partial, Malformed}
 use Rattle.pps_frame.specs.declared.decoder.Taken.{Taken}
 
--- the definition's front
-abbrev pub front_seen : List ℕ → Front → frames.Front
-front_seen bytes (Whole event len) = frames.Whole event (drop len bytes)
-front_seen bytes Partial = frames.Partial
-front_seen bytes Malformed = frames.Wrong
+-- this event was added behind the old ones, or none was where there is none
+abbrev pub IsAdded : Option Event → List Event → List Event → Bool → Type 0
+IsAdded found old new true = (event : Event) × (found ≡ Some event) × (new ≡ old ++ event ∷ [])
+IsAdded found old new false = (found ≡ None) × (new ≡ old)
 
--- a whole frame takes some bytes, and no more than are there
-abbrev pub IsWithin : List ℕ → Front → Type 0
-IsWithin bytes (Whole event len) = (0 < len) × (len ≤ length bytes)
-IsWithin bytes _ = Unit {0}
+-- likewise with a request of this connection
+abbrev pub IsPushed : ℕ → Option Request → List Event → List Event → Bool → Type 0
+IsPushed conn found old new true = (request : Request) × (found ≡ Some request) × (new ≡ old ++ record { conn = conn; request = request } ∷ [])
+IsPushed conn found old new false = (found ≡ None) × (new ≡ old)
+
+-- What the definition finds at the front. The event of a whole frame was added, and the frame takes some bytes, and no more than are there.
+abbrev pub IsFirst : List ℕ → List Event → List Event → Front → Type 0
+IsFirst bytes old new (Whole len) = (event : Event) × (frames.Whole event (drop len bytes) ≡ front_of bytes) × (new ≡ old ++ event ∷ []) × (0 < len) × (len ≤ length bytes)
+IsFirst bytes old new Partial = (frames.Partial ≡ front_of bytes) × (new ≡ old)
+IsFirst bytes old new Malformed = (frames.Wrong ≡ front_of bytes) × (new ≡ old)
 
 -- The frames at the front of the bytes are those of the events that were added; less than a frame follows, or a malformed one.
 pub record Takes (bytes : List ℕ) (old new : List Event) (taken : Taken) : Type 0 where

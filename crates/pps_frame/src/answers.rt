@@ -108,6 +108,24 @@ fn push_answer(out: &mut Vec<u8>, answer: &Result<Outcome, Refusal>) -> Result<(
     Ok(())
 }
 
+/// Pushes the frame of the answer to a request of a connection. Memory is asked for at most once, before the first byte,
+/// and no more than the frame wants.
+pub(crate) fn push_outcome(
+    out: &mut Vec<u8>,
+    conn: Conn,
+    answer: &Result<Outcome, Refusal>,
+) -> Result<(), AllocError>
+    requires { IsSendable answer.now }
+    ensures { OnOk result (out.new.items ≡ out.old.items ++ frames.answer_frame conn answer.now) }
+{
+    let len = fields_len(answer);
+    out.reserve_exact(len + 7)?;
+    let [a, b, c, d] = ((len + 3) as u32).to_be_bytes();
+    let [high, low] = conn.number().to_be_bytes();
+    out.extend_from_slice(&[a, b, c, d, high, low])?;
+    push_answer(out, answer)
+}
+
 /// The frame of the answer to a request of a connection: the length of its body in four bytes, the highest first, and
 /// the body. An answer whose bytes are read is copied once.
 ///
@@ -121,10 +139,7 @@ pub fn encode_outcome(
     ensures ok { IfOk result (λ frame. frame.items ≡ frames.answer_frame conn answer.now) }
     ensures err { IfErr result (λ r. r ≡ Refusal.OutOfMemory) }
 {
-    let len = fields_len(answer);
-    let mut out = Vec::with_capacity(alloc, len + 7)?;
-    out.extend_from_slice(&((len + 3) as u32).to_be_bytes())?;
-    out.extend_from_slice(&conn.number().to_be_bytes())?;
-    push_answer(&mut out, answer)?;
+    let mut out = Vec::new(alloc);
+    push_outcome(&mut out, conn, answer)?;
     Ok(out)
 }

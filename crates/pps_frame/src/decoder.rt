@@ -1,19 +1,19 @@
 //! A stream of requests that comes in pieces.
 ghost use Rattle.std.specs.Prelude.{◌≡◌, ◌≤◌, ◌++◌, ◌↔◌, min, take, drop, [], true, false, length, IfOk, OnErr, IsErrOf};
-ghost use Rattle.pps_types.specs.Frame.{Feeds, front_of, IsPartial};
-ghost use Rattle.pps_frame.specs.Front.{front_seen, IsWithin, Takes, lacks, IsGathered};
+ghost use Rattle.pps_types.specs.Frame.{Feeds, IsPartial};
+ghost use Rattle.pps_frame.specs.Front.{IsFirst, Takes, lacks, IsGathered};
 
 use crate::fault::FeedFault;
-use crate::reading::event;
+use crate::reading::push_event;
 use crate::requests::BODY_MAX;
 use pps_types::Event;
 use std::alloc::{AllocError, Global};
 use std::marker::Model;
 
 /// What stands at the front of a stream: a request's frame of that many bytes, less than a frame, or a malformed one.
-#[derive(Drop)]
+#[derive(Clone, Copy)]
 pub(crate) enum Front {
-    Whole { event: Event, len: usize },
+    Whole { len: usize },
     Partial,
     Malformed,
 }
@@ -51,11 +51,10 @@ impl Model for Decoder {
     ghost invariant = { λ d. IsPartial d.held.items };
 }
 
-// What stands at the front of the bytes.
+// What stands at the front of the bytes. The request of a whole frame is added.
 #[tactic(auto, unfolding(pps_types::specs::Frame::front_of))]
-fn first_frame(alloc: Global, bytes: &[u8]) -> Result<Front, AllocError>
-    ensures is { IfOk result (λ front. front_seen bytes.now front ≡ front_of bytes.now) }
-    ensures within { IfOk result (IsWithin bytes.now) }
+fn first_frame(alloc: Global, bytes: &[u8], events: &mut Vec<Event>) -> Result<Front, AllocError>
+    ensures { IfOk result (IsFirst bytes.now events.old.items events.new.items) }
 {
     let [a, b, c, d, rest @ ..] = bytes else {
         return Ok(Front::Partial);
@@ -67,12 +66,10 @@ fn first_frame(alloc: Global, bytes: &[u8]) -> Result<Front, AllocError>
     if rest.len() < len {
         return Ok(Front::Partial);
     }
-    match event(alloc, &rest[..len])? {
-        None => Ok(Front::Malformed),
-        Some(event) => Ok(Front::Whole {
-            event,
-            len: len + 4,
-        }),
+    if push_event(alloc, events, &rest[..len])? {
+        Ok(Front::Whole { len: len + 4 })
+    } else {
+        Ok(Front::Malformed)
     }
 }
 
@@ -82,13 +79,10 @@ fn take_frames(alloc: Global, bytes: &[u8], events: &mut Vec<Event>) -> Result<T
 {
     let mut used = 0;
     'frames: loop {
-        match first_frame(alloc, &bytes[used..])? {
+        match first_frame(alloc, &bytes[used..], events)? {
             Front::Partial => return Ok(Taken { used, bad: false }),
             Front::Malformed => return Ok(Taken { used, bad: true }),
-            Front::Whole { event, len } => {
-                events.push(event)?;
-                used += len;
-            }
+            Front::Whole { len } => used += len,
         }
     }
 }

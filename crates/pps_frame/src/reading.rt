@@ -1,6 +1,7 @@
 //! Requests, read from the bodies of frames.
-ghost use Rattle.std.specs.Prelude.{◌≡◌, IfOk};
+ghost use Rattle.std.specs.Prelude.{◌≡◌, IfOk, Some};
 ghost use Rattle.pps_types.specs.Frame as frames;
+ghost use Rattle.pps_frame.specs.Front.{IsAdded, IsPushed};
 
 use pps_types::{Action, Bytes, Conn, Event, Handle, Mode, Request};
 use std::alloc::{AllocError, Global};
@@ -30,122 +31,157 @@ fn action(byte: u8) -> Option<Action>
     }
 }
 
-// A request that has no fields.
-fn without_fields(request: Request, bytes: &[u8]) -> Option<Request>
-    ensures { result ≡ frames.without_fields request bytes.now }
+// Adds the request of a connection.
+fn push(events: &mut Vec<Event>, conn: Conn, request: Request) -> Result<bool, AllocError>
+    ensures { IfOk result (IsPushed conn (Some request) events.old.items events.new.items) }
+{
+    events.push(Event { conn, request })?;
+    Ok(true)
+}
+
+// Adds a request that has no fields.
+fn without_fields(
+    events: &mut Vec<Event>,
+    conn: Conn,
+    request: Request,
+    bytes: &[u8],
+) -> Result<bool, AllocError>
+    ensures { IfOk result (IsPushed conn (frames.without_fields request bytes.now) events.old.items events.new.items) }
 {
     match bytes {
-        [] => Some(request),
-        [_, ..] => None,
+        [] => push(events, conn, request),
+        [_, ..] => Ok(false),
     }
 }
 
-fn open(alloc: Global, bytes: &[u8]) -> Result<Option<Request>, AllocError>
-    ensures { IfOk result (λ r. r ≡ frames.open_request bytes.now) }
+fn open(
+    alloc: Global,
+    events: &mut Vec<Event>,
+    conn: Conn,
+    bytes: &[u8],
+) -> Result<bool, AllocError>
+    ensures { IfOk result (IsPushed conn (frames.open_request bytes.now) events.old.items events.new.items) }
 {
     let [letters, text @ ..] = bytes else {
-        return Ok(None);
+        return Ok(false);
     };
     let Some(mode) = mode(*letters) else {
-        return Ok(None);
+        return Ok(false);
     };
     let text = Bytes::from_slice(alloc, text)?;
-    Ok(Some(Request::Open { mode, text }))
+    push(events, conn, Request::Open { mode, text })
 }
 
-fn read(bytes: &[u8]) -> Option<Request>
-    ensures { result ≡ frames.read_request bytes.now }
+fn read(events: &mut Vec<Event>, conn: Conn, bytes: &[u8]) -> Result<bool, AllocError>
+    ensures { IfOk result (IsPushed conn (frames.read_request bytes.now) events.old.items events.new.items) }
 {
     let [a, b, c, d, e, f, g, h] = bytes else {
-        return None;
+        return Ok(false);
     };
-    Some(Request::Read {
-        handle: Handle::new(u32::from_be_bytes([*a, *b, *c, *d])),
-        size: u32::from_be_bytes([*e, *f, *g, *h]),
-    })
+    let handle = Handle::new(u32::from_be_bytes([*a, *b, *c, *d]));
+    let size = u32::from_be_bytes([*e, *f, *g, *h]);
+    push(events, conn, Request::Read { handle, size })
 }
 
-fn write(alloc: Global, bytes: &[u8]) -> Result<Option<Request>, AllocError>
-    ensures { IfOk result (λ r. r ≡ frames.write_request bytes.now) }
+fn write(
+    alloc: Global,
+    events: &mut Vec<Event>,
+    conn: Conn,
+    bytes: &[u8],
+) -> Result<bool, AllocError>
+    ensures { IfOk result (IsPushed conn (frames.write_request bytes.now) events.old.items events.new.items) }
 {
     let [a, b, c, d, text @ ..] = bytes else {
-        return Ok(None);
+        return Ok(false);
     };
     let handle = Handle::new(u32::from_be_bytes([*a, *b, *c, *d]));
     let bytes = Bytes::from_slice(alloc, text)?;
-    Ok(Some(Request::Write { handle, bytes }))
+    push(events, conn, Request::Write { handle, bytes })
 }
 
-fn close(bytes: &[u8]) -> Option<Request>
-    ensures { result ≡ frames.close_request bytes.now }
+fn close(events: &mut Vec<Event>, conn: Conn, bytes: &[u8]) -> Result<bool, AllocError>
+    ensures { IfOk result (IsPushed conn (frames.close_request bytes.now) events.old.items events.new.items) }
 {
     let [a, b, c, d] = bytes else {
-        return None;
+        return Ok(false);
     };
     let handle = Handle::new(u32::from_be_bytes([*a, *b, *c, *d]));
-    Some(Request::Close { handle })
+    push(events, conn, Request::Close { handle })
 }
 
-fn notify(bytes: &[u8]) -> Option<Request>
-    ensures { result ≡ frames.notify_request bytes.now }
+fn notify(events: &mut Vec<Event>, conn: Conn, bytes: &[u8]) -> Result<bool, AllocError>
+    ensures { IfOk result (IsPushed conn (frames.notify_request bytes.now) events.old.items events.new.items) }
 {
     let [a, b, c, d, wanted, code, e, f, g, h] = bytes else {
-        return None;
+        return Ok(false);
     };
     let Some(action) = action(*wanted) else {
-        return None;
+        return Ok(false);
     };
-    Some(Request::Notify {
-        handle: Handle::new(u32::from_be_bytes([*a, *b, *c, *d])),
-        action,
-        code: *code,
-        value: u32::from_be_bytes([*e, *f, *g, *h]),
-    })
+    let handle = Handle::new(u32::from_be_bytes([*a, *b, *c, *d]));
+    let value = u32::from_be_bytes([*e, *f, *g, *h]);
+    push(
+        events,
+        conn,
+        Request::Notify {
+            handle,
+            action,
+            code: *code,
+            value,
+        },
+    )
 }
 
-// The request of a kind with these fields, if there is one.
+// Adds the request of a kind with these fields, and says whether there is one.
 #[tactic(auto, unfolding(pps_types::specs::Frame::request_of))]
-fn request(alloc: Global, kind: u8, bytes: &[u8]) -> Result<Option<Request>, AllocError>
-    ensures { IfOk result (λ r. r ≡ frames.request_of kind bytes.now) }
+fn push_request(
+    alloc: Global,
+    events: &mut Vec<Event>,
+    conn: Conn,
+    kind: u8,
+    bytes: &[u8],
+) -> Result<bool, AllocError>
+    ensures { IfOk result (IsPushed conn (frames.request_of kind bytes.now) events.old.items events.new.items) }
 {
     match kind {
-        1 => Ok(without_fields(Request::Attach, bytes)),
-        2 => Ok(without_fields(Request::Detach, bytes)),
-        3 => open(alloc, bytes),
-        4 => Ok(read(bytes)),
-        5 => write(alloc, bytes),
-        6 => Ok(close(bytes)),
+        1 => without_fields(events, conn, Request::Attach, bytes),
+        2 => without_fields(events, conn, Request::Detach, bytes),
+        3 => open(alloc, events, conn, bytes),
+        4 => read(events, conn, bytes),
+        5 => write(alloc, events, conn, bytes),
+        6 => close(events, conn, bytes),
         7 => {
             let path = Bytes::from_slice(alloc, bytes)?;
-            Ok(Some(Request::Unlink { path }))
+            push(events, conn, Request::Unlink { path })
         }
         8 => {
             let path = Bytes::from_slice(alloc, bytes)?;
-            Ok(Some(Request::Mkdir { path }))
+            push(events, conn, Request::Mkdir { path })
         }
         9 => {
             let path = Bytes::from_slice(alloc, bytes)?;
-            Ok(Some(Request::List { path }))
+            push(events, conn, Request::List { path })
         }
-        10 => Ok(notify(bytes)),
-        11 => Ok(without_fields(Request::Receive, bytes)),
-        _ => Ok(None),
+        10 => notify(events, conn, bytes),
+        11 => without_fields(events, conn, Request::Receive, bytes),
+        _ => Ok(false),
     }
 }
 
-/// The event that a frame's body is, if it is one.
+/// Adds the event that a frame's body is, and says whether it is one.
 #[tactic(auto, unfolding(pps_types::specs::Frame::event_of))]
-pub(crate) fn event(alloc: Global, body: &[u8]) -> Result<Option<Event>, AllocError>
-    ensures { IfOk result (λ e. e ≡ frames.event_of body.now) }
+pub(crate) fn push_event(
+    alloc: Global,
+    events: &mut Vec<Event>,
+    body: &[u8],
+) -> Result<bool, AllocError>
+    ensures { IfOk result (IsAdded (frames.event_of body.now) events.old.items events.new.items) }
 {
     let [kind, a, b, bytes @ ..] = body else {
-        return Ok(None);
+        return Ok(false);
     };
     let conn = Conn::new(u16::from_be_bytes([*a, *b]));
-    match request(alloc, *kind, bytes)? {
-        None => Ok(None),
-        Some(request) => Ok(Some(Event { conn, request })),
-    }
+    push_request(alloc, events, conn, *kind, bytes)
 }
 
 /// The connection that the body of a request's frame names: its second and third byte, where it has so many.

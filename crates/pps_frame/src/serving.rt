@@ -4,7 +4,7 @@ ghost use Rattle.pps_types.specs.Device.{device_inner, device_failed, device_rea
 ghost use Rattle.pps_frame.specs.Served.{Ran, FaultsAre};
 ghost use Rattle.pps_frame.specs.Sent.{ServesOr, ServesPieceOr, WriteFaultIs};
 
-use crate::answers::encode_outcome;
+use crate::answers::push_outcome;
 use crate::decoder::{Decoder, Fed};
 use crate::ends::{Ended, RunError};
 use crate::sending::{send, send_end};
@@ -19,9 +19,9 @@ const PIECE: usize = 65_536;
 /// After how many reads an input counts as one that can't be read.
 const READS_MAX: u32 = 4_294_967_295;
 
-// Serves a request.
+// Serves a request. Its answer's frame is made in the buffer, in place of what stood there.
 fn serve<W: Write>(
-    alloc: Global,
+    frame: &mut Vec<u8>,
     engine: &mut Engine,
     writer: &mut Device<W>,
     event: &Event,
@@ -31,13 +31,14 @@ fn serve<W: Write>(
     ensures fault { WriteFaultIs result (device_failed writer.new) (device_stalls writer.old) (device_stalls writer.new) }
 {
     let answer = engine.step(event);
-    match encode_outcome(alloc, event.conn, &answer) {
+    frame.clear();
+    match push_outcome(frame, event.conn, &answer) {
         Err(_) => Err(RunError::OutOfMemory),
-        Ok(frame) => send(writer, &frame),
+        Ok(()) => send(writer, frame),
     }
 }
 
-// Serves requests in their order.
+// Serves requests in their order. Their answers' frames are made in one buffer.
 fn serve_all<W: Write>(
     alloc: Global,
     engine: &mut Engine,
@@ -48,8 +49,9 @@ fn serve_all<W: Write>(
     ensures served { ServesOr (W.contents (device_inner writer.old)) (W.contents (device_inner writer.new)) engine.old.content engine.new.content events.now result }
     ensures fault { WriteFaultIs result (device_failed writer.new) (device_stalls writer.old) (device_stalls writer.new) }
 {
+    let mut frame = Vec::new(alloc);
     'events: for event in events {
-        serve(alloc, engine, writer, event)?;
+        serve(&mut frame, engine, writer, event)?;
     }
     Ok(())
 }
