@@ -1,12 +1,12 @@
 -- What is noted of each name, line after line.
-use Rattle.std.proofs.Common.{◌≡◌, ℕ, ◌+◌, ◌-◌, Bool, true, false, cond, List, [], ◌∷◌, length, Option, Some, None, refl, sym, ap, ◌∙◌, arith}
+use Rattle.std.proofs.Common.{◌≡◌, ℕ, ◌+◌, ◌-◌, Bool, true, false, cond, List, [], ◌∷◌, length, Option, Some, None, refl, sym, ap, subst, ◌∙◌, arith}
 use Rattle.std.specs.Prelude.{unwrap_or, IfSome, IfNone, ◌≤◌, ◌<◌, ◌^◌}
 use Rattle.pps_types.specs.declared.line.Line.{Line}
 use Rattle.pps_types.specs.Text.{print_line}
 use Rattle.pps_types.specs.Bytes.{same}
 use Rattle.pps_types.specs.History.{Attribute, put, is_marked}
 use Rattle.object_state.specs.Effect.{printed_length, of_named, length_at, noted_or, count_of, bytes_of, Foretells, ForetellsMarks}
-use Rattle.text_parts.proofs.Same.{same-sym}
+use Rattle.text_parts.proofs.Same.{same-is, same-sym}
 use Rattle.object_state.proofs.LineChanges.{cut, put-at, cut-at, put-distinct, cut-distinct, put-bytes, put-count, cut-bytes, cut-count}
 
 module _ (noted new : List ℕ → Option (Option ℕ)) (count text : ℕ) (before after : List Attribute) (told : Foretells noted count text before after) where
@@ -99,6 +99,22 @@ module _ (noted new : List ℕ → Option Bool) (before after : List Attribute) 
       by : (q : List ℕ) (s : Bool) → noted_or (cond s (Some false) (noted q)) (is_marked q before) ≡ cond s false (is_marked q after)
       by q true = refl
       by q false = told.marks q
+
+-- a mark that stays needs no note
+module _ (noted : List ℕ → Option Bool) (before after : List Attribute) (told : ForetellsMarks noted before after) where
+  pub stays-put : (a : Attribute) → a.n ≡ noted_or (noted a.name) (is_marked a.name before) → ForetellsMarks noted before (put after a)
+  stays-put a stays = record { marks = λ q. by q (same a.name q) refl ∙ sym (marked-put a q after) }
+    where
+      by : (q : List ℕ) (s : Bool) → same a.name q ≡ s → noted_or (noted q) (is_marked q before) ≡ cond (same a.name q) a.n (is_marked q after)
+      by q true s = subst (λ m. noted_or (noted m) (is_marked m before) ≡ a.n) (same-is a.name q s) (sym stays) ∙ ap (λ t. cond t a.n (is_marked q after)) (sym s)
+      by q false s = told.marks q ∙ ap (λ t. cond t a.n (is_marked q after)) (sym s)
+
+  pub stays-cut : (name : List ℕ) → noted_or (noted name) (is_marked name before) ≡ false → ForetellsMarks noted before (cut name after)
+  stays-cut name stays = record { marks = λ q. by q (same name q) refl ∙ sym (marked-cut name q after) }
+    where
+      by : (q : List ℕ) (s : Bool) → same name q ≡ s → noted_or (noted q) (is_marked q before) ≡ cond (same name q) false (is_marked q after)
+      by q true s = subst (λ m. noted_or (noted m) (is_marked m before) ≡ false) (same-is name q s) stays ∙ ap (λ t. cond t false (is_marked q after)) (sym s)
+      by q false s = told.marks q ∙ ap (λ t. cond t false (is_marked q after)) (sym s)
 
 pub ForetellsMarks-set : (noted new : List ℕ → Option Bool) (before after : List Attribute) (name : List ℕ) (a : Attribute) → name ≡ a.name
     → ((q : List ℕ) → new q ≡ cond (same name q) (Some a.n) (noted q)) → ForetellsMarks noted before after → ForetellsMarks new before (put after a)

@@ -1,5 +1,5 @@
 //! What the lines of a write come to: their marks, resolved.
-ghost use Rattle.std.specs.Prelude.{◌≡◌, ℕ, List, false, IfOk, OnOk, nat_eq};
+ghost use Rattle.std.specs.Prelude.{◌≡◌, ℕ, List, true, false, IfOk, OnOk, nat_eq};
 ghost use lib.Pointwise.{pointwise};
 ghost use Rattle.indexmap.specs.IndexMap.{get};
 ghost use Rattle.pps_types.specs.History as history;
@@ -35,10 +35,19 @@ fn is_marked(noted: &IndexMap<Name, bool>, map: &Attributes, name: &Name) -> boo
     }
 }
 
+/// What a line of a write comes to, and whether it changes the mark of its name.
+#[derive(Drop)]
+struct Resolved {
+    line: Line,
+    changes: bool,
+}
+
 // The line that a line of a write comes to.
-fn resolved(noted: &IndexMap<Name, bool>, map: &Attributes, line: WriteLine) -> Line
-    ensures { (after : List history.Attribute)
-        → ForetellsMarks (get (pointwise nat_eq) noted.now) (attributes_of map.now.entries) after → result ≡ history.resolved after line }
+fn resolve_line(noted: &IndexMap<Name, bool>, map: &Attributes, line: WriteLine) -> Resolved
+    ensures line { (after : List history.Attribute)
+        → ForetellsMarks (get (pointwise nat_eq) noted.now) (attributes_of map.now.entries) after → result.line ≡ history.resolved after line }
+    ensures stays { (after : List history.Attribute) → result.changes ≡ false
+        → ForetellsMarks (get (pointwise nat_eq) noted.now) (attributes_of map.now.entries) after → ForetellsMarks (get (pointwise nat_eq) noted.now) (attributes_of map.now.entries) (history.apply_line after result.line) }
 {
     match line {
         WriteLine::Set {
@@ -48,15 +57,28 @@ fn resolved(noted: &IndexMap<Name, bool>, map: &Attributes, line: WriteLine) -> 
             mark,
         } => {
             let name = Name::new(name);
-            let n = mark.applied_to(is_marked(noted, map, &name));
-            Line::Set {
-                name: name.into_bytes(),
-                enc,
-                value,
-                n,
+            let before = is_marked(noted, map, &name);
+            let n = mark.applied_to(before);
+            Resolved {
+                line: Line::Set {
+                    name: name.into_bytes(),
+                    enc,
+                    value,
+                    n,
+                },
+                changes: n != before,
             }
         }
-        WriteLine::Del { name } => Line::Del { name },
+        WriteLine::Del { name } => {
+            let name = Name::new(name);
+            let changes = is_marked(noted, map, &name);
+            Resolved {
+                line: Line::Del {
+                    name: name.into_bytes(),
+                },
+                changes,
+            }
+        }
     }
 }
 
@@ -77,23 +99,25 @@ fn note(noted: &mut IndexMap<Name, bool>, line: &Line) -> Result<(), AllocError>
     }
 }
 
-// The same, unless nothing will ask for it.
-fn note_unless(
-    unasked: bool,
+// The same, where it has to be noted.
+fn note_where(
+    changes: bool,
     noted: &mut IndexMap<Name, bool>,
     line: &Line,
 ) -> Result<(), AllocError>
-    ensures { OnOk result (unasked ≡ false → (before after : List history.Attribute)
+    ensures noted { OnOk result (changes ≡ true → (before after : List history.Attribute)
         → ForetellsMarks (get (pointwise nat_eq) noted.old) before after → ForetellsMarks (get (pointwise nat_eq) noted.new) before (history.apply_line after line.now)) }
+    ensures unchanged { changes ≡ false → noted.new ≡ noted.old }
 {
-    if unasked {
+    if !changes {
         return Ok(());
     }
     note(noted, line)?;
     Ok(())
 }
 
-/// What the lines of a write come to, each where those before it took effect.
+/// What the lines of a write come to, each where those before it took effect. Only those marks are noted that change, and
+/// that a later line may ask for.
 pub(crate) fn resolve(
     alloc: Global,
     map: &Attributes,
@@ -105,9 +129,12 @@ pub(crate) fn resolve(
     let mut noted = IndexMap::new(alloc);
     let mut made = Vec::with_capacity(alloc, count)?;
     'lines: for line in lines {
-        let next = resolved(&noted, map, line);
+        let Resolved {
+            line: next,
+            changes,
+        } = resolve_line(&noted, map, line);
         let is_last = made.len() + 1 == count;
-        note_unless(is_last, &mut noted, &next)?;
+        note_where(changes && !is_last, &mut noted, &next)?;
         made.push_reserved(next);
     }
     Ok(made)
