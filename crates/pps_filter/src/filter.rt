@@ -69,16 +69,10 @@ impl Part {
         self.condition.is_met_by(value)
     }
 
-    fn matches(&self, line: &Line) -> bool
-        ensures { result ≡ meant.part_matches line.now (part_seen self.now) }
+    fn matches_removal(&self, name: &[u8]) -> bool
+        ensures { result ≡ meant.part_matches (Line.Del name.now) (part_seen self.now) }
     {
-        match line {
-            Line::Set { name, value, .. } => {
-                name.as_slice() == self.name.as_slice()
-                    && self.condition.is_met_by(value.as_slice())
-            }
-            Line::Del { name } => name.as_slice() == self.name.as_slice(),
-        }
+        name == self.name.as_slice()
     }
 
     fn matches_set(&self, name: &[u8], value: &[u8]) -> bool
@@ -97,10 +91,10 @@ impl Part {
     }
 }
 
-fn any_matches(parts: &[Part], line: &Line) -> bool
-    ensures { result ≡ list_any (λ part. meant.part_matches line.now (part_seen part)) parts.now }
+fn any_matches_removal(parts: &[Part], name: &[u8]) -> bool
+    ensures { result ≡ list_any (λ part. meant.part_matches (Line.Del name.now) (part_seen part)) parts.now }
 {
-    parts.iter().any(|part| part.matches(line))
+    parts.iter().any(|part| part.matches_removal(name))
 }
 
 fn any_matches_set(parts: &[Part], name: &[u8], value: &[u8]) -> bool
@@ -155,7 +149,12 @@ impl Filter {
     pub fn matches(&self, line: &Line) -> bool
         ensures { result ≡ meant.matches (Some self.now) line.now }
     {
-        any_matches(self.parts.as_slice(), line)
+        match line {
+            Line::Set { name, value, .. } => {
+                any_matches_set(self.parts.as_slice(), name.as_slice(), value.as_slice())
+            }
+            Line::Del { name } => any_matches_removal(self.parts.as_slice(), name.as_slice()),
+        }
     }
 
     // Whether one of its parts matches a line that sets an attribute of that name to that value.
