@@ -107,6 +107,16 @@ fn bytes_of_any_length_are_kept(rt: HostRuntime) -> Result<(), Fail> {
 }
 
 #[test]
+fn bytes_in_place_are_shown(rt: HostRuntime) -> Result<(), Fail> {
+    let text = format!(in rt.alloc(); "{:?}", bytes(rt.alloc(), b"speed")?)?;
+    assert_eq!(rt;
+        text.as_str(),
+        "Bytes { content: Short(Short { bytes: [115, 112, 101, 101, 100, 0, 0, 0, 0, 0, 0, 0, 0, 0, 0, 0, 0, 0, 0, 0, 0, 0, 0], len: 5 }) }"
+    );
+    Ok(())
+}
+
+#[test]
 fn outcomes_are_shared(rt: HostRuntime) -> Result<(), Fail> {
     let bytes = shared(rt.alloc(), b"@gps\n")?;
     assert_eq!(rt; bytes.len(), 5);

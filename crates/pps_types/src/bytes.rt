@@ -5,16 +5,29 @@ ghost use Rattle.std.specs.Cmp.Rules.{comparing};
 ghost use lib.Pointwise.{pointwise};
 
 use std::alloc::{AllocError, Global};
+use std::fmt;
 use std::marker::Model;
 
 /// How many bytes stand in place.
 const SHORT_MAX: usize = 23;
 
 /// At most 23 bytes, which stand in place.
-#[derive(Debug, Drop)]
+#[derive(Drop)]
 struct Short {
     bytes: [u8; SHORT_MAX],
     len: u8,
+    /// Nothing. It puts the bytes at a multiple of eight, where they are moved by words.
+    aligned: [u64; 0],
+}
+
+impl fmt::Debug for Short {
+    // What stands in place, without that nothing.
+    fn fmt<W: fmt::Write>(&self, f: &mut fmt::Formatter<W>) -> fmt::Result {
+        let mut shown = f.debug_struct("Short");
+        shown.field("bytes", &self.bytes);
+        shown.field("len", &self.len);
+        shown.finish()
+    }
 }
 
 impl Model for Short {
@@ -41,6 +54,7 @@ impl Short {
         Some(Short {
             bytes,
             len: content.len() as u8,
+            aligned: [],
         })
     }
 
@@ -56,6 +70,7 @@ impl Short {
         Short {
             bytes: self.bytes,
             len: self.len,
+            aligned: [],
         }
     }
 }
