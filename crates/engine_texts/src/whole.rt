@@ -119,9 +119,10 @@ impl<'a> Whole<'a> {
         parts_len(self.kind, self.filter, self.over, self.alive, self.members)
     }
 
-    // Everything, which is that long. All memory is taken at once.
+    /// Everything, whose length is known. All memory is taken at once. OutOfMemory is the only error, and comes only where
+    /// there are bytes.
     #[tactic(auto, using(crate::proofs::Pieces::everything_is))]
-    fn print_sized(&self, alloc: Global, len: usize) -> Result<Vec<u8>, Refusal>
+    pub fn print_sized(&self, alloc: Global, len: usize) -> Result<Vec<u8>, Refusal>
         requires { len ≡ length (everything self.now) }
         ensures ok { IfOk result (λ printed. printed.items ≡ everything self.now) }
         ensures err { IsOkUnless result Refusal.OutOfMemory }

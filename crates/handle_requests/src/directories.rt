@@ -111,7 +111,7 @@ fn everything_of(
         return Err(too_small(len));
     }
     let members = members_of(alloc, objects)?;
-    Whole::new(kind, filter, over, true, &members).answer(alloc, size)
+    Whole::new(kind, filter, over, true, &members).print_sized(alloc, len)
 }
 
 /// What a read of a directory answers by what is owed: everything where no blocks are lent, and else the blocks, or where
