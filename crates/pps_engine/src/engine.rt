@@ -6,7 +6,8 @@ ghost use Rattle.pps_types.specs.Owed.{kept_seen, owed_by_seen};
 ghost use Rattle.pps_types.specs.Plan.{may_lack_memory};
 ghost use Rattle.pps_types.specs.Stands.{Stands, Steps, StepsSeen, Runs, RunsSeen};
 ghost use Rattle.pps_engine.specs.Serving.{Prepares, IsExact};
-ghost use Rattle.pps_engine.specs.Standing.{HoldsJust};
+ghost use Rattle.engine_tables.specs.Tables.{content_in};
+ghost use Rattle.pps_engine.specs.Standing.{HoldsJust, IsSound};
 ghost use Rattle.pps_types.specs.Runs.{answered};
 
 use engine_events::{Pending, Planned, carry_out, plan};
@@ -32,7 +33,9 @@ pub(crate) fn are_cut(tables: &Tables)
 pub(crate) fn forget(pending: &mut Option<Pending>)
     ensures { pending.new ≡ None }
 {
-    *pending = None;
+    if pending.is_some() {
+        *pending = None;
+    }
 }
 
 // This is pending from now on.
@@ -40,6 +43,19 @@ fn keep(pending: &mut Option<Pending>, planned: Pending)
     ensures { pending.new ≡ Some planned }
 {
     *pending = Some(planned);
+}
+
+// One event, planned and carried out at once.
+fn take_step(tables: &mut Tables, alloc: Global, event: &Event) -> Result<Outcome, Refusal>
+    requires { IsSound (content_in tables.old) }
+    ensures seen { StepsSeen (content_in tables.old) event.now result (content_in tables.new) }
+    ensures sound { IsSound (content_in tables.new) }
+    ensures kept { OnErr result (content_in tables.new ≡ content_in tables.old) }
+    ensures sends { IsSendable result }
+{
+    let Planned { reply, pending } = plan(tables, alloc, event)?;
+    carry_out(tables, pending);
+    Ok(reply)
 }
 
 /// What an event will answer. What it will change is held by the engine that has planned it.
@@ -168,8 +184,10 @@ impl Engine {
         ensures sends { IsSendable result }
         ensures cut { IsExact self.new }
     {
-        let plan = self.plan(event)?;
-        Ok(self.commit(plan))
+        forget(&mut *self.pending);
+        let answer = take_step(&mut self.tables, self.alloc, event);
+        are_cut(&self.tables);
+        answer
     }
 
     /// The events in their order, and an answer for each; an event's own OutOfMemory is its answer. It is OutOfMemory
