@@ -15,3 +15,4 @@ pub mod Ways
 pub mod Walks
 pub mod Keys
 pub mod Depths
+pub mod Sends

@@ -31,7 +31,7 @@ use Rattle.engine_tables.specs.Moves.{closing}
 use Rattle.engine_tables.specs.declared.beginning.Beginning.TheVariants.{Closes}
 use Rattle.engine_tables.specs.Beginning.{moves_of, entries_in, CanBegin, CanBeginAll, is_plain}
 use Rattle.engine_targets.specs.Opened.{as_opened}
-use Rattle.handle_requests.specs.Refused.{Fails, all_request_checks}
+use Rattle.engine_tables.specs.Refused.{Fails, all_request_checks}
 use Rattle.handle_requests.proofs.Owns.{own_known}
 use Rattle.close_requests.specs.Told.{record_told, told_of, told_behind}
 use Rattle.close_requests.specs.Begun.{bare, telling, begun, begun_behind}

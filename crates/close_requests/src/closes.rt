@@ -8,7 +8,7 @@ ghost use Rattle.pps_types.specs.Plan as planning;
 ghost use Rattle.pps_types.specs.WellFormed.{IsContent};
 ghost use Rattle.engine_tables.specs.Beginning.{moves_of, AreReady};
 ghost use Rattle.engine_tables.specs.Tables.{content_in};
-ghost use Rattle.handle_requests.specs.Refused.{Fails, all_request_checks};
+ghost use Rattle.engine_tables.specs.Refused.{Fails, all_request_checks};
 ghost use Rattle.close_requests.specs.Closed.{moves_in, is_telling, IsReady};
 
 use crate::gathering::{close_all, close_behind, is_parked};

@@ -10,6 +10,3 @@ mod told;
 pub use closes::{Closing, close, detach};
 pub use gathering::{entries_in, tell};
 pub use room::{begin_ready, numbers_are_within};
-
-#[cfg(test)]
-mod tests;

@@ -10,7 +10,7 @@ use Rattle.pps_types.specs.declared.refusal.Refusal.TheVariants.{NotAttached, Ta
 use Rattle.pps_types.specs.Content.{Content, is_attached}
 use Rattle.pps_types.specs.Checks.{Check, Refuse, Memory, first_refusal, reaches_memory, checks, request_checks}
 use Rattle.pps_types.specs.Plan.{Move, effect, apply_all_seen, all_checks_of, passes_last_number}
-use Rattle.handle_requests.specs.Refused.{Fails, all_request_checks}
+use Rattle.engine_tables.specs.Refused.{Fails, all_request_checks}
 use Rattle.engine_tables.specs.Tables.{Tabled}
 use Rattle.engine_events.specs.declared.done.Done.{Done}
 use Rattle.engine_events.specs.Events.{is_attach, IsAsked, IsDone}

@@ -19,7 +19,7 @@ use Rattle.engine_texts.specs.declared.answer.Effect.TheVariants.{CatchesUp, Pas
 use Rattle.engine_texts.specs.Answered as reads
 use Rattle.engine_events.specs.Told.{IsSettled}
 use Rattle.engine_events.proofs.Lists.{behind_none, fails_before, passes_in_all}
-use Rattle.handle_requests.specs.Refused.{Fails, all_request_checks}
+use Rattle.engine_tables.specs.Refused.{Fails, all_request_checks}
 
 -- ---- the last numbers
 

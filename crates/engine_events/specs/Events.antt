@@ -13,7 +13,7 @@ use Rattle.pps_types.specs.Stands.{StepsSeen}
 use Rattle.engine_replies.specs.Followed as following
 use Rattle.engine_tables.specs.Tables.{Tabled, content_in}
 use Rattle.engine_tables.specs.Following.{CanFollowAll}
-use Rattle.handle_requests.specs.Refused.{Fails, all_request_checks}
+use Rattle.engine_tables.specs.Refused.{Fails, all_request_checks}
 use Rattle.engine_events.specs.declared.done.Done.{Done}
 use Rattle.engine_events.specs.declared.planned.Pending.{Pending}
 use Rattle.engine_events.specs.Doing.{moves_in, CanDo}

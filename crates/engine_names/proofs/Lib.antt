@@ -17,3 +17,4 @@ pub mod Looked
 pub mod Ends
 pub mod Alongside
 pub mod Lent
+pub mod Sends

@@ -8,3 +8,5 @@ pub mod Ready
 pub mod Replaces
 pub mod Copied
 pub mod Free
+pub mod Sends
+pub mod Memory

@@ -5,3 +5,4 @@ pub mod Lines
 pub mod Following
 pub mod Beginning
 pub mod Objects
+pub mod Refused

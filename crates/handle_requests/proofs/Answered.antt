@@ -24,7 +24,7 @@ use Rattle.handle_requests.specs.Own.{opened_as, IsOwn}
 use Rattle.handle_requests.specs.Directories.{directory_source}
 use Rattle.handle_requests.specs.Reads.{Refuses, takes_memory, IsReader}
 use Rattle.handle_requests.proofs.Owns.{own_numbered, own_known}
-use Rattle.handle_requests.proofs.Memory.{memory_or}
+use Rattle.engine_tables.proofs.Memory.{memory_or}
 
 -- an answer that wants memory takes it
 wanted : (a : reading.Answer) → wants_memory a ≡ true → takes_memory a ≡ true

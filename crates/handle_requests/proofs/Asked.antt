@@ -23,12 +23,12 @@ use Rattle.engine_texts.specs.declared.answer.Effect.TheVariants.{Parks}
 use Rattle.content_bounds.specs.Bounds.{IsBound}
 use Rattle.content_bounds.proofs.Effects.{bound-handle}
 use Rattle.content_bounds.proofs.Replies.{IsSmallNeed, small-read}
-use Rattle.handle_requests.specs.Refused.{Fails}
+use Rattle.engine_tables.specs.Refused.{Fails}
 use Rattle.handle_requests.specs.Reads.{Refuses, is_too_long, text_in, waits, IsRead, IsAnswered}
 use Rattle.engine_targets.specs.Opened.{as_opened}
 use Rattle.handle_requests.specs.declared.reading.ReadDone.{ReadDone}
 use Rattle.handle_requests.proofs.Owns.{own_is, own_known}
-use Rattle.handle_requests.proofs.Memory.{memory_or}
+use Rattle.engine_tables.proofs.Memory.{memory_or}
 
 -- the checks, by what they look at
 abbrev read_by : Bool → Bool → Bool → List Check → List Check

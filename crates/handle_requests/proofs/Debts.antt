@@ -12,7 +12,7 @@ use Rattle.engine_targets.specs.Blocks.{owed_blocks, refused_for, first_len}
 use Rattle.engine_texts.specs.Answered.{Owes, refusal_in}
 use Rattle.engine_texts.specs.declared.answer.Fitted.{Fitted}
 use Rattle.handle_requests.specs.Reads.{Refuses, is_given_all}
-use Rattle.handle_requests.proofs.Memory.{memory_or}
+use Rattle.engine_tables.proofs.Memory.{memory_or}
 
 long_or : (k n : ℕ) → (n < k → ⊥) → nat_le k n ≡ true
 long_or k n short = by (nat_le k n) refl

@@ -11,7 +11,7 @@ ghost use Rattle.engine_targets.specs.Opened.{armed_pulse};
 ghost use Rattle.connection_laws.specs.Connections.{AreOwned};
 ghost use Rattle.engine_connections.specs.Standing.{CanArm};
 ghost use Rattle.engine_tables.specs.Tables.{content_in};
-ghost use Rattle.handle_requests.specs.Refused.{Fails};
+ghost use Rattle.engine_tables.specs.Refused.{Fails};
 ghost use Rattle.handle_requests.specs.Notices.{notify_of, notice_of, IsNoticed};
 
 use crate::own::own_asked;

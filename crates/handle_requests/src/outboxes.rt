@@ -7,7 +7,7 @@ ghost use Rattle.pps_types.specs.Checks as checking;
 ghost use Rattle.pps_types.specs.Plan as planning;
 ghost use Rattle.pps_types.specs.Outbox.{empty_outbox, first_of};
 ghost use Rattle.engine_tables.specs.Tables.{content_in};
-ghost use Rattle.handle_requests.specs.Refused.{Fails};
+ghost use Rattle.engine_tables.specs.Refused.{Fails};
 
 use connection_laws::connections_are_found;
 use engine_tables::Tables;

@@ -16,7 +16,7 @@ ghost use Rattle.engine_texts.specs.declared.answer.Effect.TheVariants.{Parks};
 ghost use Rattle.engine_tables.specs.Tables.{content_in};
 ghost use Rattle.handle_requests.specs.Own.{IsOwn};
 ghost use Rattle.handle_requests.specs.Asked.{IsAsked};
-ghost use Rattle.handle_requests.specs.Refused.{Fails};
+ghost use Rattle.engine_tables.specs.Refused.{Fails};
 ghost use Rattle.handle_requests.specs.Reads.{IsAnswered, text_in, waits};
 
 use crate::own::{Asked, own_asked};

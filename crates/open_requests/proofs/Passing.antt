@@ -14,7 +14,7 @@ use Rattle.pps_types.specs.Checks.{first_refusal, letters_fit, open_checks}
 use Rattle.pps_types.specs.Plan.{Move, Opens as OpensHandle, apply_all_seen, effect, opening, new_handle, found_object, passes_last_number}
 use Rattle.settling_laws.specs.Laws.{EventsAreSettled}
 use Rattle.settling_laws.specs.Targets.{last_number_passed}
-use Rattle.handle_requests.specs.Refused.{Fails, all_request_checks}
+use Rattle.engine_tables.specs.Refused.{Fails, all_request_checks}
 use Rattle.engine_tables.specs.Tables.{Tabled, content_in}
 use Rattle.open_requests.specs.declared.ways.Way.{Way}
 use Rattle.open_requests.specs.Asked.{handle_by}

@@ -8,7 +8,7 @@ ghost use Rattle.pps_types.specs.Checks as checking;
 ghost use Rattle.pps_types.specs.Plan as planning;
 ghost use Rattle.pps_types.specs.WellFormed.{IsContent};
 ghost use Rattle.engine_tables.specs.Tables.{content_in};
-ghost use Rattle.handle_requests.specs.Refused.{Fails, all_request_checks};
+ghost use Rattle.engine_tables.specs.Refused.{Fails, all_request_checks};
 ghost use Rattle.open_requests.specs.Asked.{handle_by};
 ghost use Rattle.open_requests.specs.Planned.{moves_of, IsReady};
 ghost use Rattle.open_requests.specs.Ways.{CanStep, IsWay, step_moves, step_target, step_records, step_objects};

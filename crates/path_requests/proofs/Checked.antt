@@ -21,8 +21,8 @@ use Rattle.engine_names.specs.Listed.{suffix, members_at, MembersAreListed}
 use Rattle.engine_names.specs.Standing.{Standing, content_of, standing_in}
 use Rattle.engine_names.specs.Laws.{QuestionsAreTold}
 use Rattle.open_options.specs.Refused.{IsPathRefusal}
-use Rattle.handle_requests.specs.Refused.{Fails, all_request_checks}
-use Rattle.handle_requests.proofs.Memory.{memory_or}
+use Rattle.engine_tables.specs.Refused.{Fails, all_request_checks}
+use Rattle.engine_tables.proofs.Memory.{memory_or}
 use Rattle.path_requests.specs.Listed.{line_listed}
 
 -- ---- a text that is a path, or none

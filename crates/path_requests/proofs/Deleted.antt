@@ -18,7 +18,7 @@ use Rattle.settling_laws.specs.Targets.{last_number_passed, last_number_passed_a
 use Rattle.settling_laws.specs.Laws.{EventsAreSettled}
 use Rattle.engine_tables.specs.declared.beginning.Beginning.{Beginning}
 use Rattle.engine_tables.specs.Beginning.{moves_of, entries_in, CanBeginAll, is_plain}
-use Rattle.handle_requests.specs.Refused.{Fails, all_request_checks}
+use Rattle.engine_tables.specs.Refused.{Fails, all_request_checks}
 use Rattle.close_requests.specs.Begun.{bare, telling}
 use Rattle.close_requests.proofs.Begins.{bare_moves, bare_plain, bare_able, numbers_begun, told_moves}
 use Rattle.path_requests.proofs.Checked.{unlink_last}

@@ -5,7 +5,7 @@ ghost use Rattle.pps_types.specs.declared.event.Request.TheVariants.{List as Lis
 ghost use Rattle.pps_types.specs.Checks as checking;
 ghost use Rattle.pps_types.specs.Plan as planning;
 ghost use Rattle.engine_tables.specs.Tables.{content_in};
-ghost use Rattle.handle_requests.specs.Refused.{Fails};
+ghost use Rattle.engine_tables.specs.Refused.{Fails};
 ghost use Rattle.path_requests.specs.Listed.{line_listed};
 
 use crate::paths::read_names;

@@ -6,7 +6,7 @@ ghost use Rattle.pps_types.specs.Checks as checking;
 ghost use Rattle.pps_types.specs.Plan as planning;
 ghost use Rattle.engine_names.specs.Standing.{IsReadyToMake};
 ghost use Rattle.engine_tables.specs.Tables.{content_in};
-ghost use Rattle.handle_requests.specs.Refused.{Fails, all_request_checks};
+ghost use Rattle.engine_tables.specs.Refused.{Fails, all_request_checks};
 
 use crate::paths::read_names;
 use engine_tables::Tables;

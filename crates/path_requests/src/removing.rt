@@ -15,7 +15,7 @@ ghost use Rattle.pps_types.specs.WellFormed.{IsContent};
 ghost use Rattle.engine_names.specs.Listed.{objects_at};
 ghost use Rattle.engine_tables.specs.Beginning.{IsSharedBy};
 ghost use Rattle.engine_tables.specs.Tables.{content_in};
-ghost use Rattle.handle_requests.specs.Refused.{Fails, all_request_checks};
+ghost use Rattle.engine_tables.specs.Refused.{Fails, all_request_checks};
 ghost use Rattle.close_requests.specs.Begun.{bare, telling};
 ghost use Rattle.path_requests.specs.Removed.{moves_in, IsReady};
 

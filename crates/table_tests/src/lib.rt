@@ -3,6 +3,8 @@
 #![tactic(auto)]
 
 #[cfg(test)]
+mod closes;
+#[cfg(test)]
 mod connections;
 #[cfg(test)]
 mod names;

@@ -18,7 +18,7 @@ use Rattle.pps_types.specs.Checks.{Check, first_refusal, reaches_memory, parsed,
 use Rattle.pps_types.specs.Plan.{Move, effect, writing, on_target, written_kind}
 use Rattle.pps_types.specs.WellFormed.{IsContent, may_be_on, server_of}
 use Rattle.pps_types.proofs.Finds.{all-find}
-use Rattle.handle_requests.specs.Refused.{Fails, all_request_checks}
+use Rattle.engine_tables.specs.Refused.{Fails, all_request_checks}
 use Rattle.handle_requests.proofs.Owns.{own_is}
 use Rattle.engine_names.specs.Standing.{known_of}
 use Rattle.write_requests.specs.declared.draft.Draft.{Draft}

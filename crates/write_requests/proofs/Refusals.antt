@@ -12,7 +12,7 @@ use Rattle.pps_types.specs.Rests.{Seen}
 use Rattle.pps_types.specs.Content.{Content, own_handle, target_is_dead}
 use Rattle.pps_types.specs.Checks.{Check, Refuse, Memory, first_refusal, reaches_memory, request_checks, write_checks, parsed, text_checks}
 use Rattle.pps_types.specs.Plan.{effect, writing, with_result}
-use Rattle.handle_requests.specs.Refused.{Fails, all_request_checks}
+use Rattle.engine_tables.specs.Refused.{Fails, all_request_checks}
 use Rattle.write_requests.specs.Writes.{early_checks, FailsLate, is_past}
 
 -- ---- lists of checks

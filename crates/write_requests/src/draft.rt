@@ -11,7 +11,7 @@ ghost use Rattle.pps_types.specs.WellFormed.{IsContent};
 ghost use Rattle.content_bounds.specs.Bounds.{IsBound};
 ghost use Rattle.engine_names.specs.Standing.{known_of};
 ghost use Rattle.engine_tables.specs.Tables.{content_in};
-ghost use Rattle.handle_requests.specs.Refused.{Fails, all_request_checks};
+ghost use Rattle.engine_tables.specs.Refused.{Fails, all_request_checks};
 ghost use Rattle.write_requests.specs.Backlogs.{server_in};
 ghost use Rattle.write_requests.specs.Writes.{author_of, checks_by, kind_by, server_text_checks, client_text_checks, late_refusal, FailsLate, IsAuthor, IsDrafted, IsDraft};
 

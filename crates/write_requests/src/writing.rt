@@ -8,7 +8,7 @@ ghost use Rattle.pps_types.specs.WellFormed.{IsContent};
 ghost use Rattle.content_bounds.specs.Bounds.{IsBound};
 ghost use Rattle.engine_tables.specs.Tables.{content_in};
 ghost use Rattle.engine_tables.specs.Beginning.{moves_of, AreReady};
-ghost use Rattle.handle_requests.specs.Refused.{Fails, all_request_checks};
+ghost use Rattle.engine_tables.specs.Refused.{Fails, all_request_checks};
 
 use crate::draft::drafted;
 use crate::ready::{begun, lines_ready, record_written};

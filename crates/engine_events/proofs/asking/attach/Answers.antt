@@ -5,7 +5,7 @@ use Rattle.connection_laws.specs.Connections.{AreOwned}
 use Rattle.engine_tables.specs.Tables.{content_in}
 use Rattle.pps_types.specs.Checks.{attach_checks}
 use Rattle.notify_box.specs.declared.outbox.Outbox.{Outbox}
-use Rattle.handle_requests.specs.Refused.{Fails}
+use Rattle.engine_tables.specs.Refused.{Fails}
 use Rattle.engine_events.proofs.Within.{attach_does, attach_fails, attach_lacks, attach_passes}
 use Rattle.engine_events.proofs.asking.attach.Goals as goal
 

@@ -4,7 +4,7 @@ use Rattle.pps_types.specs.declared.outcome.Outcome.{Outcome}
 use Rattle.pps_types.specs.Checks.{first_refusal}
 use Rattle.pps_types.specs.Plan.{Move, effect}
 use Rattle.engine_tables.specs.Tables.{content_in}
-use Rattle.handle_requests.specs.Refused.{all_request_checks}
+use Rattle.engine_tables.specs.Refused.{all_request_checks}
 use Rattle.engine_events.proofs.Within.{passes_all, received_here, taking, taking_else, taking_makes_nothing}
 use Rattle.engine_events.proofs.requests.receive.Goals.{in-Item, in_default}
 use Rattle.engine_events.proofs.requests.receive.Goals as goal

@@ -3,7 +3,7 @@ use Rattle.std.proofs.lemmas.Result.{err_from_is_err_and}
 use Rattle.pps_types.specs.declared.event.Request.TheVariants.{Open as OpenRequest}
 use Rattle.pps_types.specs.Checks.{reaches_memory}
 use Rattle.engine_tables.specs.Tables.{content_in}
-use Rattle.handle_requests.specs.Refused.{all_request_checks}
+use Rattle.engine_tables.specs.Refused.{all_request_checks}
 use Rattle.open_requests.specs.Planned.{moves_of}
 use Rattle.open_requests.proofs.Passing.{does}
 use Rattle.open_requests.proofs.Stepped.{ok_to, on_ok}

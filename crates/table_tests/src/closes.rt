@@ -1,4 +1,4 @@
-use crate::{close, detach};
+use close_requests::{close, detach};
 use engine_tables::Tables;
 use pps_types::{Conn, Handle, Refusal};
 use std::test::Fail;
