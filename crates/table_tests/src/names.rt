@@ -45,9 +45,24 @@ fn a_path_ends_in_its_last_name(rt: HostRuntime) -> Result<(), Fail> {
     Ok(())
 }
 
+/// The names of a new service.
+fn new_names(alloc: Global) -> Result<Names, Refusal> {
+    Ok(Names::new(alloc)?)
+}
+
+/// What stands under a path of one name.
+fn find(alloc: Global, names: &Names, name: &[u8]) -> Result<Found, Refusal> {
+    names.find(&path_of(alloc, name)?)
+}
+
+/// The object of that number.
+fn object(number: u64) -> Result<Found, Refusal> {
+    Ok(Found::Object(ObjId::new(number)))
+}
+
 #[test]
 fn the_root_stands_alone(rt: HostRuntime) -> Result<(), Fail> {
-    let names = Names::new(rt.alloc())?;
+    let names = new_names(rt.alloc())?;
     assert_eq!(rt; names.find(&[]), Ok(Found::Directory(DirId::new(0))));
     assert_eq!(rt; names.next_object(), 0);
     let Some(root) = names.directory(DirId::new(0)) else {
@@ -62,12 +77,20 @@ fn the_root_stands_alone(rt: HostRuntime) -> Result<(), Fail> {
 #[test]
 fn an_object_is_created(rt: HostRuntime) -> Result<(), Fail> {
     let alloc = rt.alloc();
-    let mut names = Names::new(alloc)?;
+    let mut names = new_names(alloc)?;
     let created = create(&mut names, alloc, b"a")?;
     assert_eq!(rt; created, Some(ObjId::new(0)));
+    assert_eq!(rt; find(alloc, &names, b"a"), object(0));
     let path = path_of(alloc, b"a")?;
-    assert_eq!(rt; names.find(&path), Ok(Found::Object(ObjId::new(0))));
     assert_eq!(rt; names.create_ready(&path), Err(Refusal::Exists));
+    Ok(())
+}
+
+#[test]
+fn an_object_is_known(rt: HostRuntime) -> Result<(), Fail> {
+    let alloc = rt.alloc();
+    let mut names = new_names(alloc)?;
+    let _ = create(&mut names, alloc, b"a")?;
     let Some(object) = names.object(ObjId::new(0)) else {
         assert!(rt; false);
         return Ok(());
@@ -89,76 +112,120 @@ fn attribute_count(names: &Names, object: ObjId) -> usize {
     }
 }
 
+/// Changes an object by lines that set two attributes, of which one is not saved.
+fn change(alloc: Global, names: &mut Names, object: ObjId) -> Result<(), Refusal> {
+    let lines = [line(alloc, b"x", true)?, line(alloc, b"y", false)?];
+    names.change_ready(object, &lines)?;
+    if names.object(object).is_some() {
+        names.change(object);
+    }
+    Ok(())
+}
+
+/// Drops the attributes that are not saved.
+fn drop_nonpersistent(names: &mut Names, object: ObjId) {
+    names.drop_nonpersistent(object);
+}
+
+/// Drops all attributes.
+fn truncate(names: &mut Names, object: ObjId) {
+    names.truncate(object);
+}
+
 #[test]
 fn attributes_change(rt: HostRuntime) -> Result<(), Fail> {
     let alloc = rt.alloc();
-    let mut names = Names::new(alloc)?;
+    let mut names = new_names(alloc)?;
     let _ = create(&mut names, alloc, b"a")?;
     let object = ObjId::new(0);
-    let lines = [line(alloc, b"x", true)?, line(alloc, b"y", false)?];
-    names.change_ready(object, &lines)?;
-    let Some(_) = names.object(object) else {
-        return Ok(());
-    };
-    names.change(object);
+    change(alloc, &mut names, object)?;
     assert_eq!(rt; attribute_count(&names, object), 2);
-    names.drop_nonpersistent(object);
+    drop_nonpersistent(&mut names, object);
     assert_eq!(rt; attribute_count(&names, object), 1);
-    names.truncate(object);
+    truncate(&mut names, object);
     assert_eq!(rt; attribute_count(&names, object), 0);
-    moves_are_told();
     Ok(())
 }
 
 #[test]
-fn a_directory_is_made(rt: HostRuntime) -> Result<(), Fail> {
-    let alloc = rt.alloc();
+fn laws_are_there_for_callers(rt: HostRuntime) {
+    let _ = rt;
+    moves_are_told();
+    members_are_listed();
+}
+
+/// Names with a directory of that name, and its number.
+fn with_directory(alloc: Global, name: &[u8]) -> Result<(Names, DirId), Refusal> {
     let mut names = Names::new(alloc)?;
-    let path = path_of(alloc, b"d")?;
+    let path = path_of(alloc, name)?;
     names.make_directory_ready(&path)?;
     let made = names.make_directory(path);
-    assert!(rt; names.directory(made).is_some());
+    Ok((names, made))
+}
+
+/// Whether there is a directory of that number.
+fn has_directory(names: &Names, directory: DirId) -> bool {
+    names.directory(directory).is_some()
+}
+
+#[test]
+fn a_directory_is_made(rt: HostRuntime) -> Result<(), Fail> {
+    let (names, made) = with_directory(rt.alloc(), b"d")?;
+    assert!(rt; has_directory(&names, made));
+    assert_eq!(rt; names.directory_count(), 2);
+    assert_eq!(rt; names.directories_in(&[]), 1);
     Ok(())
+}
+
+/// Whether there is an object of that number.
+fn has_object(names: &Names, object: u64) -> bool {
+    names.object(ObjId::new(object)).is_some()
+}
+
+/// Deletes an object.
+fn delete(names: &mut Names, object: u64) {
+    names.delete(ObjId::new(object));
+}
+
+/// How many objects there are, and how many stand right below the root.
+fn object_counts(names: &Names) -> (usize, usize) {
+    (names.object_count(), names.objects_in(&[]))
 }
 
 #[test]
 fn an_object_is_deleted(rt: HostRuntime) -> Result<(), Fail> {
     let alloc = rt.alloc();
-    let mut names = Names::new(alloc)?;
+    let mut names = new_names(alloc)?;
     let _ = create(&mut names, alloc, b"a")?;
     let _ = create(&mut names, alloc, b"b")?;
-    assert_eq!(rt; names.object_count(), 2);
-    names.delete(ObjId::new(0));
-    let path = path_of(alloc, b"a")?;
-    assert_eq!(rt; names.find(&path), Err(Refusal::NotFound));
-    assert!(rt; names.object(ObjId::new(0)).is_none());
-    assert!(rt; names.object(ObjId::new(1)).is_some());
-    assert_eq!(rt; names.object_count(), 1);
-    assert_eq!(rt; names.objects_in(&[]), 1);
+    assert!(rt; object_counts(&names) == (2, 2));
+    delete(&mut names, 0);
+    assert_eq!(rt; find(alloc, &names, b"a"), Err(Refusal::NotFound));
+    assert!(rt; !has_object(&names, 0));
+    assert!(rt; has_object(&names, 1));
+    assert!(rt; object_counts(&names) == (1, 1));
     let again = create(&mut names, alloc, b"a")?;
     assert_eq!(rt; again, Some(ObjId::new(2)));
     Ok(())
 }
 
+/// Removes a directory in which nothing stands. Gives whether that was so.
+fn remove_directory(names: &mut Names, directory: DirId) -> bool {
+    let is_bare = names.is_bare(directory);
+    if is_bare {
+        names.remove_directory(directory);
+    }
+    is_bare
+}
+
 #[test]
 fn a_directory_is_removed(rt: HostRuntime) -> Result<(), Fail> {
-    let alloc = rt.alloc();
-    let mut names = Names::new(alloc)?;
-    let path = path_of(alloc, b"d")?;
-    names.make_directory_ready(&path)?;
-    let made = names.make_directory(path);
-    assert_eq!(rt; names.directory_count(), 2);
-    assert_eq!(rt; names.directories_in(&[]), 1);
+    let (mut names, made) = with_directory(rt.alloc(), b"d")?;
     assert!(rt; !names.is_bare(DirId::new(0)));
-    let is_bare = names.is_bare(made);
-    assert!(rt; is_bare);
-    if is_bare {
-        names.remove_directory(made);
-    }
-    assert!(rt; names.directory(made).is_none());
+    assert!(rt; remove_directory(&mut names, made));
+    assert!(rt; !has_directory(&names, made));
     assert_eq!(rt; names.directory_count(), 1);
-    let path = path_of(alloc, b"d")?;
-    assert_eq!(rt; names.find(&path), Err(Refusal::NotFound));
+    assert_eq!(rt; find(rt.alloc(), &names, b"d"), Err(Refusal::NotFound));
     Ok(())
 }
 
@@ -191,14 +258,11 @@ fn members_stand_in_order(rt: HostRuntime) -> Result<(), Fail> {
     assert!(rt; is_named(&listed, 0, b"a", Found::Object(ObjId::new(1))));
     assert!(rt; is_named(&listed, 1, b"b", Found::Directory(DirId::new(1))));
     assert!(rt; is_named(&listed, 2, b"c", Found::Object(ObjId::new(0))));
-    members_are_listed();
     Ok(())
 }
 
-#[test]
-fn members_are_lent_in_order(rt: HostRuntime) -> Result<(), Fail> {
-    let alloc = rt.alloc();
-    let names = some_members(alloc)?;
+/// The names that are lent of the root's members, one behind the other, those of directories with a slash.
+fn lent_names(alloc: Global, names: &Names) -> Result<Vec<u8>, Refusal> {
     let lent = names.members_lent(&[])?;
     let mut text = Vec::new(alloc);
     for place in 0..lent.len() {
@@ -208,36 +272,58 @@ fn members_are_lent_in_order(rt: HostRuntime) -> Result<(), Fail> {
             text.push(b'/')?;
         }
     }
+    Ok(text)
+}
+
+#[test]
+fn members_are_lent_in_order(rt: HostRuntime) -> Result<(), Fail> {
+    let names = some_members(rt.alloc())?;
+    let text = lent_names(rt.alloc(), &names)?;
     assert!(rt; text.as_slice() == b"ab/c".as_slice());
     Ok(())
 }
 
+/// The objects that stand right in the root.
+fn objects_of_root(alloc: Global, names: &Names) -> Result<Vec<ObjId>, Refusal> {
+    names.objects_of(alloc, DirId::new(0))
+}
+
+/// Whether the object of that number has that name.
+fn has_name(names: &Names, object: u64, name: &[u8]) -> bool {
+    match names.object(ObjId::new(object)) {
+        Some(known) => known.name() == name,
+        None => false,
+    }
+}
+
 #[test]
 fn objects_stand_in_order(rt: HostRuntime) -> Result<(), Fail> {
-    let alloc = rt.alloc();
-    let names = some_members(alloc)?;
-    let objects = names.objects_of(alloc, DirId::new(0))?;
-    assert_eq!(rt; objects.len(), 2);
-    assert_eq!(rt; objects.get(0).copied(), Some(ObjId::new(1)));
-    assert_eq!(rt; objects.get(1).copied(), Some(ObjId::new(0)));
-    let Some(object) = names.object(ObjId::new(1)) else {
-        return Ok(());
-    };
-    let name = object.name();
-    assert!(rt; name == b"a".as_slice());
+    let names = some_members(rt.alloc())?;
+    let objects = objects_of_root(rt.alloc(), &names)?;
+    assert!(rt; objects.as_slice() == [ObjId::new(1), ObjId::new(0)].as_slice());
+    assert!(rt; has_name(&names, 1, b"a"));
     Ok(())
+}
+
+/// A copy of all names.
+fn copy_of(names: &Names) -> Result<Names, Refusal> {
+    names.copy()
+}
+
+/// Whether the same stands of both.
+fn is_same(names: &Names, other: &Names) -> bool {
+    names.same(other)
 }
 
 #[test]
 fn a_copy_is_the_same(rt: HostRuntime) -> Result<(), Fail> {
     let alloc = rt.alloc();
-    let mut names = Names::new(alloc)?;
+    let mut names = new_names(alloc)?;
     let _ = create(&mut names, alloc, b"a")?;
-    let mut copy = names.copy()?;
-    assert!(rt; names.same(&copy));
-    let path = path_of(alloc, b"a")?;
-    assert_eq!(rt; copy.find(&path), Ok(Found::Object(ObjId::new(0))));
-    copy.delete(ObjId::new(0));
-    assert!(rt; !names.same(&copy));
+    let mut copy = copy_of(&names)?;
+    assert!(rt; is_same(&names, &copy));
+    assert_eq!(rt; find(alloc, &copy, b"a"), object(0));
+    delete(&mut copy, 0);
+    assert!(rt; !is_same(&names, &copy));
     Ok(())
 }

@@ -11,36 +11,61 @@ fn path(alloc: Global, name: &[u8]) -> Result<Vec<Bytes>, AllocError> {
     Ok(names)
 }
 
+/// What stands under that name.
+fn find(alloc: Global, tables: &Tables, name: &[u8]) -> Result<Found, Refusal> {
+    tables.names().find(&path(alloc, name)?)
+}
+
+/// A new service in which that directory is restored.
+fn with_directory(alloc: Global, name: &[u8]) -> Result<Tables, Refusal> {
+    contents_stay();
+    let mut tables = Tables::new(alloc, 1, 256)?;
+    restore_directory(&mut tables, path(alloc, name)?)?;
+    Ok(tables)
+}
+
 #[test]
 fn a_directory_is_restored(rt: HostRuntime) -> Result<(), Fail> {
-    contents_stay();
-    let mut tables = Tables::new(rt.alloc(), 1, 256)?;
-    restore_directory(&mut tables, path(rt.alloc(), b"cars")?)?;
-    assert_eq!(rt;
-        tables.names().find(&path(rt.alloc(), b"cars")?)?,
-        Found::Directory(DirId::new(1))
-    );
+    let tables = with_directory(rt.alloc(), b"cars")?;
+    let found = find(rt.alloc(), &tables, b"cars")?;
+    assert_eq!(rt; found, Found::Directory(DirId::new(1)));
     Ok(())
+}
+
+/// Whether an object stands under that name.
+fn has_object(alloc: Global, tables: &Tables, name: &[u8]) -> Result<bool, AllocError> {
+    Ok(tables.names().find_object(&path(alloc, name)?).is_some())
+}
+
+/// A new service in which that object is restored.
+fn with_object(alloc: Global, name: &[u8]) -> Result<Tables, Refusal> {
+    contents_stay();
+    let mut tables = Tables::new(alloc, 1, 256)?;
+    restore_object(&mut tables, alloc, path(alloc, name)?)?;
+    Ok(tables)
 }
 
 #[test]
 fn an_object_is_restored(rt: HostRuntime) -> Result<(), Fail> {
-    contents_stay();
-    let mut tables = Tables::new(rt.alloc(), 1, 256)?;
-    restore_object(&mut tables, rt.alloc(), path(rt.alloc(), b"gps")?)?;
-    let names = path(rt.alloc(), b"gps")?;
-    assert!(rt; tables.names().find_object(&names).is_some());
+    let tables = with_object(rt.alloc(), b"gps")?;
+    assert!(rt; has_object(rt.alloc(), &tables, b"gps")?);
     assert_eq!(rt; tables.records(), 1);
     assert_eq!(rt; tables.handles().len(), 0);
     Ok(())
 }
 
+/// How the root is restored in a new service, and how many directories there are then.
+fn restored_root(alloc: Global) -> Result<(Result<(), Refusal>, usize), Refusal> {
+    contents_stay();
+    let mut tables = Tables::new(alloc, 1, 256)?;
+    let restored = restore_directory(&mut tables, Vec::new(alloc));
+    Ok((restored, tables.names().directory_count()))
+}
+
 #[test]
 fn what_stands_is_not_restored(rt: HostRuntime) -> Result<(), Fail> {
-    contents_stay();
-    let mut tables = Tables::new(rt.alloc(), 1, 256)?;
-    let root = Vec::new(rt.alloc());
-    assert_eq!(rt; restore_directory(&mut tables, root), Err(Refusal::Exists));
-    assert_eq!(rt; tables.names().directory_count(), 1);
+    let (restored, directories) = restored_root(rt.alloc())?;
+    assert_eq!(rt; restored, Err(Refusal::Exists));
+    assert_eq!(rt; directories, 1);
     Ok(())
 }

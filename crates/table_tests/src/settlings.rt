@@ -2,24 +2,33 @@
 
 use engine_tables::Tables;
 use event_settling::settle;
-use pps_types::{Bytes, Kind, ObjId, Record, contents_stay};
+use pps_types::{Bytes, Kind, ObjId, Record, Refusal, contents_stay};
 use server_queue::Entry;
+use std::alloc::{AllocError, Global};
 use std::test::Fail;
 
-#[test]
-fn nothing_follows_where_nobody_waits(rt: HostRuntime) -> Result<(), Fail> {
-    let alloc = rt.alloc();
+/// Whether nothing follows in a new service from these records.
+fn is_settled(alloc: Global, entries: &[Entry]) -> Result<bool, Refusal> {
     contents_stay();
     let tables = Tables::new(alloc, 1, 256)?;
+    let following = settle(&tables, alloc, entries, &[])?;
+    Ok(following.is_empty())
+}
+
+/// The record that the object 0 is created.
+fn created(alloc: Global) -> Result<Entry, AllocError> {
     let made = Record {
         object: ObjId::new(0),
         kind: Kind::Created,
         writer: None,
     };
-    let entries = [Entry::new(alloc, 0, Bytes::from_slice(alloc, b"gps")?, made)?];
-    let following = settle(&tables, alloc, &entries, &[])?;
-    assert!(rt; following.is_empty());
-    let following = settle(&tables, alloc, &[], &[])?;
-    assert!(rt; following.is_empty());
+    Entry::new(alloc, 0, Bytes::from_slice(alloc, b"gps")?, made)
+}
+
+#[test]
+fn nothing_follows_where_nobody_waits(rt: HostRuntime) -> Result<(), Fail> {
+    let entries = [created(rt.alloc())?];
+    assert!(rt; is_settled(rt.alloc(), &entries)?);
+    assert!(rt; is_settled(rt.alloc(), &[])?);
     Ok(())
 }

@@ -8,7 +8,7 @@ ghost use Rattle.engine_seats.specs.Seated.{IsSameTarget, Suits, handles_of, nam
 
 use engine_seats::Seats;
 use engine_targets::{Opening, Pulse};
-use pps_types::{Bytes, Conn, DirId, Handle, HandleKind, Kind, ObjId, Record};
+use pps_types::{Bytes, Conn, DirId, Handle, HandleKind, Kind, ObjId, Record, Refusal};
 use server_queue::Entry;
 use std::alloc::{AllocError, Global};
 use std::test::Fail;
@@ -76,6 +76,47 @@ fn tell(alloc: Global, seats: &mut Seats, kind: Kind) -> Result<(), AllocError> 
     Ok(())
 }
 
+/// How many records a handle is owed, none where it is past its limit.
+fn owed(seats: &Seats, handle: u32) -> Option<usize> {
+    seats.owed(Handle::new(handle))
+}
+
+/// Whether a read of a handle would give something.
+fn has_news(seats: &Seats, handle: u32) -> bool {
+    seats.has_news(Handle::new(handle))
+}
+
+/// Gives a handle everything.
+fn catch_up(seats: &mut Seats, handle: u32) {
+    seats.catch_up(Handle::new(handle));
+}
+
+/// Closes a handle.
+fn close(seats: &mut Seats, handle: u32) {
+    seats.close(Handle::new(handle));
+}
+
+/// A copy of all.
+fn copy(seats: &Seats) -> Result<Seats, Refusal> {
+    seats.copy()
+}
+
+/// Whether the same stands in both.
+fn same(seats: &Seats, other: &Seats) -> bool {
+    seats.same(other)
+}
+
+/// Whom a truncation by the handle 5 wakes.
+fn woken(alloc: Global, seats: &Seats) -> Result<Vec<Handle>, AllocError> {
+    let made = Record {
+        object: ObjId::new(1),
+        kind: Kind::Truncated,
+        writer: Some(Handle::new(5)),
+    };
+    let entry = Entry::new(alloc, 7, Bytes::from_slice(alloc, b"gps")?, made)?;
+    seats.woken_by(alloc, std::slice::from_ref(&entry))
+}
+
 #[test]
 fn readers_open_and_close(rt: HostRuntime) -> Result<(), Fail> {
     let alloc = rt.alloc();
@@ -84,8 +125,8 @@ fn readers_open_and_close(rt: HostRuntime) -> Result<(), Fail> {
     assert!(rt; !seats.is_empty());
     let is_there = seats.opening(Handle::new(3)).is_some();
     assert!(rt; is_there);
-    seats.close(Handle::new(3));
-    seats.close(Handle::new(5));
+    close(&mut seats, 3);
+    close(&mut seats, 5);
     assert!(rt; seats.is_empty());
     Ok(())
 }
@@ -94,17 +135,17 @@ fn readers_open_and_close(rt: HostRuntime) -> Result<(), Fail> {
 fn readers_are_told(rt: HostRuntime) -> Result<(), Fail> {
     let alloc = rt.alloc();
     let mut seats = readers(alloc)?;
-    seats.catch_up(Handle::new(3));
-    seats.catch_up(Handle::new(5));
-    assert!(rt; !seats.has_news(Handle::new(3)));
+    catch_up(&mut seats, 3);
+    catch_up(&mut seats, 5);
+    assert!(rt; !has_news(&seats, 3));
     tell(alloc, &mut seats, Kind::Truncated)?;
-    assert!(rt; seats.has_news(Handle::new(3)));
-    assert!(rt; seats.has_news(Handle::new(5)));
-    assert_eq!(rt; seats.owed(Handle::new(3)), Some(1));
+    assert!(rt; has_news(&seats, 3));
+    assert!(rt; has_news(&seats, 5));
+    assert_eq!(rt; owed(&seats, 3), Some(1));
     let read = seats.read_owed(alloc, Handle::new(3), 100)?;
     assert_eq!(rt; read.text.as_slice(), b"#@gps\n".as_slice());
     seats.pass(Handle::new(3), read.count);
-    assert_eq!(rt; seats.owed(Handle::new(3)), Some(0));
+    assert_eq!(rt; owed(&seats, 3), Some(0));
     Ok(())
 }
 
@@ -114,8 +155,8 @@ fn a_server_is_told(rt: HostRuntime) -> Result<(), Fail> {
     let mut seats = served(alloc)?;
     assert!(rt; seats.is_service());
     tell(alloc, &mut seats, Kind::Closed(Handle::new(4)))?;
-    assert_eq!(rt; seats.owed(Handle::new(3)), Some(1));
-    assert_eq!(rt; seats.owed(Handle::new(4)), Some(0));
+    assert_eq!(rt; owed(&seats, 3), Some(1));
+    assert_eq!(rt; owed(&seats, 4), Some(0));
     let read = seats.read_owed(alloc, Handle::new(3), 100)?;
     assert_eq!(rt; read.count, 1);
     assert_eq!(rt; read.text.as_slice(), b"-@gps.4\n".as_slice());
@@ -126,23 +167,17 @@ fn a_server_is_told(rt: HostRuntime) -> Result<(), Fail> {
 fn who_waits_is_woken(rt: HostRuntime) -> Result<(), Fail> {
     let alloc = rt.alloc();
     let mut seats = readers(alloc)?;
-    seats.catch_up(Handle::new(3));
-    seats.catch_up(Handle::new(5));
+    catch_up(&mut seats, 3);
+    catch_up(&mut seats, 5);
     seats.park(Handle::new(3), Some(64));
     let pulse = Pulse { code: 1, value: 9 };
     seats.arm(Handle::new(5), Some(pulse));
     assert_eq!(rt; seats.parked(Handle::new(3)), Some(64));
     let armed = seats.armed(Handle::new(5));
     assert!(rt; armed == Some(pulse));
-    let made = Record {
-        object: ObjId::new(1),
-        kind: Kind::Truncated,
-        writer: Some(Handle::new(5)),
-    };
-    let entry = Entry::new(alloc, 7, Bytes::from_slice(alloc, b"gps")?, made)?;
-    let woken = seats.woken_by(alloc, std::slice::from_ref(&entry))?;
+    let woken = woken(alloc, &seats)?;
     assert_eq!(rt; woken.len(), 1);
-    assert!(rt; woken[0] == Handle::new(3));
+    assert!(rt; woken.first() == Some(&Handle::new(3)));
     Ok(())
 }
 
@@ -152,7 +187,7 @@ fn a_directory_is_listened_to(rt: HostRuntime) -> Result<(), Fail> {
     let mut seats = Seats::of_directory(alloc, DirId::new(7));
     assert!(rt; seats.is_empty());
     open(&mut seats, opening(3, HandleKind::Names))?;
-    assert!(rt; seats.has_news(Handle::new(3)));
+    assert!(rt; has_news(&seats, 3));
     Ok(())
 }
 
@@ -161,12 +196,12 @@ fn a_copy_is_the_same(rt: HostRuntime) -> Result<(), Fail> {
     let alloc = rt.alloc();
     let plain = readers(alloc)?;
     let server = served(alloc)?;
-    let mut copy = plain.copy()?;
-    assert!(rt; copy.same(&plain));
-    assert!(rt; !server.same(&plain));
-    let of_server = server.copy()?;
-    assert!(rt; of_server.same(&server));
-    copy.close(Handle::new(3));
-    assert!(rt; !copy.same(&plain));
+    let mut other = copy(&plain)?;
+    assert!(rt; same(&other, &plain));
+    assert!(rt; !same(&server, &plain));
+    let of_server = copy(&server)?;
+    assert!(rt; same(&of_server, &server));
+    close(&mut other, 3);
+    assert!(rt; !same(&other, &plain));
     Ok(())
 }

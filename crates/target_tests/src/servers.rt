@@ -8,7 +8,7 @@ ghost use Rattle.engine_targets.specs.Opened.{opened};
 use engine_servers::Service;
 use engine_targets::{Opening, Pulse};
 use pps_types::{Bytes, Conn, Handle, HandleKind, Kind, Line, Lines, ObjId, Record, Refusal};
-use server_queue::Entry;
+use server_queue::{Entry, Plan};
 use std::alloc::{AllocError, Global};
 use std::test::Fail;
 
@@ -89,6 +89,81 @@ fn served(alloc: Global) -> Result<Service, AllocError> {
     Ok(service)
 }
 
+/// How many records a handle is owed, none where there is no such handle.
+fn owed(service: &Service, handle: u32) -> Option<usize> {
+    service.owed(Handle::new(handle))
+}
+
+/// Whether the server's handle holds all that it takes of a client.
+fn is_server_full(service: &Service, server: u32, client: u32) -> bool {
+    service.is_server_full(Handle::new(server), Handle::new(client))
+}
+
+/// Whether a client's handle holds all that it takes.
+fn is_client_full(service: &Service, handle: u32) -> bool {
+    service.is_client_full(Handle::new(handle))
+}
+
+/// A client's handle that holds all that it takes.
+fn full_client(service: &Service) -> Option<Handle> {
+    service.full_client()
+}
+
+/// Whether a read of a handle would give something.
+fn has_news(service: &Service, handle: u32) -> bool {
+    service.has_news(Handle::new(handle))
+}
+
+/// What a read of so many bytes gives of what a handle is owed.
+fn read(alloc: Global, service: &Service, handle: u32, max: u32) -> Result<Plan, Refusal> {
+    service.read_owed(alloc, Handle::new(handle), max)
+}
+
+/// Gives a handle so many of the records that it is owed.
+fn pass(service: &mut Service, handle: u32, count: usize) {
+    service.pass(Handle::new(handle), count);
+}
+
+/// Gives a handle everything.
+fn catch_up(service: &mut Service, handle: u32) {
+    service.catch_up(Handle::new(handle));
+}
+
+/// Closes a handle.
+fn close(service: &mut Service, handle: u32) {
+    service.close(Handle::new(handle));
+}
+
+/// Lets a read of so many bytes wait on a handle, or none.
+fn park(service: &mut Service, handle: u32, max: Option<u32>) {
+    service.park(Handle::new(handle), max);
+}
+
+/// How many handles a record wakes.
+fn woken(alloc: Global, service: &Service, made: &[Entry]) -> Result<usize, AllocError> {
+    Ok(service.woken_by(alloc, made)?.len())
+}
+
+/// Whether the first handle that a record wakes is this one.
+fn is_first_woken(
+    alloc: Global,
+    service: &Service,
+    made: &[Entry],
+    handle: u32,
+) -> Result<bool, AllocError> {
+    Ok(service.woken_by(alloc, made)?.first() == Some(&Handle::new(handle)))
+}
+
+/// A copy of all.
+fn copy(service: &Service) -> Result<Service, Refusal> {
+    service.copy()
+}
+
+/// Whether the same stands in both.
+fn same(service: &Service, other: &Service) -> bool {
+    service.same(other)
+}
+
 #[test]
 fn handles_open_and_close(rt: HostRuntime) -> Result<(), Fail> {
     let alloc = rt.alloc();
@@ -100,11 +175,11 @@ fn handles_open_and_close(rt: HostRuntime) -> Result<(), Fail> {
         Some(opening) => opening.limit,
     };
     assert_eq!(rt; limit, 1);
-    service.close(Handle::new(3));
+    close(&mut service, 3);
     let is_there = service.opening(Handle::new(3)).is_some();
     assert!(rt; !is_there);
-    service.close(Handle::new(4));
-    service.close(Handle::new(9));
+    close(&mut service, 4);
+    close(&mut service, 9);
     assert!(rt; service.is_empty());
     Ok(())
 }
@@ -115,17 +190,17 @@ fn a_client_speaks_to_its_server(rt: HostRuntime) -> Result<(), Fail> {
     let mut service = served(alloc)?;
     let said = Kind::FromClient(Handle::new(4), line(alloc)?);
     tell(alloc, &mut service, said, Some(Handle::new(4)))?;
-    assert_eq!(rt; service.owed(Handle::new(3)), Some(1));
-    assert_eq!(rt; service.owed(Handle::new(4)), Some(0));
-    assert_eq!(rt; service.owed(Handle::new(9)), Some(0));
-    assert!(rt; service.is_server_full(Handle::new(3), Handle::new(4)));
-    assert!(rt; !service.is_server_full(Handle::new(3), Handle::new(9)));
-    let read = service.read_owed(alloc, Handle::new(3), 100)?;
-    assert_eq!(rt; read.count, 1);
-    assert_eq!(rt; read.text.as_slice(), b"@srv.4\na:n:1\n".as_slice());
-    service.pass(Handle::new(3), 1);
-    assert_eq!(rt; service.owed(Handle::new(3)), Some(0));
-    assert!(rt; !service.is_server_full(Handle::new(3), Handle::new(4)));
+    assert_eq!(rt; owed(&service, 3), Some(1));
+    assert_eq!(rt; owed(&service, 4), Some(0));
+    assert_eq!(rt; owed(&service, 9), Some(0));
+    assert!(rt; is_server_full(&service, 3, 4));
+    assert!(rt; !is_server_full(&service, 3, 9));
+    let given = read(alloc, &service, 3, 100)?;
+    assert_eq!(rt; given.count, 1);
+    assert_eq!(rt; given.text.as_slice(), b"@srv.4\na:n:1\n".as_slice());
+    pass(&mut service, 3, 1);
+    assert_eq!(rt; owed(&service, 3), Some(0));
+    assert!(rt; !is_server_full(&service, 3, 4));
     Ok(())
 }
 
@@ -135,20 +210,20 @@ fn a_server_speaks_to_one_and_to_all(rt: HostRuntime) -> Result<(), Fail> {
     let mut service = served(alloc)?;
     let to_one = Kind::ToClient(Handle::new(9), line(alloc)?);
     tell(alloc, &mut service, to_one, Some(Handle::new(3)))?;
-    assert_eq!(rt; service.owed(Handle::new(4)), Some(0));
-    assert_eq!(rt; service.owed(Handle::new(9)), Some(1));
+    assert_eq!(rt; owed(&service, 4), Some(0));
+    assert_eq!(rt; owed(&service, 9), Some(1));
     let to_all = Kind::ToAll(line(alloc)?);
     tell(alloc, &mut service, to_all, Some(Handle::new(3)))?;
-    assert_eq!(rt; service.owed(Handle::new(3)), Some(0));
-    assert_eq!(rt; service.owed(Handle::new(4)), Some(1));
-    assert_eq!(rt; service.owed(Handle::new(9)), Some(2));
-    assert!(rt; service.is_client_full(Handle::new(9)));
-    assert!(rt; !service.is_client_full(Handle::new(4)));
-    assert_eq!(rt; service.full_client(), Some(Handle::new(9)));
-    service.catch_up(Handle::new(9));
-    assert!(rt; !service.has_news(Handle::new(9)));
-    assert!(rt; service.has_news(Handle::new(4)));
-    assert_eq!(rt; service.full_client(), None);
+    assert_eq!(rt; owed(&service, 3), Some(0));
+    assert_eq!(rt; owed(&service, 4), Some(1));
+    assert_eq!(rt; owed(&service, 9), Some(2));
+    assert!(rt; is_client_full(&service, 9));
+    assert!(rt; !is_client_full(&service, 4));
+    assert_eq!(rt; full_client(&service), Some(Handle::new(9)));
+    catch_up(&mut service, 9);
+    assert!(rt; !has_news(&service, 9));
+    assert!(rt; has_news(&service, 4));
+    assert_eq!(rt; full_client(&service), None);
     Ok(())
 }
 
@@ -157,14 +232,14 @@ fn notices_go_to_those_who_are_told(rt: HostRuntime) -> Result<(), Fail> {
     let alloc = rt.alloc();
     let mut service = served(alloc)?;
     tell(alloc, &mut service, Kind::Opened(Handle::new(9)), None)?;
-    service.close(Handle::new(4));
+    close(&mut service, 4);
     tell(alloc, &mut service, Kind::Closed(Handle::new(4)), None)?;
     tell(alloc, &mut service, Kind::Deleted, None)?;
-    assert_eq!(rt; service.owed(Handle::new(3)), Some(2));
-    assert_eq!(rt; service.owed(Handle::new(4)), None);
-    assert_eq!(rt; service.owed(Handle::new(9)), Some(1));
-    let read = service.read_owed(alloc, Handle::new(3), 8)?;
-    assert_eq!(rt; read.text.as_slice(), b"+@srv.9\n".as_slice());
+    assert_eq!(rt; owed(&service, 3), Some(2));
+    assert_eq!(rt; owed(&service, 4), None);
+    assert_eq!(rt; owed(&service, 9), Some(1));
+    let given = read(alloc, &service, 3, 8)?;
+    assert_eq!(rt; given.text.as_slice(), b"+@srv.9\n".as_slice());
     Ok(())
 }
 
@@ -173,11 +248,11 @@ fn a_short_read_tells_its_size(rt: HostRuntime) -> Result<(), Fail> {
     let alloc = rt.alloc();
     let mut service = served(alloc)?;
     tell(alloc, &mut service, Kind::Deleted, None)?;
-    let refusal = service.read_owed(alloc, Handle::new(9), 5).err();
+    let refusal = read(alloc, &service, 9, 5).err();
     assert_eq!(rt; refusal, Some(Refusal::TooSmall { need: 6 }));
-    let nothing = service.read_owed(alloc, Handle::new(3), 5)?;
+    let nothing = read(alloc, &service, 3, 5)?;
     assert_eq!(rt; nothing.count, 0);
-    let nobodys = service.read_owed(alloc, Handle::new(5), 5)?;
+    let nobodys = read(alloc, &service, 5, 5)?;
     assert_eq!(rt; nobodys.text.as_slice(), b"".as_slice());
     Ok(())
 }
@@ -187,13 +262,13 @@ fn reads_wait_and_pulses_are_armed(rt: HostRuntime) -> Result<(), Fail> {
     let alloc = rt.alloc();
     let mut service = served(alloc)?;
     let pulse = Pulse { code: 5, value: 6 };
-    service.park(Handle::new(3), Some(80));
+    park(&mut service, 3, Some(80));
     service.arm(Handle::new(4), Some(pulse));
     assert_eq!(rt; service.parked(Handle::new(3)), Some(80));
     assert_eq!(rt; service.parked(Handle::new(4)), None);
     assert_eq!(rt; service.armed(Handle::new(4)), Some(pulse));
     assert_eq!(rt; service.armed(Handle::new(5)), None);
-    service.park(Handle::new(3), None);
+    park(&mut service, 3, None);
     service.arm(Handle::new(4), None);
     assert_eq!(rt; service.parked(Handle::new(3)), None);
     assert_eq!(rt; service.armed(Handle::new(4)), None);
@@ -206,15 +281,14 @@ fn a_message_wakes_who_waits_for_it(rt: HostRuntime) -> Result<(), Fail> {
     let mut service = served(alloc)?;
     let said = Kind::ToAll(line(alloc)?);
     let made = [entry(alloc, said, Some(Handle::new(3)))?];
-    assert_eq!(rt; service.woken_by(alloc, &made)?.len(), 0);
-    service.park(Handle::new(9), Some(100));
-    service.park(Handle::new(3), Some(100));
-    let woken = service.woken_by(alloc, &made)?;
-    assert_eq!(rt; woken.len(), 1);
-    assert!(rt; woken.first() == Some(&Handle::new(9)));
+    assert_eq!(rt; woken(alloc, &service, &made)?, 0);
+    park(&mut service, 9, Some(100));
+    park(&mut service, 3, Some(100));
+    assert_eq!(rt; woken(alloc, &service, &made)?, 1);
+    assert!(rt; is_first_woken(alloc, &service, &made, 9)?);
     let again = Kind::ToAll(line(alloc)?);
     tell(alloc, &mut service, again, Some(Handle::new(3)))?;
-    assert_eq!(rt; service.woken_by(alloc, &made)?.len(), 0);
+    assert_eq!(rt; woken(alloc, &service, &made)?, 0);
     Ok(())
 }
 
@@ -222,9 +296,9 @@ fn a_message_wakes_who_waits_for_it(rt: HostRuntime) -> Result<(), Fail> {
 fn a_copy_is_the_same(rt: HostRuntime) -> Result<(), Fail> {
     let alloc = rt.alloc();
     let mut service = served(alloc)?;
-    let copy = service.copy()?;
-    assert!(rt; copy.same(&service));
-    service.park(Handle::new(4), Some(8));
-    assert!(rt; !copy.same(&service));
+    let copy = copy(&service)?;
+    assert!(rt; same(&copy, &service));
+    park(&mut service, 4, Some(8));
+    assert!(rt; !same(&copy, &service));
     Ok(())
 }

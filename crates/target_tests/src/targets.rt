@@ -100,23 +100,53 @@ fn read_by_two(alloc: Global) -> Result<Target, AllocError> {
     Ok(target)
 }
 
+/// How many records a handle is owed, none where it is past its limit or nothing is known of it.
+fn owed(target: &Target, handle: u32) -> Option<u32> {
+    target.owed(Handle::new(handle))
+}
+
+/// Gives a handle so many of the records that it is owed.
+fn pass(target: &mut Target, handle: u32, count: usize) {
+    target.pass(Handle::new(handle), count);
+}
+
+/// Gives a handle everything.
+fn catch_up(target: &mut Target, handle: u32) {
+    target.catch_up(Handle::new(handle));
+}
+
+/// How many records are kept.
+fn kept(target: &Target) -> u64 {
+    target.kept()
+}
+
+/// A copy of all.
+fn copy(target: &Target) -> Result<Target, Refusal> {
+    target.copy()
+}
+
+/// Whether the same stands in both.
+fn same(target: &Target, other: &Target) -> bool {
+    target.same(other)
+}
+
 #[test]
 fn records_are_kept_until_the_slowest_has_read_them(rt: HostRuntime) -> Result<(), Fail> {
     let alloc = rt.alloc();
     let mut target = read_by_two(alloc)?;
-    assert_eq!(rt; target.kept(), 0);
+    assert_eq!(rt; kept(&target), 0);
     offer_changes(alloc, &mut target, 2)?;
-    assert_eq!(rt; target.owed(Handle::new(4)), Some(2));
-    assert_eq!(rt; target.owed(Handle::new(9)), Some(2));
-    assert_eq!(rt; target.kept(), 2);
-    target.pass(Handle::new(4), 2);
-    assert_eq!(rt; target.owed(Handle::new(4)), Some(0));
-    assert_eq!(rt; target.kept(), 2);
-    target.pass(Handle::new(9), 1);
-    assert_eq!(rt; target.owed(Handle::new(9)), Some(1));
-    assert_eq!(rt; target.kept(), 1);
-    target.catch_up(Handle::new(9));
-    assert_eq!(rt; target.kept(), 0);
+    assert_eq!(rt; owed(&target, 4), Some(2));
+    assert_eq!(rt; owed(&target, 9), Some(2));
+    assert_eq!(rt; kept(&target), 2);
+    pass(&mut target, 4, 2);
+    assert_eq!(rt; owed(&target, 4), Some(0));
+    assert_eq!(rt; kept(&target), 2);
+    pass(&mut target, 9, 1);
+    assert_eq!(rt; owed(&target, 9), Some(1));
+    assert_eq!(rt; kept(&target), 1);
+    catch_up(&mut target, 9);
+    assert_eq!(rt; kept(&target), 0);
     Ok(())
 }
 
@@ -125,12 +155,12 @@ fn past_its_limit_a_handle_holds_nothing(rt: HostRuntime) -> Result<(), Fail> {
     let alloc = rt.alloc();
     let mut target = read_by_two(alloc)?;
     offer_changes(alloc, &mut target, 3)?;
-    assert_eq!(rt; target.owed(Handle::new(4)), None);
-    assert_eq!(rt; target.owed(Handle::new(9)), Some(3));
-    assert_eq!(rt; target.kept(), 3);
+    assert_eq!(rt; owed(&target, 4), None);
+    assert_eq!(rt; owed(&target, 9), Some(3));
+    assert_eq!(rt; kept(&target), 3);
     offer_changes(alloc, &mut target, 1)?;
-    assert_eq!(rt; target.owed(Handle::new(9)), None);
-    assert_eq!(rt; target.kept(), 0);
+    assert_eq!(rt; owed(&target, 9), None);
+    assert_eq!(rt; kept(&target), 0);
     assert!(rt; target.has_news(Handle::new(4)));
     Ok(())
 }
@@ -140,13 +170,13 @@ fn what_a_closed_handle_was_owed_goes(rt: HostRuntime) -> Result<(), Fail> {
     let alloc = rt.alloc();
     let mut target = read_by_two(alloc)?;
     offer_changes(alloc, &mut target, 2)?;
-    target.pass(Handle::new(4), 1);
+    pass(&mut target, 4, 1);
     target.close(Handle::new(9));
-    assert_eq!(rt; target.kept(), 1);
-    assert_eq!(rt; target.owed(Handle::new(9)), None);
+    assert_eq!(rt; kept(&target), 1);
+    assert_eq!(rt; owed(&target, 9), None);
     assert!(rt; !target.is_empty());
     target.close(Handle::new(4));
-    assert_eq!(rt; target.kept(), 0);
+    assert_eq!(rt; kept(&target), 0);
     assert!(rt; target.is_empty());
     Ok(())
 }
@@ -158,11 +188,11 @@ fn records_of_others_and_its_own_are_not_owed(rt: HostRuntime) -> Result<(), Fai
     let of_another = entry(alloc, 2, change(alloc)?, None)?;
     target.reserve(2)?;
     target.offer(of_another);
-    assert_eq!(rt; target.kept(), 0);
+    assert_eq!(rt; kept(&target), 0);
     target.reserve(1)?;
     target.offer(entry(alloc, 1, change(alloc)?, Some(Handle::new(4)))?);
-    assert_eq!(rt; target.owed(Handle::new(4)), Some(0));
-    assert_eq!(rt; target.owed(Handle::new(9)), Some(1));
+    assert_eq!(rt; owed(&target, 4), Some(0));
+    assert_eq!(rt; owed(&target, 9), Some(1));
     Ok(())
 }
 
@@ -174,8 +204,8 @@ fn directory_read_by_two(alloc: Global) -> Result<Target, AllocError> {
         opening(1, HandleKind::Directory { delta: false }, 5),
     )?;
     open(&mut target, opening(2, HandleKind::Names, 5))?;
-    target.catch_up(Handle::new(1));
-    target.catch_up(Handle::new(2));
+    catch_up(&mut target, 1);
+    catch_up(&mut target, 2);
     Ok(target)
 }
 
@@ -186,16 +216,16 @@ fn a_directory_tells_its_names(rt: HostRuntime) -> Result<(), Fail> {
     offer_changes(alloc, &mut target, 1)?;
     assert!(rt; target.has_news(Handle::new(1)));
     assert!(rt; !target.has_news(Handle::new(2)));
-    assert_eq!(rt; target.kept(), 0);
+    assert_eq!(rt; kept(&target), 0);
     let made = entry(alloc, 3, Kind::Created, None)?;
     target.reserve(1)?;
     target.offer(made);
     offer_changes(alloc, &mut target, 1)?;
-    assert_eq!(rt; target.owed(Handle::new(2)), Some(1));
-    assert_eq!(rt; target.kept(), 2);
-    target.pass(Handle::new(2), 1);
-    assert_eq!(rt; target.kept(), 0);
-    assert_eq!(rt; target.owed(Handle::new(1)), None);
+    assert_eq!(rt; owed(&target, 2), Some(1));
+    assert_eq!(rt; kept(&target), 2);
+    pass(&mut target, 2, 1);
+    assert_eq!(rt; kept(&target), 0);
+    assert_eq!(rt; owed(&target, 1), None);
     Ok(())
 }
 
@@ -237,9 +267,9 @@ fn refused_room_changes_nothing(rt: HostRuntime) -> Result<(), Fail> {
     offer_changes(alloc, &mut target, 1)?;
     let is_refused = target.reserve(usize::MAX).is_err();
     assert!(rt; is_refused);
-    assert_eq!(rt; target.owed(Handle::new(4)), Some(1));
+    assert_eq!(rt; owed(&target, 4), Some(1));
     offer_changes(alloc, &mut target, 1)?;
-    assert_eq!(rt; target.owed(Handle::new(4)), Some(2));
+    assert_eq!(rt; owed(&target, 4), Some(2));
     Ok(())
 }
 
@@ -259,7 +289,7 @@ fn a_read_gives_whole_blocks_that_fit(rt: HostRuntime) -> Result<(), Fail> {
     assert_eq!(rt; first.text.as_slice(), b"@gps\na:n:1\n".as_slice());
     let refusal = target.read_owed(alloc, Handle::new(9), 10).err();
     assert_eq!(rt; refusal, Some(Refusal::TooSmall { need: 11 }));
-    assert_eq!(rt; target.owed(Handle::new(4)), Some(2));
+    assert_eq!(rt; owed(&target, 4), Some(2));
     Ok(())
 }
 
@@ -312,25 +342,43 @@ fn an_opening_is_copied(rt: HostRuntime) -> Result<(), Fail> {
     Ok(())
 }
 
-#[test]
-fn a_copy_holds_the_same_wherever_it_begins(rt: HostRuntime) -> Result<(), Fail> {
-    let alloc = rt.alloc();
+/// Two records are kept, of which the first handle has been given one.
+fn half_passed(alloc: Global) -> Result<Target, AllocError> {
     let mut target = read_by_two(alloc)?;
     offer_changes(alloc, &mut target, 2)?;
-    target.pass(Handle::new(4), 1);
-    let copy = target.copy()?;
-    assert!(rt; copy.same(&target));
-    assert_eq!(rt; copy.kept(), 2);
-    assert_eq!(rt; copy.owed(Handle::new(4)), Some(1));
-    let mut late = read_by_two(alloc)?;
-    offer_changes(alloc, &mut late, 1)?;
-    late.catch_up(Handle::new(4));
-    late.catch_up(Handle::new(9));
-    assert!(rt; !late.same(&target));
+    pass(&mut target, 4, 1);
+    Ok(target)
+}
+
+#[test]
+fn a_copy_holds_the_same(rt: HostRuntime) -> Result<(), Fail> {
+    let target = half_passed(rt.alloc())?;
+    let copy = copy(&target)?;
+    assert!(rt; same(&copy, &target));
+    assert_eq!(rt; kept(&copy), 2);
+    assert_eq!(rt; owed(&copy, 4), Some(1));
+    Ok(())
+}
+
+/// One record has been read by both before, so that what is kept begins at another place.
+fn after_another(alloc: Global) -> Result<Target, AllocError> {
+    let mut target = read_by_two(alloc)?;
+    offer_changes(alloc, &mut target, 1)?;
+    catch_up(&mut target, 4);
+    catch_up(&mut target, 9);
+    Ok(target)
+}
+
+#[test]
+fn the_same_is_kept_wherever_it_begins(rt: HostRuntime) -> Result<(), Fail> {
+    let alloc = rt.alloc();
+    let target = half_passed(alloc)?;
+    let mut late = after_another(alloc)?;
+    assert!(rt; !same(&late, &target));
     offer_changes(alloc, &mut late, 2)?;
-    late.pass(Handle::new(4), 1);
-    assert!(rt; late.same(&target));
-    late.pass(Handle::new(9), 1);
-    assert!(rt; !late.same(&target));
+    pass(&mut late, 4, 1);
+    assert!(rt; same(&late, &target));
+    pass(&mut late, 9, 1);
+    assert!(rt; !same(&late, &target));
     Ok(())
 }
