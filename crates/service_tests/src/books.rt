@@ -6,7 +6,7 @@ use pps_engine::Engine;
 use pps_lock::{Book, Shared, Stepped, TraceFull};
 use pps_types::{Event, Outcome, Refusal, Request};
 use std::alloc::Global;
-use std::sync::Arc;
+use std::sync::{Arc, Wait};
 use std::test::Fail;
 
 /// The command of a line, to be shared with a trace.
@@ -25,6 +25,16 @@ fn begun(alloc: Global, limit: usize) -> Result<Book, Refusal>
         return Err(Refusal::OutOfMemory);
     };
     Ok(book)
+}
+
+/// A book's answer to an event, with its receipt.
+fn step(book: &mut Book, event: Arc<Event>) -> Result<Stepped, TraceFull> {
+    book.step(event)
+}
+
+/// The same of a book behind its lock.
+fn step_shared(rt: &impl Wait, shared: &Shared, event: Arc<Event>) -> Result<Stepped, TraceFull> {
+    shared.step(rt, event)
 }
 
 /// Whether this was the answer, and this the name of its entry.
@@ -46,16 +56,16 @@ fn books_are_filled_and_cut(rt: HostRuntime) -> Result<(), Fail> {
     let alloc = rt.alloc();
     let mut book = begun(alloc, 2)?;
     book.replays();
-    let attached = book.step(sent(alloc, b"1 attach")?);
+    let attached = step(&mut book, sent(alloc, b"1 attach")?);
     assert!(rt; has_stepped(&attached, &Ok(Outcome::Done), 0, 0));
-    let again = book.step(sent(alloc, b"1 attach")?);
+    let again = step(&mut book, sent(alloc, b"1 attach")?);
     assert!(rt; has_stepped(&again, &Err(Refusal::AlreadyAttached), 0, 1));
-    let Err(TraceFull { event }) = book.step(sent(alloc, b"1 receive")?) else {
+    let Err(TraceFull { event }) = step(&mut book, sent(alloc, b"1 receive")?) else {
         panic!(rt; "there is no room for a third entry");
     };
     assert!(rt; event.request == Request::Receive);
     let first = book.cut()?;
-    let received = book.step(event);
+    let received = step(&mut book, event);
     assert!(rt; has_stepped(&received, &Ok(Outcome::Empty), 1, 0));
     let second = book.cut()?;
     assert_eq!(rt; first.entries().len(), 2);
@@ -70,12 +80,12 @@ fn segments_have_what_was_asked_and_answered(rt: HostRuntime) -> Result<(), Fail
     let alloc = rt.alloc();
     let before = Engine::new(alloc)?;
     let mut book = begun(alloc, 65_536)?;
-    let attached = book.step(sent(alloc, b"1 attach")?);
+    let attached = step(&mut book, sent(alloc, b"1 attach")?);
     assert!(rt; has_stepped(&attached, &Ok(Outcome::Done), 0, 0));
-    let made = book.step(sent(alloc, b"1 mkdir /maps")?);
+    let made = step(&mut book, sent(alloc, b"1 mkdir /maps")?);
     assert!(rt; has_stepped(&made, &Ok(Outcome::Done), 0, 1));
     let names = Ok(data(alloc, b"maps/\n")?);
-    let listed = book.step(sent(alloc, b"1 list /")?);
+    let listed = step(&mut book, sent(alloc, b"1 list /")?);
     assert!(rt; has_stepped(&listed, &names, 0, 2));
     let segment = book.cut()?;
     segment.replays();
@@ -94,13 +104,13 @@ fn segments_have_what_was_asked_and_answered(rt: HostRuntime) -> Result<(), Fail
 fn books_are_shared(rt: HostRuntime) -> Result<(), Fail> {
     let alloc = rt.alloc();
     let shared = Shared::new(begun(alloc, 1)?);
-    let attached = shared.step(&rt, sent(alloc, b"1 attach")?);
+    let attached = step_shared(&rt, &shared, sent(alloc, b"1 attach")?);
     assert!(rt; has_stepped(&attached, &Ok(Outcome::Done), 0, 0));
-    let Err(TraceFull { event }) = shared.step(&rt, sent(alloc, b"2 attach")?) else {
+    let Err(TraceFull { event }) = step_shared(&rt, &shared, sent(alloc, b"2 attach")?) else {
         panic!(rt; "there is no room for a second entry");
     };
     assert_eq!(rt; shared.cut(&rt)?.entries().len(), 1);
-    let attached = shared.step(&rt, event);
+    let attached = step_shared(&rt, &shared, event);
     assert!(rt; has_stepped(&attached, &Ok(Outcome::Done), 1, 0));
     let mut book = shared.into_book();
     assert_eq!(rt; book.cut()?.number(), 1);

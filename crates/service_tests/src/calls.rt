@@ -1,6 +1,6 @@
 //! The engine's calls.
 
-use crate::scripts::{data, shared};
+use crate::scripts::{copy, data, new_engine, owed, same, shared, step};
 use open_options::read_path;
 use pps_engine::Engine;
 use pps_types::{Action, Bytes, Conn, Event, Handle, Item, Mode, Outcome, Refusal, Request};
@@ -42,12 +42,15 @@ fn read(conn: u16, handle: u32, size: u32) -> Event {
 
 /// One connection has created `/gps` and written to it, and another has opened it in delta mode.
 fn published(alloc: Global) -> Result<Engine, Refusal> {
-    let mut engine = Engine::new(alloc)?;
-    engine.step(&asked(PUBLISHER, Request::Attach))?;
-    engine.step(&open(alloc, PUBLISHER, "rwc", b"/gps")?)?;
-    engine.step(&write(alloc, PUBLISHER, 1, b"speed:n:65\n")?)?;
-    engine.step(&asked(SUBSCRIBER, Request::Attach))?;
-    engine.step(&open(alloc, SUBSCRIBER, "r", b"/gps?delta,wait")?)?;
+    let mut engine = new_engine(alloc)?;
+    step(&mut engine, &asked(PUBLISHER, Request::Attach))?;
+    step(&mut engine, &open(alloc, PUBLISHER, "rwc", b"/gps")?)?;
+    step(&mut engine, &write(alloc, PUBLISHER, 1, b"speed:n:65\n")?)?;
+    step(&mut engine, &asked(SUBSCRIBER, Request::Attach))?;
+    step(
+        &mut engine,
+        &open(alloc, SUBSCRIBER, "r", b"/gps?delta,wait")?,
+    )?;
     Ok(engine)
 }
 
@@ -56,22 +59,28 @@ fn what_is_written_is_read(rt: HostRuntime) -> Result<(), Fail> {
     let alloc = rt.alloc();
     let mut engine = published(alloc)?;
     let everything = data(alloc, b"@gps\nspeed:n:65\n")?;
-    assert_eq!(rt; engine.step(&read(SUBSCRIBER, 2, 4_096)), Ok(everything));
     assert_eq!(rt;
-        engine.step(&read(SUBSCRIBER, 2, 4_096)),
+        step(&mut engine, &read(SUBSCRIBER, 2, 4_096)),
+        Ok(everything)
+    );
+    assert_eq!(rt;
+        step(&mut engine, &read(SUBSCRIBER, 2, 4_096)),
         Ok(Outcome::Parked)
     );
     assert_eq!(rt;
-        engine.step(&write(alloc, PUBLISHER, 1, b"speed:n:66\n")?),
+        step(&mut engine, &write(alloc, PUBLISHER, 1, b"speed:n:66\n")?),
         Ok(Outcome::Wrote(11))
     );
     let late = Outcome::Item(Item::ReadDone {
         handle: Handle::new(2),
         result: Ok(shared(alloc, b"@gps\nspeed:n:66\n")?),
     });
-    assert_eq!(rt; engine.step(&asked(SUBSCRIBER, Request::Receive)), Ok(late));
     assert_eq!(rt;
-        engine.step(&asked(SUBSCRIBER, Request::Receive)),
+        step(&mut engine, &asked(SUBSCRIBER, Request::Receive)),
+        Ok(late)
+    );
+    assert_eq!(rt;
+        step(&mut engine, &asked(SUBSCRIBER, Request::Receive)),
         Ok(Outcome::Empty)
     );
     Ok(())
@@ -83,18 +92,18 @@ fn requests_of_all_kinds_are_answered(rt: HostRuntime) -> Result<(), Fail> {
     let mut engine = published(alloc)?;
     let path = Bytes::from_slice(alloc, b"/maps")?;
     assert_eq!(rt;
-        engine.step(&asked(PUBLISHER, Request::Mkdir { path })),
+        step(&mut engine, &asked(PUBLISHER, Request::Mkdir { path })),
         Ok(Outcome::Done)
     );
     let path = Bytes::from_slice(alloc, b"/")?;
     let names = data(alloc, b"gps\nmaps/\n")?;
     assert_eq!(rt;
-        engine.step(&asked(PUBLISHER, Request::List { path })),
+        step(&mut engine, &asked(PUBLISHER, Request::List { path })),
         Ok(names)
     );
     let path = Bytes::from_slice(alloc, b"/maps")?;
     assert_eq!(rt;
-        engine.step(&asked(PUBLISHER, Request::Unlink { path })),
+        step(&mut engine, &asked(PUBLISHER, Request::Unlink { path })),
         Ok(Outcome::Done)
     );
     let notify = Request::Notify {
@@ -104,19 +113,22 @@ fn requests_of_all_kinds_are_answered(rt: HostRuntime) -> Result<(), Fail> {
         value: 2,
     };
     assert_eq!(rt;
-        engine.step(&asked(SUBSCRIBER, notify)),
+        step(&mut engine, &asked(SUBSCRIBER, notify)),
         Ok(Outcome::Input(true))
     );
     let close = Request::Close {
         handle: Handle::new(2),
     };
-    assert_eq!(rt; engine.step(&asked(SUBSCRIBER, close)), Ok(Outcome::Done));
     assert_eq!(rt;
-        engine.step(&asked(SUBSCRIBER, Request::Detach)),
+        step(&mut engine, &asked(SUBSCRIBER, close)),
         Ok(Outcome::Done)
     );
     assert_eq!(rt;
-        engine.step(&asked(SUBSCRIBER, Request::Receive)),
+        step(&mut engine, &asked(SUBSCRIBER, Request::Detach)),
+        Ok(Outcome::Done)
+    );
+    assert_eq!(rt;
+        step(&mut engine, &asked(SUBSCRIBER, Request::Receive)),
         Err(Refusal::NotAttached)
     );
     Ok(())
@@ -126,19 +138,19 @@ fn requests_of_all_kinds_are_answered(rt: HostRuntime) -> Result<(), Fail> {
 fn what_is_planned_is_carried_out(rt: HostRuntime) -> Result<(), Fail> {
     let alloc = rt.alloc();
     let mut engine = published(alloc)?;
-    let before = engine.copy()?;
+    let before = copy(&engine)?;
     let plan = engine.plan(&read(SUBSCRIBER, 2, 4_096))?;
-    assert!(rt; engine.same(&before));
+    assert!(rt; same(&engine, &before));
     let everything = data(alloc, b"@gps\nspeed:n:65\n")?;
     assert_eq!(rt; *plan.reply(), everything);
     assert_eq!(rt; engine.commit(plan), everything);
-    assert!(rt; !engine.same(&before));
-    let after = engine.copy()?;
+    assert!(rt; !same(&engine, &before));
+    let after = copy(&engine)?;
     assert_eq!(rt;
-        engine.step(&read(SUBSCRIBER, 9, 4_096)),
+        step(&mut engine, &read(SUBSCRIBER, 9, 4_096)),
         Err(Refusal::BadHandle)
     );
-    assert!(rt; engine.same(&after));
+    assert!(rt; same(&engine, &after));
     Ok(())
 }
 
@@ -147,10 +159,10 @@ fn debts_are_told(rt: HostRuntime) -> Result<(), Fail> {
     let alloc = rt.alloc();
     let mut engine = published(alloc)?;
     let path = read_path(alloc, b"/gps")?;
-    assert_eq!(rt; engine.owed(Handle::new(2)), None);
-    engine.step(&read(SUBSCRIBER, 2, 4_096))?;
-    engine.step(&write(alloc, PUBLISHER, 1, b"speed:n:66\n")?)?;
-    assert_eq!(rt; engine.owed(Handle::new(2)), Some(1));
+    assert_eq!(rt; owed(&engine, 2), None);
+    step(&mut engine, &read(SUBSCRIBER, 2, 4_096))?;
+    step(&mut engine, &write(alloc, PUBLISHER, 1, b"speed:n:66\n")?)?;
+    assert_eq!(rt; owed(&engine, 2), Some(1));
     assert_eq!(rt; engine.kept(&path), Some(1));
     engine.holds_what_is_owed();
     Ok(())
@@ -164,20 +176,20 @@ fn engines_begin_as_asked(rt: HostRuntime) -> Result<(), Fail> {
     let other = Engine::with_limit(alloc, 9)?;
     assert_eq!(rt; other.limit(), 9);
     let mut last = Engine::new_at(alloc, Handle::new(4_294_967_295))?;
-    last.step(&asked(PUBLISHER, Request::Attach))?;
+    step(&mut last, &asked(PUBLISHER, Request::Attach))?;
     let event = open(alloc, PUBLISHER, "rwc", b"/a")?;
     assert_eq!(rt;
-        last.step(&event),
+        step(&mut last, &event),
         Ok(Outcome::Opened(Handle::new(4_294_967_295)))
     );
-    assert_eq!(rt; last.step(&event), Err(Refusal::TableFull));
+    assert_eq!(rt; step(&mut last, &event), Err(Refusal::TableFull));
     Ok(())
 }
 
 #[test]
 fn lists_of_events_are_run(rt: HostRuntime) -> Result<(), Fail> {
     let alloc = rt.alloc();
-    let mut engine = Engine::new(alloc)?;
+    let mut engine = new_engine(alloc)?;
     let events = [
         asked(PUBLISHER, Request::Attach),
         asked(PUBLISHER, Request::Attach),

@@ -1,9 +1,9 @@
 //! How much is kept of what a path names, and owed to a handle, in the course of two worked scripts.
 
-use crate::scripts::run;
+use crate::scripts::{new_engine, owed, run};
 use open_options::read_path;
 use pps_engine::Engine;
-use pps_types::{Handle, Refusal};
+use pps_types::Refusal;
 use std::alloc::Global;
 use std::test::Fail;
 
@@ -48,9 +48,9 @@ fn kept(alloc: Global, engine: &Engine, path: &[u8]) -> Result<Option<usize>, Re
 #[test]
 fn what_a_filter_hides_is_kept_between_others(rt: HostRuntime) -> Result<(), Fail> {
     let alloc = rt.alloc();
-    let mut engine = Engine::new(alloc)?;
+    let mut engine = new_engine(alloc)?;
     run(alloc, &mut engine, &FILTERED_DELTAS)?;
-    assert_eq!(rt; engine.owed(Handle::new(2)), Some(1));
+    assert_eq!(rt; owed(&engine, 2), Some(1));
     assert_eq!(rt; kept(alloc, &engine, b"/gps")?, Some(2));
     run(alloc, &mut engine, &[b"2 read 2 99"])?;
     assert_eq!(rt; kept(alloc, &engine, b"/gps")?, Some(0));
@@ -60,11 +60,11 @@ fn what_a_filter_hides_is_kept_between_others(rt: HostRuntime) -> Result<(), Fai
 #[test]
 fn just_what_is_owed_is_kept(rt: HostRuntime) -> Result<(), Fail> {
     let alloc = rt.alloc();
-    let mut engine = Engine::new(alloc)?;
+    let mut engine = new_engine(alloc)?;
     run(alloc, &mut engine, &EXACT_CUT)?;
     assert_eq!(rt; kept(alloc, &engine, b"/gps")?, Some(3));
     assert_eq!(rt; kept(alloc, &engine, b"/")?, Some(3));
-    assert_eq!(rt; engine.owed(Handle::new(4)), None);
+    assert_eq!(rt; owed(&engine, 4), None);
     run(alloc, &mut engine, &[b"2 read 2 99"])?;
     assert_eq!(rt; kept(alloc, &engine, b"/gps")?, Some(3));
     run(alloc, &mut engine, &[b"3 read 3 10"])?;
@@ -81,7 +81,7 @@ fn just_what_is_owed_is_kept(rt: HostRuntime) -> Result<(), Fail> {
 #[test]
 fn the_slowest_decides(rt: HostRuntime) -> Result<(), Fail> {
     let alloc = rt.alloc();
-    let mut engine = Engine::new(alloc)?;
+    let mut engine = new_engine(alloc)?;
     run(alloc, &mut engine, &EXACT_CUT)?;
     run(alloc, &mut engine, &[b"3 read 3 10"])?;
     assert_eq!(rt; kept(alloc, &engine, b"/gps")?, Some(3));

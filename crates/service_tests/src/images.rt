@@ -3,7 +3,7 @@ ghost use Rattle.std.specs.Prelude.{◌≡◌, [], true, IfOk};
 ghost use Rattle.pps_types.specs.Image.{SavedLine, as_line};
 ghost use Rattle.pps_types.specs.OpenText.{are_names};
 
-use crate::scripts::{answer, data, run};
+use crate::scripts::{answer, copy, data, run, same};
 use open_options::read_path;
 use pps_engine::{Engine, SavedEntry};
 use pps_types::{Bytes, Line, Refusal};
@@ -95,7 +95,7 @@ fn what_is_restored_is_read(rt: HostRuntime) -> Result<(), Fail> {
 fn directories_are_refused(rt: HostRuntime) -> Result<(), Fail> {
     let alloc = rt.alloc();
     let mut engine = restored(alloc)?;
-    let before = engine.copy()?;
+    let before = copy(&engine)?;
     let nowhere = engine.restore_directory(names(alloc, b"/roads/a")?);
     assert_eq!(rt; nowhere, Err(Refusal::NotFound));
     let below = engine.restore_directory(names(alloc, b"/maps/gps/a")?);
@@ -104,7 +104,7 @@ fn directories_are_refused(rt: HostRuntime) -> Result<(), Fail> {
     assert_eq!(rt; again, Err(Refusal::Exists));
     let root = engine.restore_directory(names(alloc, b"/")?);
     assert_eq!(rt; root, Err(Refusal::Exists));
-    assert!(rt; engine.same(&before));
+    assert!(rt; same(&engine, &before));
     Ok(())
 }
 
@@ -112,7 +112,7 @@ fn directories_are_refused(rt: HostRuntime) -> Result<(), Fail> {
 fn objects_are_refused(rt: HostRuntime) -> Result<(), Fail> {
     let alloc = rt.alloc();
     let mut engine = restored(alloc)?;
-    let before = engine.copy()?;
+    let before = copy(&engine)?;
     let nowhere = engine.restore_object(names(alloc, b"/roads/a")?);
     assert_eq!(rt; nowhere, Err(Refusal::NotFound));
     let below = engine.restore_object(names(alloc, b"/maps/gps/a")?);
@@ -121,7 +121,7 @@ fn objects_are_refused(rt: HostRuntime) -> Result<(), Fail> {
     assert_eq!(rt; directory, Err(Refusal::Exists));
     let again = engine.restore_object(names(alloc, b"/maps/gps")?);
     assert_eq!(rt; again, Err(Refusal::Exists));
-    assert!(rt; engine.same(&before));
+    assert!(rt; same(&engine, &before));
     Ok(())
 }
 
@@ -129,7 +129,7 @@ fn objects_are_refused(rt: HostRuntime) -> Result<(), Fail> {
 fn lines_are_refused(rt: HostRuntime) -> Result<(), Fail> {
     let alloc = rt.alloc();
     let mut engine = restored(alloc)?;
-    let before = engine.copy()?;
+    let before = copy(&engine)?;
     let nowhere = engine.restore_line(&names(alloc, b"/roads/a")?, line(alloc, b"a", b"", b"1")?);
     assert_eq!(rt; nowhere, Err(Refusal::NotFound));
     let below = engine.restore_line(
@@ -145,7 +145,7 @@ fn lines_are_refused(rt: HostRuntime) -> Result<(), Fail> {
     let long = vec![in alloc; b'x'; 65_510]?;
     let large = engine.restore_line(&gps, line(alloc, b"a", b"", &long)?);
     assert_eq!(rt; large, Err(Refusal::TooLarge));
-    assert!(rt; engine.same(&before));
+    assert!(rt; same(&engine, &before));
     Ok(())
 }
 

@@ -2,7 +2,7 @@
 ghost use Rattle.std.specs.Prelude.{◌≡◌, IfOk};
 
 use pps_engine::Engine;
-use pps_types::{Event, Outcome, Refusal, SharedBytes};
+use pps_types::{Event, Handle, Outcome, Refusal, SharedBytes};
 use script_lines::{ScriptLine, read_line};
 use std::alloc::{AllocError, Global};
 
@@ -25,9 +25,34 @@ pub(crate) fn event(alloc: Global, line: &[u8]) -> Result<Event, Refusal> {
     }
 }
 
+/// A new engine.
+pub(crate) fn new_engine(alloc: Global) -> Result<Engine, AllocError> {
+    Engine::new(alloc)
+}
+
+/// A copy of all.
+pub(crate) fn copy(engine: &Engine) -> Result<Engine, AllocError> {
+    engine.copy()
+}
+
+/// Whether the same stands of both.
+pub(crate) fn same(engine: &Engine, other: &Engine) -> bool {
+    engine.same(other)
+}
+
+/// The answer to an event.
+pub(crate) fn step(engine: &mut Engine, event: &Event) -> Result<Outcome, Refusal> {
+    engine.step(event)
+}
+
+/// How many records a handle is owed, none where that is not a number.
+pub(crate) fn owed(engine: &Engine, handle: u32) -> Option<usize> {
+    engine.owed(Handle::new(handle))
+}
+
 /// The answer to the command of a line.
 pub(crate) fn answer(alloc: Global, engine: &mut Engine, line: &[u8]) -> Result<Outcome, Refusal> {
-    engine.step(&event(alloc, line)?)
+    step(engine, &event(alloc, line)?)
 }
 
 /// Runs lines, none of which is refused.
