@@ -1,6 +1,7 @@
-//! The works of `pps_bench`, written by hand in plain Rust. The first word names the work, the second how often.
+//! The works of `pps_bench`, written by hand in plain Rust. The first word names the work, the second how often. The work
+//! `image` takes two files in its place: it loads the image in the first, and saves it to the second.
+mod images;
 mod objects;
-mod subscribers;
 mod trees;
 
 use std::env::args;
@@ -209,6 +210,11 @@ fn match_often(rounds: u32) -> Option<u64> {
 
 fn main() {
     let words: Vec<String> = args().collect();
+    if let [_, work, from, to] = words.as_slice() {
+        assert_eq!(work, "image");
+        images::load_and_save(from, to).expect("an image, and a place for another");
+        return;
+    }
     let [_, work, rounds] = words.as_slice() else {
         return;
     };
@@ -237,7 +243,7 @@ fn main() {
         "print_3_of_1000" => objects::print_some_often(1_000, rounds),
         "change_few" => trees::change_often(16, rounds),
         "change_many" => trees::change_often(256, rounds),
-        _ => subscribers::feed_of(work).and_then(|feed| subscribers::offer_often(feed, rounds)),
+        _ => Some(0),
     };
     if let Some(done) = done {
         println!("{done}");

@@ -1,5 +1,5 @@
 -- What a chain is: its first position, its items from there on, and for how many more there is room.
-use Rattle.std.specs.Prelude.{◌≡◌, ℕ, ◌+◌, ◌-◌, Bool, ◌&&◌, ◌==◌, List, length, slice_set}
+use Rattle.std.specs.Prelude.{◌≡◌, ℕ, ◌+◌, Bool, ◌&&◌, ◌==◌, List, length}
 use Rattle.std.specs.Cmp.Lexicographic.{pointwise}
 
 pub record Span (T : Type 0) : Type 0 where
@@ -10,10 +10,6 @@ pub record Span (T : Type 0) : Type 0 where
 -- the position behind the last item
 abbrev pub end_of : {T : Type 0} → Span T → ℕ
 end_of chain = chain.start + length chain.items
-
--- the chain with this item at a position
-abbrev pub with_item : {T : Type 0} → Span T → ℕ → T → Span T
-with_item chain position item = record chain { items = slice_set chain.items (position - chain.start) item }
 
 -- whether equal items stand at the same positions
 abbrev pub is_same : {T : Type 0} → (T → T → Bool) → Span T → Span T → Bool

@@ -1,8 +1,7 @@
 //! A list with an absolute first position.
 ghost use Rattle.std.specs.Prelude.{◌≡◌, ◌+◌, ◌-◌, ◌^◌, ◌<◌, ◌≤◌, [], ◌∷◌, ◌++◌, length, drop, Some, OnOk, OnErr, IfOk, slice_get};
-ghost use Rattle.std.specs.Borrow.{Lends, sem};
 ghost use Rattle.std.specs.List.{AllZip};
-ghost use Rattle.change_chain.specs.Span.{end_of, with_item, is_same, ClonesAreEqual};
+ghost use Rattle.change_chain.specs.Span.{end_of, is_same, ClonesAreEqual};
 
 use std::alloc::{AllocError, Global};
 use std::collections::VecDeque;
@@ -89,21 +88,6 @@ impl<T> Chain<T> {
             Ok(()) => {}
             Err(_) => unreachable!(),
         }
-    }
-}
-
-impl<T> Chain<T> {
-    ghost use Rattle.change_chain.specs.contracts.chain.Chain.{the_row};
-
-    /// The item at a position, to be changed in place. It takes no memory.
-    pub fn at_mut(&mut self, position: u64) -> &mut T
-        requires from_start { self.old.start ≤ position }
-        requires before_end { position < end_of self.old }
-        ensures* writes_back { sem 𝓛 (Lends (the_row T.row) T.row self.entry result (with_item self.old position)) }
-        ensures value { slice_get self.old.items (position - self.old.start) ≡ Some result.now }
-    {
-        let i = (position - self.start) as usize;
-        &mut self.items[i]
     }
 }
 

@@ -1,5 +1,5 @@
 //! The attached connections.
-ghost use Rattle.std.specs.Prelude.{◌≡◌, ◌≢◌, ◌+◌, ◌<◌, ◌≤◌, ◌↔◌, ◌==◌, ◌++◌, ◌∷◌, [], ℕ, true, false, if◌then◌else◌, length, is_some, IsTrue, Some, IfOk, IfErr, OnOk, OnErr, IsSomeAnd};
+ghost use Rattle.std.specs.Prelude.{◌≡◌, ◌≢◌, ◌+◌, ◌<◌, ◌≤◌, ◌↔◌, ◌==◌, ◌++◌, ◌∷◌, [], ℕ, true, false, if◌then◌else◌, length, IsTrue, Some, IfOk, IfErr, OnOk, OnErr, IsSomeAnd};
 ghost use Rattle.std.specs.Option.{option_copied};
 ghost use Rattle.std.specs.List.{AllByRecursion};
 ghost use Rattle.pps_types.specs.Names.{refusal_of};
@@ -63,13 +63,6 @@ impl Connections {
         ensures { IsTrue result ↔ (standing_in self.now ≡ []) }
     {
         self.attached.is_empty()
-    }
-
-    /// Does nothing. Its contract is the law that connections stand in rising number, so that none stands twice.
-    pub fn numbers_rise(&self)
-        ensures { IsRising (λ x. x.number) (standing_in self.now) }
-    {
-        let _ = &self.attached;
     }
 
     /// Whether a connection is attached.
@@ -139,13 +132,6 @@ impl Connections {
             }
             Err(_) => &[],
         }
-    }
-
-    /// How many open handles a connection has.
-    pub fn handle_count(&self, conn: Conn) -> usize
-        ensures { result ≡ length (handles_of conn (standing_in self.now)) }
-    {
-        self.handles_of(conn).len()
     }
 
     /// Whether a handle is above all that a connection has.

@@ -1,8 +1,8 @@
 //! Names, and the objects and directories that they lead to.
-ghost use Rattle.std.specs.Prelude.{◌≡◌, ◌≢◌, ◌+◌, ◌<◌, ◌≤◌, ◌^◌, if◌then◌else◌, is_some, length, map, ◌↔◌, IsTrue, IsOkUnless, Some, None, Ok, IfOk, IfErr, IfSome, IsSome, fold, OnOk, OnErr, option_map, find, ◌==◌, [], ◌∷◌};
+ghost use Rattle.std.specs.Prelude.{◌≡◌, ◌≢◌, ◌+◌, ◌<◌, ◌≤◌, ◌^◌, if◌then◌else◌, is_some, length, map, ◌↔◌, IsTrue, IsOkUnless, Some, None, Ok, IfOk, IfSome, IsSome, fold, OnOk, OnErr, option_map, find, ◌==◌};
 ghost use Rattle.std.specs.Option.{option_copied};
 ghost use Rattle.pps_types.specs.Names as paths;
-ghost use Rattle.pps_types.specs.Content.{at, object_at, directory_at, object_numbered, members, subdirectories};
+ghost use Rattle.pps_types.specs.Content.{at, object_numbered, members, subdirectories};
 ghost use Rattle.pps_types.specs.Checks.{first_refusal, limit_checks, list_checks};
 ghost use Rattle.pps_types.specs.History.{apply_line};
 ghost use Rattle.pps_types.specs.WellFormed.{directory_numbered};
@@ -97,26 +97,6 @@ impl Names {
         ensures { result ≡ paths.place (at (content_of (standing_of self.now))) path.now }
     {
         self.tree.place(path)
-    }
-
-    /// The alive object at a path, if there is one.
-    pub fn find_object(&self, path: &[Bytes]) -> Option<&NamedObject>
-        ensures known { option_map known_of (option_copied result) ≡ object_at (content_of (standing_of self.now)) path.now }
-    {
-        match self.tree.find(path).ok()? {
-            Found::Object(number) => self.objects.get(number.number()),
-            Found::Directory(_) => None,
-        }
-    }
-
-    /// The directory at a path, if there is one.
-    pub fn find_directory(&self, path: &[Bytes]) -> Option<&NamedDirectory>
-        ensures { option_copied result ≡ directory_at (content_of (standing_of self.now)) path.now }
-    {
-        match self.tree.find(path).ok()? {
-            Found::Object(_) => None,
-            Found::Directory(number) => self.directories.get(number.number()),
-        }
     }
 
     /// The number that the next object gets.

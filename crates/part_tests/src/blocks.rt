@@ -1,7 +1,7 @@
 //! Rows of the table of blocks, as they are printed.
 
 use crate::samples::{deletion, set_line};
-use pps_block::{Block, is_visible, matching_len, push_matching};
+use pps_block::{Block, is_visible};
 use pps_filter::{Filter, read_filter};
 use pps_types::{Handle, HandleKind, Kind, Line, Lines};
 use std::alloc::{AllocError, Global};
@@ -134,20 +134,5 @@ fn servers_and_clients(rt: HostRuntime) -> Result<(), Fail> {
     assert_serves(&rt, alloc, &message, b"", b"", text)?;
     let message = Kind::ToAll(lines(alloc)?);
     assert_serves(&rt, alloc, &message, b"", text, text)?;
-    Ok(())
-}
-
-#[test]
-fn matching_lines(rt: HostRuntime) -> Result<(), Fail> {
-    let alloc = rt.alloc();
-    let lines = lines(alloc)?;
-    let of_b = read_filter(alloc, b"b")?;
-    let Some(len) = matching_len(Some(&of_b), lines.as_slice()) else {
-        return Err(Fail::from(AllocError));
-    };
-    assert_eq!(rt; len, 9);
-    let mut out = Vec::with_capacity(alloc, len)?;
-    push_matching(&mut out, Some(&of_b), lines.as_slice());
-    assert_eq!(rt; out.as_slice(), b"b:n:2\n-b\n".as_slice());
     Ok(())
 }

@@ -3,15 +3,7 @@
 use change_chain::Chain;
 use std::alloc::{AllocError, Global};
 use std::process::Abort;
-use std::sync::Arc;
 use std::test::Fail;
-
-/// A text that several chains share, and a counter that each chain has of its own.
-#[derive(Clone, PartialEq, Drop)]
-struct Counted {
-    text: Arc<u64>,
-    readers: u32,
-}
 
 /// A chain of these numbers from a position on.
 fn chain_of(alloc: Global, start: u64, numbers: &[u32]) -> Result<Chain<u32>, AllocError> {
@@ -35,13 +27,6 @@ fn push_all(chain: &mut Chain<u32>, numbers: &[u32]) -> Result<(), AllocError> {
 fn cut_at(chain: &mut Chain<u32>, to: u64) {
     if chain.start() <= to && to <= chain.end() {
         chain.cut(to);
-    }
-}
-
-/// Changes the item at a position, where there is one.
-fn set_at(chain: &mut Chain<u32>, position: u64, number: u32) {
-    if chain.start() <= position && position < chain.end() {
-        *chain.at_mut(position) = number;
     }
 }
 
@@ -71,8 +56,6 @@ fn items_keep_their_positions(rt: HostRuntime) -> Result<(), Fail> {
     assert_holds(&rt, &chain, 9, &[3]);
     push_all(&mut chain, &[4])?;
     assert_holds(&rt, &chain, 9, &[3, 4]);
-    set_at(&mut chain, 10, 5);
-    assert_holds(&rt, &chain, 9, &[3, 5]);
     cut_at(&mut chain, 11);
     assert_holds(&rt, &chain, 11, &[]);
     Ok(())
@@ -83,7 +66,7 @@ fn copies_are_the_same_until_one_is_changed(rt: HostRuntime) -> Result<(), Fail>
     let mut chain = chain_of(rt.alloc(), 3, &[1, 2])?;
     let copy = chain.copy()?;
     assert!(rt; chain.same(&copy));
-    set_at(&mut chain, 4, 3);
+    push_all(&mut chain, &[3])?;
     assert!(rt; !chain.same(&copy));
     assert_holds(&rt, &copy, 3, &[1, 2]);
     let elsewhere = chain_of(rt.alloc(), 4, &[1, 2])?;
@@ -105,20 +88,5 @@ fn refused_room_changes_nothing(rt: HostRuntime) -> Result<(), Fail> {
     assert_eq!(rt; chain.reserve(usize::MAX), Err(AllocError));
     assert_holds(&rt, &chain, 0, &[1, 2]);
     chain.reserve(100)?;
-    Ok(())
-}
-
-#[test]
-fn counters_of_shared_items_are_changed_in_one_chain_alone(rt: HostRuntime) -> Result<(), Fail> {
-    let text = Arc::new(rt.alloc(), 9u64)?;
-    let mut chain = Chain::new(rt.alloc(), 5);
-    chain.reserve(1)?;
-    chain.push_reserved(Counted { text, readers: 1 });
-    let copy = chain.copy()?;
-    assert!(rt; chain.same(&copy));
-    chain.at_mut(5).readers = 2;
-    assert_eq!(rt; chain.at(5).readers, 2);
-    assert!(rt; !chain.same(&copy));
-    assert_eq!(rt; *chain.at(5).text, 9u64);
     Ok(())
 }

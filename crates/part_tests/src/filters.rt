@@ -1,7 +1,7 @@
 //! Filters: reading them, and what they match.
 
 use crate::samples::{deletion, set_line};
-use pps_filter::{Filter, Name, first_plain_piece, matches, matches_set, read_filter, read_parts};
+use pps_filter::{Filter, Name, first_plain_piece, matches, read_filter, read_parts};
 use pps_types::{Bytes, Line, Refusal};
 use std::alloc::{AllocError, Global};
 use std::test::Fail;
@@ -51,25 +51,6 @@ fn values_are_compared(rt: HostRuntime) -> Result<(), Fail> {
             "{text:?} at {value:?}"
         );
         assert!(rt; matches(None, &line));
-    }
-    Ok(())
-}
-
-#[test]
-fn sets_are_matched_without_a_line(rt: HostRuntime) -> Result<(), Fail> {
-    let filter = read_filter(rt.alloc(), b"speed>60+city")?;
-    for (name, value, wanted) in [
-        (b"speed".as_slice(), b"61".as_slice(), true),
-        (b"speed", b"60", false),
-        (b"city", b"60", true),
-        (b"town", b"61", false),
-    ] {
-        assert_eq!(rt;
-            matches_set(Some(&filter), name, value),
-            wanted,
-            "{name:?} at {value:?}"
-        );
-        assert!(rt; matches_set(None, name, value));
     }
     Ok(())
 }
@@ -131,16 +112,32 @@ fn numbers_are_compared(rt: HostRuntime) -> Result<(), Fail> {
 }
 
 #[test]
-fn parts_and_deletions_match_by_name(rt: HostRuntime) -> Result<(), Fail> {
+fn parts_match_by_name(rt: HostRuntime) -> Result<(), Fail> {
     let filter = read_filter(rt.alloc(), b"speed>60+city")?;
-    assert!(rt; filter.matches(&set(rt.alloc(), b"speed", b"61")?));
-    assert!(rt; !filter.matches(&set(rt.alloc(), b"speed", b"60")?));
-    assert!(rt; filter.matches(&set(rt.alloc(), b"city", b"60")?));
-    assert!(rt; !filter.matches(&set(rt.alloc(), b"town", b"61")?));
-    assert!(rt; filter.matches(&deletion(rt.alloc(), b"speed")?));
-    assert!(rt; filter.matches(&deletion(rt.alloc(), b"city")?));
-    assert!(rt; !filter.matches(&deletion(rt.alloc(), b"cit")?));
-    assert!(rt; matches(None, &deletion(rt.alloc(), b"cit")?));
+    for (name, value, wanted) in [
+        (b"speed".as_slice(), b"61".as_slice(), true),
+        (b"speed", b"60", false),
+        (b"city", b"60", true),
+        (b"town", b"61", false),
+    ] {
+        let line = set(rt.alloc(), name, value)?;
+        assert_eq!(rt; filter.matches(&line), wanted, "{name:?}");
+    }
+    Ok(())
+}
+
+#[test]
+fn deletions_match_by_name(rt: HostRuntime) -> Result<(), Fail> {
+    let filter = read_filter(rt.alloc(), b"speed>60+city")?;
+    for (name, wanted) in [
+        (b"speed".as_slice(), true),
+        (b"city", true),
+        (b"cit", false),
+    ] {
+        let line = deletion(rt.alloc(), name)?;
+        assert_eq!(rt; filter.matches(&line), wanted, "{name:?}");
+        assert!(rt; matches(None, &line));
+    }
     Ok(())
 }
 
@@ -240,22 +237,15 @@ fn a_copy_is_the_same(rt: HostRuntime) -> Result<(), Fail> {
 
 #[test]
 fn pieces_end_at_a_plain_separator(rt: HostRuntime) {
-    assert_eq!(rt; first_plain_piece(b',', b""), (b"".as_slice(), None));
-    assert_eq!(rt;
-        first_plain_piece(b',', b"a,b,c"),
-        (b"a".as_slice(), Some(b"b,c".as_slice()))
-    );
-    assert_eq!(rt;
-        first_plain_piece(b',', b"a\\,b,c"),
-        (b"a\\,b".as_slice(), Some(b"c".as_slice()))
-    );
-    assert_eq!(rt;
-        first_plain_piece(b',', b"a\\\\,b"),
-        (b"a\\\\".as_slice(), Some(b"b".as_slice()))
-    );
-    assert_eq!(rt; first_plain_piece(b',', b"a\\"), (b"a\\".as_slice(), None));
-    assert_eq!(rt;
-        first_plain_piece(b',', b","),
-        (b"".as_slice(), Some(b"".as_slice()))
-    );
+    let pieces: [(&[u8], &[u8], Option<&[u8]>); 6] = [
+        (b"", b"", None),
+        (b"a,b,c", b"a", Some(b"b,c")),
+        (b"a\\,b,c", b"a\\,b", Some(b"c")),
+        (b"a\\\\,b", b"a\\\\", Some(b"b")),
+        (b"a\\", b"a\\", None),
+        (b",", b"", Some(b"")),
+    ];
+    for (text, first, rest) in pieces {
+        assert_eq!(rt; first_plain_piece(b',', text), (first, rest));
+    }
 }

@@ -1,4 +1,4 @@
-//! Tests of the parts that the service is made of, or will be, by their public calls: with ample memory, what they answer
+//! Tests of the parts that the service is made of, by their public calls: with ample memory, what they answer
 //! at the edges, and devices whose calls fail.
 #![tactic(auto)]
 
@@ -28,8 +28,6 @@ mod queues;
 mod samples;
 #[cfg(test)]
 mod scripts;
-#[cfg(test)]
-mod subscribers;
 #[cfg(test)]
 mod tables;
 #[cfg(test)]

@@ -86,6 +86,25 @@ fn attributes_are_lent_by_their_places(rt: HostRuntime) -> Result<(), Fail> {
     Ok(())
 }
 
+/// Of the object, this is printed where a filter says which attributes.
+fn assert_prints_some(
+    rt: &impl Abort,
+    alloc: Global,
+    object: &Object,
+    filter: &[u8],
+    wanted: &[u8],
+) -> Result<(), Refusal> {
+    let filter = read_filter(alloc, filter)?;
+    let len = object.print_len(Some(&filter));
+    assert_eq!(rt; len, wanted.len());
+    let printed = object.print(Some(&filter))?;
+    assert_eq!(rt; printed.as_slice(), wanted);
+    let mut out = Vec::with_capacity(alloc, len)?;
+    object.push_print(&mut out, Some(&filter));
+    assert_eq!(rt; out.as_slice(), wanted);
+    Ok(())
+}
+
 #[test]
 fn those_that_match_are_printed(rt: HostRuntime) -> Result<(), Fail> {
     let object = written(rt.alloc(), b"speed:n:61\n[n]alt::9\n", b"city::Rome\n")?;
@@ -101,36 +120,53 @@ fn those_that_match_are_printed(rt: HostRuntime) -> Result<(), Fail> {
         ],
     ];
     for [filter, wanted] in cases {
-        let filter = read_filter(rt.alloc(), filter)?;
-        let len = object.print_len(Some(&filter));
-        assert_eq!(rt; len, wanted.len());
-        let printed = object.print(Some(&filter))?;
-        assert_eq!(rt; printed.as_slice(), wanted);
-        let mut out = Vec::with_capacity(rt.alloc(), len)?;
-        object.push_print(&mut out, Some(&filter));
-        assert_eq!(rt; out.as_slice(), wanted);
+        assert_prints_some(&rt, rt.alloc(), &object, filter, wanted)?;
     }
     Ok(())
 }
 
+/// An object without its nonpersistent attributes, and a copy from before.
+fn dropped(alloc: Global) -> Result<(Object, Object), Refusal> {
+    let mut object = written(alloc, b"a::1\n[n]b::2\n", b"c::3\n[n]d::4\n")?;
+    let copy = object.copy()?;
+    object.drop_nonpersistent();
+    Ok((object, copy))
+}
+
 #[test]
 fn nonpersistent_attributes_are_dropped_and_not_from_a_copy(rt: HostRuntime) -> Result<(), Fail> {
-    let mut object = written(rt.alloc(), b"a::1\n[n]b::2\n", b"c::3\n[n]d::4\n")?;
-    let copy = object.copy()?;
-    assert!(rt; object.same(&copy));
-    object.drop_nonpersistent();
-    assert!(rt; !object.same(&copy));
-    assert_prints(&rt, &copy, b"a::1\n[n]b::2\nc::3\n[n]d::4\n")?;
+    let (object, copy) = dropped(rt.alloc())?;
     assert_prints(&rt, &object, b"a::1\nc::3\n")?;
+    assert_prints(&rt, &copy, b"a::1\n[n]b::2\nc::3\n[n]d::4\n")?;
+    Ok(())
+}
+
+#[test]
+fn a_copy_is_the_same_until_one_is_changed(rt: HostRuntime) -> Result<(), Fail> {
+    let (object, copy) = dropped(rt.alloc())?;
+    assert!(rt; !object.same(&copy));
+    assert!(rt; copy.same(&copy.copy()?));
+    Ok(())
+}
+
+#[test]
+fn a_dropped_attribute_comes_back_at_the_end(rt: HostRuntime) -> Result<(), Fail> {
+    let (mut object, _) = dropped(rt.alloc())?;
     write(rt.alloc(), &mut object, b"b::5\n")?;
     assert_prints(&rt, &object, b"a::1\nc::3\nb::5\n")?;
     Ok(())
 }
 
+/// A truncated object.
+fn truncated(alloc: Global) -> Result<Object, Refusal> {
+    let mut object = written(alloc, b"a::1\n[n]b::2\n", b"c::3\n")?;
+    object.truncate();
+    Ok(object)
+}
+
 #[test]
 fn a_truncated_object_is_as_a_new_one(rt: HostRuntime) -> Result<(), Fail> {
-    let mut object = written(rt.alloc(), b"a::1\n[n]b::2\n", b"c::3\n")?;
-    object.truncate();
+    let mut object = truncated(rt.alloc())?;
     assert!(rt; object.is_empty());
     assert!(rt; object.same(&Object::new(rt.alloc())));
     write(rt.alloc(), &mut object, b"z::1\n")?;
@@ -138,15 +174,28 @@ fn a_truncated_object_is_as_a_new_one(rt: HostRuntime) -> Result<(), Fail> {
     Ok(())
 }
 
+/// Makes the lines of a written text ready.
+fn make_ready(alloc: Global, object: &mut Object, text: &[u8]) -> Result<(), Refusal> {
+    let (_, lines) = read_write(alloc, text)?.into_parts();
+    let lines = object.resolve(lines)?;
+    object.apply_ready(lines.as_slice())
+}
+
+/// Makes them ready, and applies them then.
+fn commit(alloc: Global, object: &mut Object, text: &[u8]) -> Result<(), Refusal> {
+    let (_, lines) = read_write(alloc, text)?.into_parts();
+    let lines = object.resolve(lines)?;
+    object.apply_ready(lines.as_slice())?;
+    object.apply_commit();
+    Ok(())
+}
+
 #[test]
 fn what_was_made_ready_is_applied_at_the_commit(rt: HostRuntime) -> Result<(), Fail> {
     let mut object = written(rt.alloc(), b"a::1\n", b"b::2\n")?;
-    let (_, lines) = read_write(rt.alloc(), b"-a\nc::3\nb::4\n")?.into_parts();
-    let lines = object.resolve(lines)?;
-    object.apply_ready(lines.as_slice())?;
+    make_ready(rt.alloc(), &mut object, b"d::5\n")?;
     assert_prints(&rt, &object, b"a::1\nb::2\n")?;
-    object.apply_ready(lines.as_slice())?;
-    object.apply_commit();
+    commit(rt.alloc(), &mut object, b"-a\nc::3\nb::4\n")?;
     assert_prints(&rt, &object, b"b::4\nc::3\n")?;
     Ok(())
 }

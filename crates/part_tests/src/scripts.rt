@@ -7,6 +7,7 @@ use script_lines::{
     numbers_are_decimal, print_answer, print_shown, read_line,
 };
 use std::alloc::{AllocError, Global};
+use std::process::Abort;
 use std::test::Fail;
 
 /// What a line says that is this request of connection 7.
@@ -31,45 +32,62 @@ fn empty_lines_and_comments_say_nothing(rt: HostRuntime) -> Result<(), Fail> {
     Ok(())
 }
 
+/// The line is this request of connection 7.
+fn assert_asks(
+    rt: &impl Abort,
+    alloc: Global,
+    line: &[u8],
+    request: Request,
+) -> Result<(), AllocError> {
+    let said = read_line(alloc, line)?;
+    assert_eq!(rt; said, asks(request), "{line:?}");
+    Ok(())
+}
+
 #[test]
-fn commands_without_texts_are_read(rt: HostRuntime) -> Result<(), Fail> {
-    let alloc = rt.alloc();
-    assert_eq!(rt; read_line(alloc, b"7 attach")?, asks(Request::Attach));
-    assert_eq!(rt; read_line(alloc, b"7 detach")?, asks(Request::Detach));
-    assert_eq!(rt; read_line(alloc, b"7 receive")?, asks(Request::Receive));
-    let handle = Handle::new(0);
-    let size = u32::MAX;
-    let request = Request::Read { handle, size };
-    assert_eq!(rt; read_line(alloc, b"7 read 0 4294967295")?, asks(request));
-    let handle = Handle::new(4_294_967_290);
-    assert_eq!(rt;
-        read_line(alloc, b"7 close 4294967290")?,
-        asks(Request::Close { handle })
-    );
-    for (line, action) in [
-        (b"7 notify 5 poll 0 10".as_slice(), Action::Poll),
-        (b"7 notify 5 pollarm 0 10", Action::Pollarm),
-        (b"7 notify 5 tranarm 0 10", Action::Tranarm),
+fn words_alone_are_read(rt: HostRuntime) -> Result<(), Fail> {
+    assert_asks(&rt, rt.alloc(), b"7 attach", Request::Attach)?;
+    assert_asks(&rt, rt.alloc(), b"7 detach", Request::Detach)?;
+    assert_asks(&rt, rt.alloc(), b"7 receive", Request::Receive)?;
+    Ok(())
+}
+
+#[test]
+fn numbers_behind_a_word_are_read(rt: HostRuntime) -> Result<(), Fail> {
+    let read = Request::Read {
+        handle: Handle::new(0),
+        size: u32::MAX,
+    };
+    assert_asks(&rt, rt.alloc(), b"7 read 0 4294967295", read)?;
+    let close = Request::Close {
+        handle: Handle::new(4_294_967_290),
+    };
+    assert_asks(&rt, rt.alloc(), b"7 close 4294967290", close)?;
+    Ok(())
+}
+
+#[test]
+fn notifies_are_read(rt: HostRuntime) -> Result<(), Fail> {
+    for (line, action, code, value) in [
+        (b"7 notify 5 poll 0 10".as_slice(), Action::Poll, 0u8, 10u32),
+        (b"7 notify 5 pollarm 0 10", Action::Pollarm, 0, 10),
+        (b"7 notify 5 tranarm 0 10", Action::Tranarm, 0, 10),
+        (
+            b"7 notify 5 poll 255 4294967295",
+            Action::Poll,
+            255,
+            u32::MAX,
+        ),
     ] {
         let handle = Handle::new(5);
         let request = Request::Notify {
             handle,
             action,
-            code: 0,
-            value: 10,
+            code,
+            value,
         };
-        assert_eq!(rt; read_line(alloc, line)?, asks(request), "{line:?}");
+        assert_asks(&rt, rt.alloc(), line, request)?;
     }
-    let request = Request::Notify {
-        handle: Handle::new(1),
-        action: Action::Poll,
-        code: 255,
-        value: u32::MAX,
-    };
-    assert_eq!(rt;
-        read_line(alloc, b"7 notify 1 poll 255 4294967295")?,
-        asks(request)
-    );
     Ok(())
 }
 
@@ -77,23 +95,32 @@ fn commands_without_texts_are_read(rt: HostRuntime) -> Result<(), Fail> {
 fn paths_are_taken_as_they_are(rt: HostRuntime) -> Result<(), Fail> {
     let alloc = rt.alloc();
     let path = bytes(alloc, b"/a b\\n")?;
-    assert_eq!(rt;
-        read_line(alloc, b"7 unlink /a b\\n")?,
-        asks(Request::Unlink { path })
-    );
+    assert_asks(&rt, alloc, b"7 unlink /a b\\n", Request::Unlink { path })?;
     let path = bytes(alloc, b" /d ")?;
-    assert_eq!(rt;
-        read_line(alloc, b"7 mkdir  /d ")?,
-        asks(Request::Mkdir { path })
-    );
+    assert_asks(&rt, alloc, b"7 mkdir  /d ", Request::Mkdir { path })?;
     let path = bytes(alloc, b"")?;
-    assert_eq!(rt; read_line(alloc, b"7 list ")?, asks(Request::List { path }));
+    assert_asks(&rt, alloc, b"7 list ", Request::List { path })?;
     Ok(())
+}
+
+/// The line `7 open LETTERS TEXT` is an open in this mode.
+fn assert_opens(
+    rt: &impl Abort,
+    alloc: Global,
+    letters: &[u8],
+    mode: Mode,
+    text: &[u8],
+) -> Result<(), AllocError> {
+    let mut line = Vec::from_slice(alloc, b"7 open ")?;
+    line.extend_from_slice(letters)?;
+    line.push(b' ')?;
+    line.extend_from_slice(text)?;
+    let text = bytes(alloc, text)?;
+    assert_asks(rt, alloc, line.as_slice(), Request::Open { mode, text })
 }
 
 #[test]
 fn opens_are_read(rt: HostRuntime) -> Result<(), Fail> {
-    let alloc = rt.alloc();
     let [no, yes] = [false, true];
     for (letters, [r, w, c, t]) in [
         (b"r".as_slice(), [yes, no, no, no]),
@@ -104,29 +131,10 @@ fn opens_are_read(rt: HostRuntime) -> Result<(), Fail> {
         (b"wc", [no, yes, yes, no]),
         (b"rwct", [yes, yes, yes, yes]),
     ] {
-        let mut line = Vec::from_slice(alloc, b"7 open ")?;
-        line.extend_from_slice(letters)?;
-        line.extend_from_slice(b" /a b?\\n")?;
-        let text = bytes(alloc, b"/a b?\\n")?;
         let mode = Mode { r, w, c, t };
-        let request = Request::Open { mode, text };
-        assert_eq!(rt;
-            read_line(alloc, line.as_slice())?,
-            asks(request),
-            "{letters:?}"
-        );
+        assert_opens(&rt, rt.alloc(), letters, mode, b"/a b?\\n")?;
+        assert_opens(&rt, rt.alloc(), letters, mode, b"")?;
     }
-    let text = bytes(alloc, b"")?;
-    let mode = Mode {
-        r: true,
-        w: false,
-        c: false,
-        t: false,
-    };
-    assert_eq!(rt;
-        read_line(alloc, b"7 open r ")?,
-        asks(Request::Open { mode, text })
-    );
     Ok(())
 }
 
@@ -146,8 +154,7 @@ fn written_bytes_have_escapes(rt: HostRuntime) -> Result<(), Fail> {
     ] {
         let handle = Handle::new(3);
         let bytes = bytes(alloc, content)?;
-        let request = Request::Write { handle, bytes };
-        assert_eq!(rt; read_line(alloc, line)?, asks(request), "{line:?}");
+        assert_asks(&rt, alloc, line, Request::Write { handle, bytes })?;
     }
     Ok(())
 }

@@ -271,19 +271,49 @@ fn a_directory_has_at_most_256_of_a_kind(rt: HostRuntime) -> Result<(), Fail> {
     Ok(())
 }
 
-#[test]
-fn names_lie_32_deep(rt: HostRuntime) -> Result<(), Fail> {
-    let alloc = rt.alloc();
-    let mut tree = Tree::new(alloc);
+/// The path of so many names, with an object of a long name at its end, made in an empty tree.
+fn add_deep(alloc: Global, tree: &mut Tree<Global>, depth: u64) -> Result<Vec<Bytes>, Refusal> {
     let mut deep = path(alloc, &[])?;
-    for depth in 1..32u64 {
+    for depth in 1..depth {
         deep.push(bytes(alloc, b"n")?)?;
         tree.mkdir(deep.as_slice(), DirId::new(depth))?;
     }
     deep.push(bytes(alloc, &[b'n'; 255])?)?;
     tree.add(deep.as_slice(), ObjId::new(1))?;
+    Ok(deep)
+}
+
+#[test]
+fn names_lie_32_deep(rt: HostRuntime) -> Result<(), Fail> {
+    let mut tree = Tree::new(rt.alloc());
+    let deep = add_deep(rt.alloc(), &mut tree, 32)?;
     assert_eq!(rt; tree.find(deep.as_slice()), Ok(object(1)));
     assert_eq!(rt; tree.walk()?.len(), 33);
+    Ok(())
+}
+
+/// Makes an object or a directory in two steps, between which it is not there.
+fn assert_comes_at_the_commit(
+    rt: &impl Abort,
+    alloc: Global,
+    tree: &mut Tree<Global>,
+    names: &[&[u8]],
+    found: Found,
+) -> Result<(), Refusal> {
+    let path = path(alloc, names)?;
+    match found {
+        Found::Directory(id) => {
+            tree.mkdir_ready(path.as_slice())?;
+            assert_eq!(rt; tree.find(path.as_slice()), Err(Refusal::NotFound));
+            tree.mkdir_commit(path.as_slice(), id);
+        }
+        Found::Object(id) => {
+            tree.add_ready(path.as_slice())?;
+            assert_eq!(rt; tree.find(path.as_slice()), Err(Refusal::NotFound));
+            tree.add_commit(path.as_slice(), id);
+        }
+    }
+    assert_eq!(rt; tree.find(path.as_slice()), Ok(found));
     Ok(())
 }
 
@@ -291,16 +321,8 @@ fn names_lie_32_deep(rt: HostRuntime) -> Result<(), Fail> {
 fn commits_add_what_was_made_ready(rt: HostRuntime) -> Result<(), Fail> {
     let alloc = rt.alloc();
     let mut tree = Tree::new(alloc);
-    let d = path(alloc, &[b"d"])?;
-    tree.mkdir_ready(d.as_slice())?;
-    assert_eq!(rt; tree.find(d.as_slice()), Err(Refusal::NotFound));
-    tree.mkdir_commit(d.as_slice(), DirId::new(1));
-    assert_eq!(rt; tree.find(d.as_slice()), Ok(directory(1)));
-    let b = path(alloc, &[b"d", b"b"])?;
-    tree.add_ready(b.as_slice())?;
-    assert_eq!(rt; tree.find(b.as_slice()), Err(Refusal::NotFound));
-    tree.add_commit(b.as_slice(), ObjId::new(1));
-    assert_eq!(rt; tree.find(b.as_slice()), Ok(object(1)));
+    assert_comes_at_the_commit(&rt, alloc, &mut tree, &[b"d"], directory(1))?;
+    assert_comes_at_the_commit(&rt, alloc, &mut tree, &[b"d", b"b"], object(1))?;
     Ok(())
 }
 

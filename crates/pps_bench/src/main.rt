@@ -3,7 +3,6 @@
 #![tactic(auto)]
 
 mod objects;
-mod subscribers;
 mod trees;
 
 use attr_text::{print_line, read_write};
@@ -12,7 +11,6 @@ use pps_filter::read_filter;
 use pps_types::{Bytes, Line, Refusal};
 use std::alloc::{AllocError, Global};
 use std::{env, io};
-use subscribers::{feed_of, offer_often};
 use trees::{change_often, find_often};
 
 /// That line so many times.
@@ -107,10 +105,7 @@ fn done(alloc: Global, work: &str, rounds: u32) -> Result<u64, Refusal> {
         "print_3_of_1000" => print_some_often(alloc, 1_000, rounds),
         "change_few" => change_often(alloc, 16, rounds),
         "change_many" => change_often(alloc, 256, rounds),
-        _ => match feed_of(work) {
-            Some(feed) => offer_often(alloc, feed, rounds),
-            None => Ok(0),
-        },
+        _ => Ok(0),
     }
 }
 

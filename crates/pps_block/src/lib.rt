@@ -6,5 +6,4 @@ mod lines;
 mod table;
 
 pub use block::Block;
-pub use lines::{matching_len, push_matching};
 pub use table::is_visible;

@@ -27,7 +27,7 @@ pub(crate) fn from_first_match<'a>(filter: Option<&Filter>, lines: &'a [Line]) -
 }
 
 /// How long the lines that match are, printed, where that is a length. It takes no memory.
-pub fn matching_len(filter: Option<&Filter>, lines: &[Line]) -> Option<usize>
+pub(crate) fn matching_len(filter: Option<&Filter>, lines: &[Line]) -> Option<usize>
     ensures some { IfSome result (λ len. len ≡ length (print_matching (option_copied filter.entry) lines.now)) }
     ensures none { IfNone result (2 ^ 64 ≤ length (print_matching (option_copied filter.entry) lines.now)) }
 {
@@ -43,7 +43,7 @@ pub fn matching_len(filter: Option<&Filter>, lines: &[Line]) -> Option<usize>
 }
 
 /// Pushes the printing of the lines that match, for which there is room. It takes no memory.
-pub fn push_matching(out: &mut Vec<u8>, filter: Option<&Filter>, lines: &[Line])
+pub(crate) fn push_matching(out: &mut Vec<u8>, filter: Option<&Filter>, lines: &[Line])
     requires { vec_len out.old + length (print_matching (option_copied filter) lines.now) ≤ vec_capacity out.old }
     ensures items { out.new.items ≡ out.old.items ++ print_matching (option_copied filter.entry) lines.now }
     ensures capacity { vec_capacity out.old ≤ vec_capacity out.new }

@@ -1,5 +1,5 @@
 //! Filters, and which lines they match.
-ghost use Rattle.std.specs.Prelude.{◌≡◌, ◌↔◌, ℕ, List, [], Bool, false, IfOk, IsTrue, IsOkUnless};
+ghost use Rattle.std.specs.Prelude.{◌≡◌, ◌↔◌, List, [], false, IfOk, IsTrue, IsOkUnless};
 ghost use Rattle.std.specs.List.{list_any};
 ghost use Rattle.std.specs.Option.{option_copied};
 ghost use Rattle.pps_types.specs.Filter as meant;
@@ -157,13 +157,6 @@ impl Filter {
         }
     }
 
-    // Whether one of its parts matches a line that sets an attribute of that name to that value.
-    fn matches_set(&self, name: &[u8], value: &[u8]) -> bool
-        ensures { result ≡ meant.matches (Some self.now) (Line.Set name.now [] value.now false) }
-    {
-        any_matches_set(self.parts.as_slice(), name, value)
-    }
-
     /// A copy of its own, which matches the same lines.
     pub fn copy(&self) -> Result<Filter, Refusal>
         ensures ok { IfOk result (λ copy. copy ≡ self.now) }
@@ -193,15 +186,4 @@ pub fn matches(filter: Option<&Filter>, line: &Line) -> bool
         None => true,
         Some(filter) => filter.matches(line),
     }
-}
-
-/// Whether the filter matches a line that sets an attribute of that name to that value, whatever its encoding and
-/// whether or not it is nonpersistent. It takes no memory.
-pub fn matches_set(filter: Option<&Filter>, name: &[u8], value: &[u8]) -> bool
-    ensures { (enc : List ℕ) (n : Bool) → result ≡ meant.matches (option_copied filter.entry) (Line.Set name.now enc value.now n) }
-{
-    let Some(filter) = filter else {
-        return true;
-    };
-    filter.matches_set(name, value)
 }

@@ -7,7 +7,7 @@ mod number;
 mod pieces;
 mod read;
 
-pub use filter::{Filter, Part, matches, matches_set};
+pub use filter::{Filter, Part, matches};
 pub use name::Name;
 pub use pieces::first_plain_piece;
 pub use read::{read_filter, read_parts};

@@ -109,7 +109,6 @@ fn attaching_and_leaving(rt: HostRuntime) -> Result<(), Fail> {
         connections.leave(Conn::new(number));
     }
     assert!(rt; connections.is_empty());
-    connections.numbers_rise();
     Ok(())
 }
 
@@ -131,13 +130,12 @@ fn handles_open_and_close(rt: HostRuntime) -> Result<(), Fail> {
     let [one, two, three] = [1, 2, 3].map(|number| Conn::new(number));
     assert!(rt; has_handles(&connections, one, &[2, 5, 9]));
     assert!(rt; has_handles(&connections, two, &[3, 7]));
-    assert_eq!(rt; connections.handle_count(three), 0);
+    assert!(rt; has_handles(&connections, three, &[]));
     for (conn, handle) in [(one, 5), (two, 5), (one, 5), (three, 5), (two, 3)] {
         connections.closed(conn, Handle::new(handle));
     }
     assert!(rt; has_handles(&connections, one, &[2, 9]));
     assert!(rt; has_handles(&connections, two, &[7]));
-    assert_eq!(rt; connections.handle_count(one), 2);
     assert!(rt; !connections.is_above_handles(one, Handle::new(9)));
     assert!(rt; connections.is_above_handles(one, Handle::new(10)));
     assert!(rt; connections.is_above_handles(three, Handle::new(1)));
@@ -182,7 +180,7 @@ fn parked_read_of_a_handle_that_closes(rt: HostRuntime) -> Result<(), Fail> {
         connections.end_parked(conn, Handle::new(3));
     }
     connections.fire(conn, Handle::new(3));
-    assert_eq!(rt; connections.handle_count(conn), 0);
+    assert!(rt; has_handles(&connections, conn, &[]));
     assert_eq!(rt;
         connections.take(conn),
         read_done(3, Err(Refusal::BadHandle))

@@ -13,6 +13,8 @@ mod opens;
 #[cfg(test)]
 mod restores;
 #[cfg(test)]
+mod samples;
+#[cfg(test)]
 mod settlings;
 #[cfg(test)]
 mod tables;

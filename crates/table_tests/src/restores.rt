@@ -1,20 +1,9 @@
+use crate::samples::{find, path};
 use engine_tables::Tables;
-use pps_types::{Bytes, DirId, Found, Refusal, contents_stay};
+use pps_types::{DirId, Found, ObjId, Refusal, contents_stay};
 use restore_requests::{restore_directory, restore_object};
-use std::alloc::{AllocError, Global};
+use std::alloc::Global;
 use std::test::Fail;
-
-/// The path of one name.
-fn path(alloc: Global, name: &[u8]) -> Result<Vec<Bytes>, AllocError> {
-    let mut names = Vec::new(alloc);
-    names.push(Bytes::from_slice(alloc, name)?)?;
-    Ok(names)
-}
-
-/// What stands under that name.
-fn find(alloc: Global, tables: &Tables, name: &[u8]) -> Result<Found, Refusal> {
-    tables.names().find(&path(alloc, name)?)
-}
 
 /// A new service in which that directory is restored.
 fn with_directory(alloc: Global, name: &[u8]) -> Result<Tables, Refusal> {
@@ -32,11 +21,6 @@ fn a_directory_is_restored(rt: HostRuntime) -> Result<(), Fail> {
     Ok(())
 }
 
-/// Whether an object stands under that name.
-fn has_object(alloc: Global, tables: &Tables, name: &[u8]) -> Result<bool, AllocError> {
-    Ok(tables.names().find_object(&path(alloc, name)?).is_some())
-}
-
 /// A new service in which that object is restored.
 fn with_object(alloc: Global, name: &[u8]) -> Result<Tables, Refusal> {
     contents_stay();
@@ -48,7 +32,8 @@ fn with_object(alloc: Global, name: &[u8]) -> Result<Tables, Refusal> {
 #[test]
 fn an_object_is_restored(rt: HostRuntime) -> Result<(), Fail> {
     let tables = with_object(rt.alloc(), b"gps")?;
-    assert!(rt; has_object(rt.alloc(), &tables, b"gps")?);
+    let found = find(rt.alloc(), &tables, b"gps")?;
+    assert_eq!(rt; found, Found::Object(ObjId::new(0)));
     assert_eq!(rt; tables.records(), 1);
     assert_eq!(rt; tables.handles().len(), 0);
     Ok(())

@@ -1,15 +1,9 @@
+use crate::samples::{find, path};
 use engine_tables::Tables;
 use notify_box::Outbox;
 use pps_types::{Bytes, Conn, DirId, Found, Refusal};
-use std::alloc::{AllocError, Global};
+use std::alloc::Global;
 use std::test::Fail;
-
-/// The path of one name.
-fn path(alloc: Global, name: &[u8]) -> Result<Vec<Bytes>, AllocError> {
-    let mut names = Vec::new(alloc);
-    names.push(Bytes::from_slice(alloc, name)?)?;
-    Ok(names)
-}
 
 /// The tables of a new service.
 fn new_tables(alloc: Global) -> Result<Tables, Refusal> {
@@ -76,19 +70,15 @@ fn with_a_directory(alloc: Global) -> Result<Tables, Refusal> {
     Ok(tables)
 }
 
-/// What stands under that name.
-fn find(alloc: Global, tables: &Tables) -> Result<Found, Refusal> {
-    tables.names().find(&path(alloc, b"cars")?)
-}
-
 #[test]
 fn a_directory_is_made_and_removed(rt: HostRuntime) -> Result<(), Fail> {
     let directory = DirId::new(1);
     let mut tables = with_a_directory(rt.alloc())?;
-    assert_eq!(rt; find(rt.alloc(), &tables)?, Found::Directory(directory));
+    let found = find(rt.alloc(), &tables, b"cars")?;
+    assert_eq!(rt; found, Found::Directory(directory));
     if tables.names().is_bare(directory) {
         tables.remove_directory(directory);
     }
-    assert!(rt; find(rt.alloc(), &tables).is_err());
+    assert!(rt; find(rt.alloc(), &tables, b"cars").is_err());
     Ok(())
 }

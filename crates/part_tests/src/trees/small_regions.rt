@@ -9,12 +9,25 @@ use std::alloc::{Allocator, Global};
 use std::process::Abort;
 use std::test::Fail;
 
-#[test]
-fn a_region_that_is_too_small_keeps_its_names(rt: HostRuntime) -> Result<(), Fail> {
-    let alloc = rt.alloc();
-    let heap = LocalHeap::new(alloc, 64)?;
-    let beside = small_tree(alloc)?;
-    let unchanged = beside.copy()?;
+/// The call wants memory, and the tree is as it was: without names.
+fn assert_wants_memory<A: Allocator + Clone>(
+    rt: &impl Abort,
+    alloc: Global,
+    tree: &mut Tree<A>,
+    call: Call,
+    path: &[Bytes],
+) -> Result<(), Refusal> {
+    let answer = made(tree, call, path);
+    assert_eq!(rt; answer, Err(Refusal::OutOfMemory));
+    assert_eq!(rt; tree.find(path), Err(Refusal::NotFound));
+    assert_lists(rt, alloc, tree, &[], &[])?;
+    assert_eq!(rt; tree.find(&[]), Ok(directory(0)));
+    Ok(())
+}
+
+/// No name fits into a region of so few bytes.
+fn assert_takes_no_names(rt: &impl Abort, alloc: Global, size: usize) -> Result<(), Refusal> {
+    let heap = LocalHeap::new(alloc, size)?;
     let mut tree = Tree::new(&heap);
     let long = path(alloc, &[[b'n'; 255].as_slice()])?;
     for call in [
@@ -23,14 +36,16 @@ fn a_region_that_is_too_small_keeps_its_names(rt: HostRuntime) -> Result<(), Fai
         Call::AddReady,
         Call::MkdirReady,
     ] {
-        assert_eq!(rt;
-            made(&mut tree, call, long.as_slice()),
-            Err(Refusal::OutOfMemory)
-        );
-        assert_eq!(rt; tree.find(long.as_slice()), Err(Refusal::NotFound));
-        assert_lists(&rt, alloc, &tree, &[], &[])?;
-        assert_eq!(rt; tree.find(&[]), Ok(directory(0)));
+        assert_wants_memory(rt, alloc, &mut tree, call, long.as_slice())?;
     }
+    Ok(())
+}
+
+#[test]
+fn a_region_that_is_too_small_keeps_its_names(rt: HostRuntime) -> Result<(), Fail> {
+    let beside = small_tree(rt.alloc())?;
+    let unchanged = beside.copy()?;
+    assert_takes_no_names(&rt, rt.alloc(), 64)?;
     assert!(rt; beside.same(&unchanged));
     Ok(())
 }
