@@ -10,3 +10,4 @@ mod order;
 pub use attributes::{SavedAttribute, SavedAttributes};
 pub use entries::saved_entries;
 pub use entry::SavedEntry;
+pub use order::path_order;

@@ -6,7 +6,7 @@ use pps_types::Bytes;
 use std::cmp::Ordering;
 
 /// How two paths are ordered: by the first name in which they differ, byte by byte, and a path before what is below it.
-pub(crate) fn path_order(one: &[Bytes], other: &[Bytes]) -> Ordering
+pub fn path_order(one: &[Bytes], other: &[Bytes]) -> Ordering
     ensures { result ≡ path_cmp one.now other.now }
 {
     let mut ours = one;

@@ -4,7 +4,7 @@ ghost use Rattle.pps_types.specs.declared.line.Mark.TheVariants.{Keep};
 ghost use Rattle.pps_types.specs.Image as image;
 ghost use Rattle.pps_types.specs.OpenText as meant;
 ghost use Rattle.pps_types.specs.Text as text;
-ghost use Rattle.image_lines.specs.Lines.{position_after};
+ghost use Rattle.image_lines.specs.Lines.{position_after, IsReadPath, NamesReadPath};
 
 use crate::number::read_number;
 use attr_text::read_set;
@@ -56,7 +56,8 @@ pub enum EntryLine {
 }
 
 fn path_of(alloc: Global, text: &[u8]) -> Result<Option<Path>, AllocError>
-    ensures { IfOk result (λ path. path ≡ meant.path_text text.now) }
+    ensures path { IfOk result (λ path. path ≡ meant.path_text text.now) }
+    ensures read { IfOk result (λ path. IfSome path IsReadPath) }
 {
     match read_path(alloc, text) {
         Ok(path) => Ok(Some(path)),
@@ -67,7 +68,8 @@ fn path_of(alloc: Global, text: &[u8]) -> Result<Option<Path>, AllocError>
 
 // Reads what stands behind `D `.
 fn directory_line(alloc: Global, text: &[u8]) -> Result<Option<EntryLine>, AllocError>
-    ensures { IfOk result (λ read. (r : image.Loaded) → image.directory_line r text.now ≡ option_and_then (position_after r) read) }
+    ensures position { IfOk result (λ read. (r : image.Loaded) → image.directory_line r text.now ≡ option_and_then (position_after r) read) }
+    ensures path { IfOk result (λ read. IfSome read NamesReadPath) }
 {
     let Some(path) = path_of(alloc, text)? else {
         return Ok(None);
@@ -77,7 +79,8 @@ fn directory_line(alloc: Global, text: &[u8]) -> Result<Option<EntryLine>, Alloc
 
 // Reads what stands behind `O `: a path, and how many attributes follow.
 fn object_line(alloc: Global, text: &[u8]) -> Result<Option<EntryLine>, AllocError>
-    ensures { IfOk result (λ read. (r : image.Loaded) → image.object_line r text.now ≡ option_and_then (position_after r) read) }
+    ensures position { IfOk result (λ read. (r : image.Loaded) → image.object_line r text.now ≡ option_and_then (position_after r) read) }
+    ensures path { IfOk result (λ read. IfSome read NamesReadPath) }
 {
     let Some((path, count)) = split_at_first(b' ', text) else {
         return Ok(None);
@@ -93,7 +96,8 @@ fn object_line(alloc: Global, text: &[u8]) -> Result<Option<EntryLine>, AllocErr
 
 // Reads what stands behind `E `: how many entries there were.
 fn end_line(text: &[u8]) -> Option<EntryLine>
-    ensures { (r : image.Loaded) → length r.entries < 2 ^ 32 → image.end_line r text.now ≡ option_and_then (position_after r) result }
+    ensures position { (r : image.Loaded) → length r.entries < 2 ^ 32 → image.end_line r text.now ≡ option_and_then (position_after r) result }
+    ensures path { IfSome result NamesReadPath }
 {
     let count = read_number(text)?;
     Some(EntryLine::End(count))
@@ -103,7 +107,8 @@ fn end_line(text: &[u8]) -> Option<EntryLine>
 ///
 /// Whether the entry may follow those before it, and whether their number is right, is not looked at.
 pub fn read_entry_line(alloc: Global, line: &[u8]) -> Result<Option<EntryLine>, AllocError>
-    ensures { IfOk result (λ read. (r : image.Loaded) → length r.entries < 2 ^ 32 → image.entry_line r line.now ≡ option_and_then (position_after r) read) }
+    ensures position { IfOk result (λ read. (r : image.Loaded) → length r.entries < 2 ^ 32 → image.entry_line r line.now ≡ option_and_then (position_after r) read) }
+    ensures path { IfOk result (λ read. IfSome read NamesReadPath) }
 {
     match line {
         [b'D', b' ', text @ ..] => directory_line(alloc, text),

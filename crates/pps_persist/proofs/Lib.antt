@@ -1,9 +1,7 @@
-pub mod Orders
 pub mod Restored
 pub mod Added
 pub mod Judging
 pub mod Taken
-pub mod SavedPaths
 pub mod Cuts
 pub mod Inputs
 pub mod Sendings

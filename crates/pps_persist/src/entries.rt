@@ -1,14 +1,14 @@
 //! Entries of images, restored.
-ghost use Rattle.std.specs.Prelude.{◌≡◌, ◌<◌, ◌≤◌, true, false, length, IfOk};
+ghost use Rattle.std.specs.Prelude.{◌≡◌, ◌<◌, true, length, IfOk};
 ghost use Rattle.std.specs.List.{list_all};
-ghost use Rattle.pps_types.specs.Bytes.{is_empty};
-ghost use Rattle.image_laws.specs.Images.{is_plain, IsSavedPath};
+ghost use Rattle.image_laws.specs.Images.{is_plain};
+ghost use Rattle.image_lines.specs.Lines.{IsReadPath};
 ghost use Rattle.pps_persist.specs.Held.{IsLoaded, IsLoadedObject, AddsDirectory, AddsObject, AddsLine};
 ghost use Rattle.pps_persist.specs.Judged.{judged};
 
 use crate::errors::Fault;
-use crate::order::is_before;
 use crate::place::{Loaded, Object};
+use image_entries::path_order;
 use image_lines::read_attribute;
 use pps_types::{Bytes, Refusal};
 use std::alloc::{AllocError, Global};
@@ -46,10 +46,10 @@ pub(crate) fn take_directory(
     path: Vec<Bytes>,
 ) -> Result<Loaded, Fault>
     requires loaded { IsLoaded loaded }
-    requires path { is_empty path.items ≡ false → IsSavedPath path.items }
+    requires path { IsReadPath path.items }
     ensures { AddsDirectory loaded path.items result }
 {
-    if !is_before(&loaded.last, &path) {
+    if !path_order(&loaded.last, &path).is_lt() {
         return Err(Fault::Refused);
     }
     let names = copy_names(alloc, &path)?;
@@ -70,10 +70,10 @@ pub(crate) fn take_object(
     to_come: u32,
 ) -> Result<Loaded, Fault>
     requires loaded { IsLoaded loaded }
-    requires path { is_empty path.items ≡ false → to_come ≤ 1024 → IsSavedPath path.items }
+    requires path { IsReadPath path.items }
     ensures { AddsObject loaded path.items to_come result }
 {
-    if to_come > ATTRIBUTES_MAX || !is_before(&loaded.last, &path) {
+    if to_come > ATTRIBUTES_MAX || !path_order(&loaded.last, &path).is_lt() {
         return Err(Fault::Refused);
     }
     let names = copy_names(alloc, &path)?;

@@ -5,7 +5,6 @@ mod entries;
 mod errors;
 mod lines;
 mod loading;
-mod order;
 mod output;
 mod pieces;
 mod place;

@@ -1,6 +1,6 @@
-use Rattle.std.proofs.Common.{rules, ◌≡◌, ℕ, Bool, true, false, List, Option, Some, None, ◌∙◌, ap, sym}
+use Rattle.std.proofs.Common.{rules, ◌≡◌, false, ◌∙◌, ap}
 use Rattle.std.specs.Prelude.{codes}
-use Rattle.pps_types.specs.Bytes.{same, number_up_to}
+use Rattle.pps_types.specs.Bytes.{same}
 use Rattle.pps_types.specs.Image.{plain_number}
 use Rattle.image_lines.proofs.Numbers.{zero-is-plain, read-is-plain, unread-is-great}
 use Rattle.image_lines.proofs.number.read_number.Goals as goal

@@ -1,4 +1,4 @@
-use Rattle.std.proofs.Common.{◌≡◌, ◌∙◌, sym, arith, rules}
+use Rattle.std.proofs.Common.{arith, rules}
 use Rattle.text_parts.proofs.Decimals.{number_up_to-only}
 use Rattle.image_lines.proofs.reading.read_beginning.Goals as goal
 

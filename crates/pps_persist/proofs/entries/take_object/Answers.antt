@@ -21,7 +21,7 @@ returns-in_err-judge c =
     let refused = subst (λ (names : Path). IfErr c.restore_object.result (λ r. (restore_object old.engine.content names ≡ Err r) ⊎ (r ≡ OutOfMemory))) names c.restore_object.ensures.refused in
     rw p.1
     (object-refused old path to_come p.0
-    (λ is r held. no-object r old held path to_come (c.requires.path (not-root old.last.items path behind) c.if-to_come-gt-ATTRIBUTES_MAX.false) behind
+    (λ is r held. no-object r old held path to_come (c.requires.path (not-root old.last.items path behind)) behind
     (judged-refused c.restore_object.result (restore_object old.engine.content path) (sym c.judge.ensures ∙ c.in_err-judge.was ∙ ap Err (sym p.2 ∙ is)) refused)))
 
 pub returns : goal.returns
@@ -32,5 +32,5 @@ returns c =
     let names : c.in_ok-names.names.items ≡ path = c.in_ok-names.ensures ∙ c.deref-2.ensures.value in
     let done = subst (λ (names : Path). OnOk c.restore_object.result (restore_object old.engine.content names ≡ Ok c.restore_object.new.self.content)) names c.restore_object.ensures.done in
     let new : Loaded = record { engine = c.restore_object.new.self; longest = old.longest; count = old.count + 1; last = c.args.path } in
-    λ r held. adds-object r old held new path c.args.to_come (c.requires.path (not-root old.last.items path behind) c.if-to_come-gt-ATTRIBUTES_MAX.false) c.if-to_come-gt-ATTRIBUTES_MAX.false behind
+    λ r held. adds-object r old held new path c.args.to_come (c.requires.path (not-root old.last.items path behind)) c.if-to_come-gt-ATTRIBUTES_MAX.false behind
     (judged-done c.restore_object.result _ _ (sym c.judge.ensures ∙ c.in_ok-judge.was) done) c.restore_object.ensures.unused refl refl refl
