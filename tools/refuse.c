@@ -5,6 +5,8 @@
 #include <errno.h>
 #include <stdio.h>
 #include <stdlib.h>
+#include <sys/syscall.h>
+#include <unistd.h>
 
 static long number = -1, seen = 0;
 
@@ -31,8 +33,17 @@ void *realloc(void *old, size_t size) {
     return next(old, size);
 }
 
-__attribute__((destructor)) static void end(void) {
+static void tell(void) {
     const char *path = getenv("COUNTED");
     FILE *file = path ? fopen(path, "w") : NULL;
     if (file) { fprintf(file, "%ld\n", seen); fclose(file); }
+}
+
+__attribute__((destructor)) static void end(void) { tell(); }
+
+/* A program that may have threads ends so. */
+void _exit(int status) {
+    tell();
+    syscall(SYS_exit_group, status);
+    __builtin_unreachable();
 }

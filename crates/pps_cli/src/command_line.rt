@@ -85,6 +85,8 @@ pub(crate) struct ServeOptions<'w> {
     pub workers: Workers,
     /// The script files, 1 to 1,024.
     pub scripts: Vec<&'w str>,
+    /// The file to which the order of the messages is written, if one is named.
+    pub history: Option<&'w str>,
 }
 
 /// What a command line asks for.
@@ -157,6 +159,12 @@ fn serve_command<'a>(alloc: Global) -> Result<Command<'a>, AllocError> {
         .help("How many workers serve, 1 to 8")
         .required(true)
         .value_parser(value_parser!(u16));
+    let history = Arg::new(alloc, "history")
+        .long("history")
+        .value_name("H")
+        .help(
+            "Writes to file H the order in which the messages were served: the connection of each",
+        );
     let scripts = Arg::new(alloc, "F")
         .help("Script files, 1 to 1024: the one at place K is connection K")
         .required(true)
@@ -165,6 +173,7 @@ fn serve_command<'a>(alloc: Global) -> Result<Command<'a>, AllocError> {
     Command::new(alloc, "serve")
         .about("Runs one script per session, in several threads, and prints the answers of each")
         .arg(workers)?
+        .arg(history)?
         .arg(scripts)
 }
 
@@ -209,7 +218,11 @@ fn asked_scripts<'w>(alloc: Global, matches: &ArgMatches<'w>) -> Result<ServeOpt
     };
     let mut scripts = Vec::new(alloc);
     scripts.extend_from_slice(files)?;
-    Ok(ServeOptions { workers, scripts })
+    Ok(ServeOptions {
+        workers,
+        scripts,
+        history: matches.get_str("history"),
+    })
 }
 
 /// What the words of a command line ask for, the first of which is the program's name.

@@ -24,9 +24,6 @@ use std::process::ExitCode;
 use std::sync::Wait;
 use std::thread::Threads;
 
-#[cfg(test)]
-mod tests;
-
 // A script is run on a service that begins and is saved as it is asked for.
 fn serve_script<'w, F: Files, I: Read, O: Write>(
     files: &F,

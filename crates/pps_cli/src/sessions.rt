@@ -9,6 +9,7 @@ use pps_lock::Segment;
 use pps_types::{Conn, Refusal};
 use script_lines::{ScriptLine, print_answer, read_line};
 use std::alloc::{AllocError, Global};
+use std::fs;
 use std::fs::{File, Files};
 use std::io::{ErrorKind, Read, Write};
 use std::sync::Wait;
@@ -167,15 +168,57 @@ fn write_sessions<'w, O: Write>(
     }
 }
 
-/// Reads the scripts, serves their sessions together, and writes their answers to the output.
+// Adds the connection of each message of a segment, one a line.
+fn push_connections(alloc: Global, out: &mut Vec<u8>, segment: &Segment) -> Result<(), AllocError> {
+    'entries: for entry in segment.entries() {
+        let number = entry.event().conn.number();
+        let line = format!(in alloc; "{number}\n")?;
+        out.extend_from_slice(line.as_bytes())?;
+    }
+    Ok(())
+}
+
+// Writes the order in which the messages were served to a file, if one is named.
+fn write_history<'w, F: Files>(
+    alloc: Global,
+    files: &F,
+    segments: &[Segment],
+    file: Option<&'w str>,
+) -> Result<(), Failure<'w>> {
+    let Some(file) = file else {
+        return Ok(());
+    };
+    let mut text = Vec::new(alloc);
+    'segments: for segment in segments {
+        push_connections(alloc, &mut text, segment)?;
+    }
+    match fs::write(files, file, text.as_slice()) {
+        Err(_) => Err(Failure::CannotWrite { file }),
+        Ok(()) => Ok(()),
+    }
+}
+
+// Writes what was served: the answers, and the order of the messages.
+fn write_served<'w, F: Files, O: Write>(
+    alloc: Global,
+    files: &F,
+    options: &ServeOptions<'w>,
+    served: &Served,
+    output: &mut O,
+) -> Result<(), Failure<'w>> {
+    write_sessions(alloc, options.scripts.as_slice(), served, output)?;
+    write_history(alloc, files, served.segments.as_slice(), options.history)
+}
+
+/// Reads the scripts, serves their sessions together, and writes their answers to the output, and the order of their
+/// messages to a file where one is named.
 pub(crate) fn serve_scripts<'w, R: Files + Threads + Wait + Sync, O: Write>(
     rt: &R,
     alloc: Global,
     options: &ServeOptions<'w>,
     output: &mut O,
 ) -> Result<(), Failure<'w>> {
-    let scripts = options.scripts.as_slice();
-    let sessions = read_sessions(alloc, rt, scripts)?;
+    let sessions = read_sessions(alloc, rt, options.scripts.as_slice())?;
     if !distinct(sessions.as_slice()) {
         return Err(Failure::Serve { name: "Mismatch" });
     }
@@ -189,7 +232,7 @@ pub(crate) fn serve_scripts<'w, R: Files + Threads + Wait + Sync, O: Write>(
         TRACE_LIMIT,
         &OpenGate,
     ) {
-        Ok(served) => Ok(write_sessions(alloc, scripts, &served, output)?),
+        Ok(served) => write_served(alloc, rt, options, &served, output),
         Err(ServeError::OutOfMemory) => Err(Failure::Serve {
             name: "OutOfMemory",
         }),
