@@ -8,7 +8,7 @@ use pps_types::Device;
 use std::alloc::Global;
 use std::fs;
 use std::fs::{File, Files, OpenFile, OpenOptions};
-use std::io::Write;
+use std::io::{ErrorKind, Write};
 use std::path::AsPath;
 
 // The service that an image begins.
@@ -124,6 +124,9 @@ pub(crate) fn end<'w, F: Files>(
         Ok(metadata) if !metadata.is_file() => write_into(alloc, files, engine, file),
         Ok(_) => match files.canonicalize(alloc, file) {
             Ok(place) => replace_file(alloc, files, engine, place.path_text(), file),
+            Err(e) if e.kind() == ErrorKind::OutOfMemory => {
+                Err(Failure::Fault(Fault::OutOfMemory))
+            }
             Err(_) => Err(Failure::CannotWrite { file }),
         },
         Err(_) => replace_file(alloc, files, engine, file, file),
