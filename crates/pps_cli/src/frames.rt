@@ -4,6 +4,7 @@ ghost use Rattle.pps_types.specs.Device.{device_inner, device_failed, device_rea
 ghost use Rattle.pps_cli.specs.Frames.{ServesStream, DeviceFaults};
 
 use crate::fault::Fault;
+use crate::patient::Patient;
 use pps_engine::Engine;
 use pps_frame::{Ended, RunError, run};
 use pps_types::Device;
@@ -34,7 +35,8 @@ fn serve_stream<I: Read, O: Write>(
     }
 }
 
-/// Serves the frames of the input, and writes a frame for each to the output, before it reads on.
+/// Serves the frames of the input, and writes a frame for each to the output, before it reads on. Where a read or a
+/// write is interrupted, it is tried again.
 pub(crate) fn serve_frames<I: Read, O: Write>(
     alloc: Global,
     engine: &mut Engine,
@@ -44,7 +46,7 @@ pub(crate) fn serve_frames<I: Read, O: Write>(
     serve_stream(
         alloc,
         engine,
-        &mut Device::new(input),
-        &mut Device::new(output),
+        &mut Device::new(Patient::new(input)),
+        &mut Device::new(Patient::new(output)),
     )
 }

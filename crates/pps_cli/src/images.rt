@@ -2,6 +2,7 @@
 
 use crate::command_line::Beginning;
 use crate::fault::{Failure, Fault};
+use crate::patient::Patient;
 use pps_engine::Engine;
 use pps_persist::{LoadError, SaveError, load, save};
 use pps_types::Device;
@@ -20,7 +21,7 @@ fn load_image<'w, F: Files>(
     let Ok(mut image) = File::open(files, file) else {
         return Err(Failure::CannotRead { file });
     };
-    match load(alloc, &mut Device::new(&mut image)) {
+    match load(alloc, &mut Device::new(Patient::new(&mut image))) {
         Ok(engine) => Ok(engine),
         Err(LoadError::OutOfMemory) => Err(Failure::Fault(Fault::OutOfMemory)),
         Err(LoadError::BadImage { line }) => Err(Failure::BadImage { line }),
@@ -47,7 +48,7 @@ fn write_image<'w, O: Write>(
     image: &mut O,
     file: &'w str,
 ) -> Result<(), Failure<'w>> {
-    match save(alloc, engine, &mut Device::new(image)) {
+    match save(alloc, engine, &mut Device::new(Patient::new(image))) {
         Ok(_) => Ok(()),
         Err(SaveError::OutOfMemory { .. }) => Err(Failure::Fault(Fault::OutOfMemory)),
         Err(SaveError::WriteFault { .. }) => Err(Failure::CannotWrite { file }),

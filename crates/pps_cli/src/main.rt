@@ -5,6 +5,7 @@ mod command_line;
 mod fault;
 mod frames;
 mod images;
+mod patient;
 mod script;
 mod serving;
 mod sessions;

@@ -5,11 +5,12 @@ ghost use Rattle.pps_types.specs.Text.{without_empty_end};
 ghost use Rattle.pps_cli.specs.Serving.{Runs, RunsWhole, RunsInput, IsPart};
 
 use crate::fault::Fault;
+use crate::patient::Patient;
 use crate::serving::{LineFault, serve_line};
 use memchr::memchr;
 use pps_engine::Engine;
 use std::alloc::Global;
-use std::io::{BufWriter, ErrorKind, Read, Write};
+use std::io::{BufWriter, Read, Write};
 
 /// How many bytes are read or written at once.
 const PIECE: usize = 65_536;
@@ -148,7 +149,6 @@ fn run_pieces<I: Read, W: Write>(
         let count = match input.read(buffer) {
             Ok(0) => return script.finish(),
             Ok(count) => count,
-            Err(e) if e.kind() == ErrorKind::Interrupted => continue,
             Err(_) => return Err(Fault::CannotReadInput),
         };
         script.feed(&buffer[..count])?;
@@ -205,6 +205,6 @@ pub(crate) fn run_script<I: Read, O: Write>(
 ) -> Result<Engine, Fault> {
     match BufWriter::with_capacity(alloc, PIECE, output) {
         Err(_) => Err(Fault::OutOfMemory),
-        Ok(output) => run_on(alloc, engine, show, input, output),
+        Ok(output) => run_on(alloc, engine, show, &mut Patient::new(input), output),
     }
 }
