@@ -3,12 +3,9 @@
 #define _GNU_SOURCE
 #include <dlfcn.h>
 #include <errno.h>
-#include <stdio.h>
-#include <stdlib.h>
-#include <sys/syscall.h>
-#include <unistd.h>
+#include "count.h"
 
-static long number = -1, seen = 0;
+static long number = -1;
 
 static int is_refused(void) {
     if (number < 0) {
@@ -31,19 +28,4 @@ void *realloc(void *old, size_t size) {
     if (!next) next = dlsym(RTLD_NEXT, "realloc");
     if (is_refused()) { errno = ENOMEM; return NULL; }
     return next(old, size);
-}
-
-static void tell(void) {
-    const char *path = getenv("COUNTED");
-    FILE *file = path ? fopen(path, "w") : NULL;
-    if (file) { fprintf(file, "%ld\n", seen); fclose(file); }
-}
-
-__attribute__((destructor)) static void end(void) { tell(); }
-
-/* A program that may have threads ends so. */
-void _exit(int status) {
-    tell();
-    syscall(SYS_exit_group, status);
-    __builtin_unreachable();
 }

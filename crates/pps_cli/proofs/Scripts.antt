@@ -146,12 +146,6 @@ appends-keeps (Some xs) None z text a k = absurd a
 appends-keeps (Some xs) (Some ys) None text a k = absurd k
 appends-keeps (Some xs) (Some ys) (Some zs) text a k = k ∙ a
 
-consumes-keeps : (x y z : Option (List ℕ)) (text : List ℕ) → Consumes x y text → Keeps y z → Consumes x z text
-consumes-keeps None y z text a k = tt
-consumes-keeps (Some xs) None z text a k = absurd a
-consumes-keeps (Some xs) (Some ys) None text a k = absurd k
-consumes-keeps (Some xs) (Some ys) (Some zs) text a k = a ∙ ap (λ t. text ++ t) (sym k)
-
 -- what was read so far has run, but for the part of a line at its end
 abbrev pub RunsSoFar : Bool → Content → Option (List ℕ) → Option (List ℕ) → Option (List ℕ) → List ℕ → Content → Option (List ℕ) → Type 0
 RunsSoFar show old before input left part new after = (text : List ℕ) × Consumes input left text × RunsWhole show old before text part new after
@@ -162,9 +156,6 @@ so_far-none show a x i part none = ([], Consumes-none i i (keeps_itself i), rw n
 pub so_far-sent : (show : Bool) (a b c : Content) (x y z i j : Option (List ℕ)) (part : List ℕ) → c ≡ b → Keeps y z → RunsSoFar show a x i j part b y → RunsSoFar show a x i j part c z
 so_far-sent show a b c x y z i j part same keeps (text, consumed, (lines, is, (told, serves, appends))) =
     (text, consumed, (lines, is, (told, subst (λ d. ServesAll show a lines told d) (sym same) serves, appends-keeps x y z told appends keeps)))
-
-pub so_far-waits : (show : Bool) (a b : Content) (x y i j k : Option (List ℕ)) (part : List ℕ) → Keeps j k → RunsSoFar show a x i j part b y → RunsSoFar show a x i k part b y
-so_far-waits show a b x y i j k part keeps (text, consumed, whole) = (text, consumes-keeps i j k text consumed keeps, whole)
 
 pub so_far-more : (show now : Bool) (a b c : Content) (x y z i j k : Option (List ℕ)) (part piece rest : List ℕ) → now ≡ show → Consumes j k piece → RunsSoFar show a x i j part b y
     → RunsWhole now b y (part ++ piece) rest c z → RunsSoFar show a x i k rest c z
