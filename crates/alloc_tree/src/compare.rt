@@ -51,12 +51,17 @@ pub(crate) fn same_name(one: &[u8], other: &[u8]) -> bool
     same_bytes(one, other)
 }
 
-/// The order of two names, by four bytes at a time.
+/// How many bytes of two names are compared by four at a time. Most names differ within them.
+const BEGINNING: usize = 16;
+
+/// The order of two names, by four bytes at a time in their beginning, and behind it by the slices' own comparison, which
+/// is the faster one where much is the same.
 #[inline(always)]
 pub(crate) fn order(one: &[u8], other: &[u8]) -> Ordering
     ensures { result ≡ name_cmp one.now other.now }
 {
-    let both = one.len().min(other.len());
+    let shorter = one.len().min(other.len());
+    let both = shorter.min(BEGINNING);
     let mut passed = 0;
     while both - passed >= 4 {
         let mine = four_at(one, passed);
