@@ -35,7 +35,19 @@ fn is_marked(noted: &IndexMap<Name, bool>, map: &Attributes, name: &Name) -> boo
     }
 }
 
-/// What a line of a write comes to, and whether it changes the mark of its name.
+// Whether a line that deletes changes the mark of its name. Behind the last line nobody needs to know, and it is not asked.
+fn deletion_changes(
+    noted: &IndexMap<Name, bool>,
+    map: &Attributes,
+    name: &Name,
+    is_last: bool,
+) -> bool
+    ensures { is_last ≡ false → result ≡ noted_or (get (pointwise nat_eq) noted.now name.now) (history.is_marked name.now (attributes_of map.now.entries)) }
+{
+    !is_last && is_marked(noted, map, name)
+}
+
+/// What a line of a write comes to, and whether it changes the mark of its name, where another line follows.
 #[derive(Drop)]
 struct Resolved {
     line: Line,
@@ -43,10 +55,15 @@ struct Resolved {
 }
 
 // The line that a line of a write comes to.
-fn resolve_line(noted: &IndexMap<Name, bool>, map: &Attributes, line: WriteLine) -> Resolved
+fn resolve_line(
+    noted: &IndexMap<Name, bool>,
+    map: &Attributes,
+    line: WriteLine,
+    is_last: bool,
+) -> Resolved
     ensures line { (after : List history.Attribute)
         → ForetellsMarks (get (pointwise nat_eq) noted.now) (attributes_of map.now.entries) after → result.line ≡ history.resolved after line }
-    ensures stays { (after : List history.Attribute) → result.changes ≡ false
+    ensures stays { (after : List history.Attribute) → is_last ≡ false → result.changes ≡ false
         → ForetellsMarks (get (pointwise nat_eq) noted.now) (attributes_of map.now.entries) after → ForetellsMarks (get (pointwise nat_eq) noted.now) (attributes_of map.now.entries) (history.apply_line after result.line) }
 {
     match line {
@@ -71,7 +88,7 @@ fn resolve_line(noted: &IndexMap<Name, bool>, map: &Attributes, line: WriteLine)
         }
         WriteLine::Del { name } => {
             let name = Name::new(name);
-            let changes = is_marked(noted, map, &name);
+            let changes = deletion_changes(noted, map, &name, is_last);
             Resolved {
                 line: Line::Del {
                     name: name.into_bytes(),
@@ -129,11 +146,11 @@ pub(crate) fn resolve(
     let mut noted = IndexMap::new(alloc);
     let mut made = Vec::with_capacity(alloc, count)?;
     'lines: for line in lines {
+        let is_last = made.len() + 1 == count;
         let Resolved {
             line: next,
             changes,
-        } = resolve_line(&noted, map, line);
-        let is_last = made.len() + 1 == count;
+        } = resolve_line(&noted, map, line, is_last);
         note_where(changes && !is_last, &mut noted, &next)?;
         made.push_reserved(next);
     }

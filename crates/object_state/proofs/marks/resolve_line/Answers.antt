@@ -16,7 +16,7 @@ unchanged true false e = absurd (let bad = e in cc)
 unchanged false true e = absurd (let bad = e in cc)
 
 pub returns-in-Set-clause-stays : goal.returns-in-Set-clause-stays
-returns-in-Set-clause-stays c = λ after same told.
+returns-in-Set-clause-stays c = λ after follows same told.
     let noted = get (pointwise nat_eq) c.args.noted.now in
     let before = attributes_of c.args.map.now.entries in
     let a : Attribute = record { name = c.into_bytes.result; enc = c.in-Set.enc; value = c.in-Set.value; n = c.applied_to-n.result } in
@@ -24,8 +24,8 @@ returns-in-Set-clause-stays c = λ after same told.
     (unchanged c.applied_to-n.result c.is_marked-before.result same ∙ c.is_marked-before.ensures ∙ ap (λ m. noted_or (noted m) (is_marked m before)) (sym c.into_bytes.ensures))
 
 pub returns-in-Del-clause-stays : goal.returns-in-Del-clause-stays
-returns-in-Del-clause-stays c = λ after same told.
+returns-in-Del-clause-stays c = λ after follows same told.
     let noted = get (pointwise nat_eq) c.args.noted.now in
     let before = attributes_of c.args.map.now.entries in
     stays-cut noted before after told c.into_bytes-in-Del.result
-    (ap (λ m. noted_or (noted m) (is_marked m before)) c.into_bytes-in-Del.ensures ∙ sym c.is_marked-changes.ensures ∙ same)
+    (ap (λ m. noted_or (noted m) (is_marked m before)) c.into_bytes-in-Del.ensures ∙ sym (c.deletion_changes-changes.ensures follows) ∙ same)
