@@ -1,5 +1,5 @@
 //! Answers as frames.
-ghost use Rattle.std.specs.Prelude.{◌≡◌, ℕ, ◌++◌, ◌∷◌, Ok, length, IfOk, OnOk, IfErr};
+ghost use Rattle.std.specs.Prelude.{◌≡◌, ℕ, ◌++◌, ◌∷◌, [], Ok, length, max, vec_capacity, IfOk, OnOk, IfErr};
 ghost use Rattle.pps_types.specs.Frame as frames;
 ghost use Rattle.pps_types.specs.declared.outcome.Outcome.TheVariants.{Item as AnItem};
 ghost use Rattle.pps_types.specs.declared.outcome.Item.TheVariants.{ReadDone};
@@ -108,18 +108,33 @@ fn push_answer(out: &mut Vec<u8>, answer: &Result<Outcome, Refusal>) -> Result<(
     Ok(())
 }
 
-/// Pushes the frame of the answer to a request of a connection. Memory is asked for at most once, before the first byte,
-/// and no more than the frame wants.
-pub(crate) fn push_outcome(
+// Empties a buffer, and sees that it has room for so many bytes. Where it hasn't, what it has is given back before just so
+// much is asked for: the two are never there at once, and nothing is copied.
+fn make_room(alloc: Global, out: &mut Vec<u8>, count: usize) -> Result<(), AllocError>
+    ensures items { OnOk result (out.new.items ≡ []) }
+    ensures room { OnOk result (vec_capacity out.new ≡ max (vec_capacity out.old) count) }
+{
+    if out.capacity() < count {
+        *out = Vec::new(alloc);
+        return out.reserve_exact(count);
+    }
+    out.clear();
+    Ok(())
+}
+
+/// Makes the frame of the answer to a request of a connection in a buffer, in place of what it holds. Memory is asked for
+/// at most once, before the first byte, and no more than the frame wants.
+pub(crate) fn put_outcome(
+    alloc: Global,
     out: &mut Vec<u8>,
     conn: Conn,
     answer: &Result<Outcome, Refusal>,
 ) -> Result<(), AllocError>
     requires { IsSendable answer.now }
-    ensures { OnOk result (out.new.items ≡ out.old.items ++ frames.answer_frame conn answer.now) }
+    ensures { OnOk result (out.new.items ≡ frames.answer_frame conn answer.now) }
 {
     let len = fields_len(answer);
-    out.reserve_exact(len + 7)?;
+    make_room(alloc, out, len + 7)?;
     let [a, b, c, d] = ((len + 3) as u32).to_be_bytes();
     let [high, low] = conn.number().to_be_bytes();
     out.extend_from_slice(&[a, b, c, d, high, low])?;
@@ -140,6 +155,6 @@ pub fn encode_outcome(
     ensures err { IfErr result (λ r. r ≡ Refusal.OutOfMemory) }
 {
     let mut out = Vec::new(alloc);
-    push_outcome(&mut out, conn, answer)?;
+    put_outcome(alloc, &mut out, conn, answer)?;
     Ok(out)
 }

@@ -1,10 +1,10 @@
 //! The service behind a reader and a writer.
-ghost use Rattle.std.specs.Prelude.{◌≡◌, ◌++◌, ◌∷◌, [], false};
+ghost use Rattle.std.specs.Prelude.{◌≡◌, ◌≤◌, ◌++◌, ◌∷◌, [], false, vec_capacity};
 ghost use Rattle.pps_types.specs.Device.{device_inner, device_failed, device_reads, device_stalls};
 ghost use Rattle.pps_frame.specs.Served.{Ran, FaultsAre};
 ghost use Rattle.pps_frame.specs.Sent.{ServesOr, ServesPieceOr, WriteFaultIs};
 
-use crate::answers::push_outcome;
+use crate::answers::put_outcome;
 use crate::decoder::{Decoder, Fed};
 use crate::ends::{Ended, RunError};
 use crate::sending::{send, send_end};
@@ -16,11 +16,15 @@ use std::io::{Read, Write};
 /// How many bytes are read at once.
 const PIECE: usize = 65_536;
 
+/// How many bytes of room the buffer for answers' frames keeps at most while nothing is sent from it.
+const KEPT: usize = 65_536;
+
 /// After how many reads an input counts as one that can't be read.
 const READS_MAX: u32 = 4_294_967_295;
 
 // Serves a request. Its answer's frame is made in the buffer, in place of what stood there.
 fn serve<W: Write>(
+    alloc: Global,
     frame: &mut Vec<u8>,
     engine: &mut Engine,
     writer: &mut Device<W>,
@@ -31,14 +35,23 @@ fn serve<W: Write>(
     ensures fault { WriteFaultIs result (device_failed writer.new) (device_stalls writer.old) (device_stalls writer.new) }
 {
     let answer = engine.step(event);
-    frame.clear();
-    match push_outcome(frame, event.conn, &answer) {
+    match put_outcome(alloc, frame, event.conn, &answer) {
         Err(_) => Err(RunError::OutOfMemory),
         Ok(()) => send(writer, frame),
     }
 }
 
-// Serves requests in their order. Their answers' frames are made in one buffer.
+// Gives back the room of a buffer where that is more than is kept.
+fn give_back(alloc: Global, frame: &mut Vec<u8>)
+    ensures { vec_capacity frame.new ≤ 65536 }
+{
+    if frame.capacity() > KEPT {
+        *frame = Vec::new(alloc);
+    }
+}
+
+// Serves requests in their order. Their answers' frames are made in one buffer. The room of a long one is given back as
+// soon as it is sent.
 fn serve_all<W: Write>(
     alloc: Global,
     engine: &mut Engine,
@@ -51,7 +64,8 @@ fn serve_all<W: Write>(
 {
     let mut frame = Vec::new(alloc);
     'events: for event in events {
-        serve(&mut frame, engine, writer, event)?;
+        serve(alloc, &mut frame, engine, writer, event)?;
+        give_back(alloc, &mut frame);
     }
     Ok(())
 }

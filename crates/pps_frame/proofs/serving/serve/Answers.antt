@@ -1,6 +1,5 @@
-use Rattle.std.proofs.Common.{List, ℕ, ◌++◌, subst, ap, ◌∙◌}
+use Rattle.std.proofs.Common.{List, ℕ, subst, ◌∙◌}
 use Rattle.pps_types.specs.Device.{device_inner}
-use Rattle.pps_types.specs.Frame.{answer_frame}
 use Rattle.pps_frame.specs.Sent.{Sends}
 use Rattle.pps_frame.proofs.Streams.{serves_as_sent, serves_unsent}
 use Rattle.pps_frame.proofs.serving.serve.Goals as goal
@@ -14,4 +13,4 @@ returns-clause-served g c =
     let before = g.W.Write.contents (device_inner c.args.writer.now) in
     let after = g.W.Write.contents (device_inner c.send.new.writer) in
     serves_as_sent before after c.args.engine.now.content c.step-answer.new.self.content c.args.event.now c.step-answer.result c.send.result c.step-answer.ensures.seen
-    (subst (λ (bytes : List ℕ). Sends before after bytes c.send.result) (c.deref.ensures.value ∙ c.in-Ok.ensures ∙ ap (λ (x : List ℕ). x ++ answer_frame c.args.event.now.conn c.step-answer.result) c.clear.ensures.items) c.send.ensures.bytes)
+    (subst (λ (bytes : List ℕ). Sends before after bytes c.send.result) (c.deref.ensures.value ∙ c.in-Ok.ensures) c.send.ensures.bytes)
