@@ -72,8 +72,8 @@ fn search_by_order(attached: &[Attached], conn: Conn) -> Result<usize, usize>
     attached.binary_search_by_key(&conn.number(), |other| other.number.number())
 }
 
-/// Where a connection stands, or else where it would go. Connections are numbered from 1 on, mostly without gaps, so the
-/// place that it has among such is looked at first.
+/// Where a connection stands, or else where it would go. The place that its number has where no lower number is missing is
+/// looked at first; where another connection is there, the search goes on by the order of the numbers.
 #[inline(always)]
 pub(crate) fn search(attached: &[Attached], conn: Conn) -> Result<usize, usize>
     requires { IsRising number_of attached.now }
