@@ -1,6 +1,6 @@
 //! Jobs that users of the service wait for, as a benchmark. The first word names the work, or is `all`; the second is the
 //! seed of its input, and a third says how many rounds it has. Without words it does nothing. It prints how many bytes the
-//! work gave, and their digest.
+//! work gave, and their digest. Where a work is at fault it prints the fault, and ends with status 1.
 #![tactic(auto)]
 
 mod chance;
@@ -20,6 +20,7 @@ use digest::Sums;
 use fault::Fault;
 use requests::{Requests, served};
 use std::alloc::Global;
+use std::process::ExitCode;
 use std::{env, io};
 
 /// The works, which `all` does one after the other.
@@ -74,31 +75,51 @@ fn done(alloc: Global, work: &str, seed: u64, rounds: Option<u32>) -> Result<Sum
     served(alloc, &requests)
 }
 
-/// Tells what a work gave.
-fn tell(rt: HostRuntime, work: &str, seed: u64, rounds: Option<u32>) -> io::Result<()> {
+/// Prints what a work gave, or its fault. Gives the exit status.
+fn print_work(
+    rt: &HostRuntime,
+    work: &str,
+    seed: u64,
+    rounds: Option<u32>,
+) -> io::Result<ExitCode> {
     match done(rt.alloc(), work, seed, rounds) {
-        Ok(digest) => println!(rt; "{work} {seed}: {digest}"),
-        Err(fault) => println!(rt; "{work} {seed}: {fault}"),
+        Ok(digest) => {
+            println!(rt; "{work} {seed}: {digest}")?;
+            Ok(ExitCode::SUCCESS)
+        }
+        Err(fault) => {
+            println!(rt; "{work} {seed}: {fault}")?;
+            Ok(ExitCode::FAILURE)
+        }
     }
 }
 
-fn main(rt: HostRuntime) -> io::Result<()> {
+/// Prints what each of the works gave. Gives the exit status: a fault of one is one of all.
+fn print_all(rt: &HostRuntime, seed: u64, rounds: Option<u32>) -> io::Result<ExitCode> {
+    let mut status = ExitCode::SUCCESS;
+    for work in WORKS {
+        let ended = print_work(rt, work, seed, rounds)?;
+        if ended != ExitCode::SUCCESS {
+            status = ended;
+        }
+    }
+    Ok(status)
+}
+
+fn main(rt: HostRuntime) -> io::Result<ExitCode> {
     let words: Vec<String> = env::args(&rt)?.collect(rt.alloc())?;
     let (Some(work), Some(seed)) = (words.get(1), words.get(2)) else {
-        return Ok(());
+        return Ok(ExitCode::SUCCESS);
     };
     let Ok(seed) = seed.as_str().parse::<u64>() else {
-        return Ok(());
+        return Ok(ExitCode::SUCCESS);
     };
     let rounds = match words.get(3) {
         Some(word) => word.as_str().parse::<u32>().ok(),
         None => None,
     };
-    if work.as_str() != "all" {
-        return tell(rt, work.as_str(), seed, rounds);
+    if work.as_str() == "all" {
+        return print_all(&rt, seed, rounds);
     }
-    for work in WORKS {
-        tell(rt, work, seed, rounds)?;
-    }
-    Ok(())
+    print_work(&rt, work.as_str(), seed, rounds)
 }
