@@ -3,10 +3,6 @@
 #![tactic(auto)]
 
 #[cfg(test)]
-mod attributes;
-#[cfg(test)]
-mod blocks;
-#[cfg(test)]
 mod boxes;
 #[cfg(test)]
 mod chains;
@@ -15,13 +11,9 @@ mod chance;
 #[cfg(test)]
 mod devices;
 #[cfg(test)]
-mod filters;
-#[cfg(test)]
 mod images;
 #[cfg(test)]
 mod objects;
-#[cfg(test)]
-mod opens;
 #[cfg(test)]
 mod queues;
 #[cfg(test)]
@@ -30,8 +22,6 @@ mod samples;
 mod scripts;
 #[cfg(test)]
 mod tables;
-#[cfg(test)]
-mod texts;
 #[cfg(test)]
 mod trees;
 #[cfg(test)]
