@@ -1,17 +1,145 @@
 //! Queued items, armed pulses and parked reads.
 
-use crate::samples::shared;
+use crate::samples::{assert_met, is_refused, shared};
 use notify_box::Outbox;
 use pps_types::{Handle, Item, Refusal, SharedBytes};
 use std::alloc::{AllocError, Global};
 use std::process::Abort;
 use std::test::Fail;
 
-/// Arms a pulse whose value is the handle's number.
-fn arm(outbox: &mut Outbox, number: u32) -> Result<(), Refusal> {
+/// A call of an outbox, or what it has to answer.
+#[derive(Clone, Copy)]
+enum Step {
+    /// Arms a pulse whose value is the handle's number.
+    Arm(u32),
+    ArmAs(u32, u8, u32),
+    /// Arms a pulse on each handle of these, the last first.
+    ArmEach(u32, u32),
+    /// To arm a pulse there is refused so.
+    RefusesToArm(u32, Refusal),
+    Disarm(u32),
+    Fire(u32),
+    FireEach(u32, u32),
+    Park(u32),
+    /// To park a read there is refused so.
+    RefusesToPark(u32, Refusal),
+    /// Ends the parking by a text or a refusal, if a read is parked there.
+    Finish(u32, Option<Refusal>),
+    IsParked(u32, bool),
+    FirstPulse(u32),
+    NothingFirst,
+    TakePulse(u32),
+    TakePulseAs(u8, u32),
+    /// The pulses of these handles are taken, in this order.
+    TakePulses(u32, u32),
+    /// A late reply with a text or a refusal is taken.
+    TakeReply(u32, Option<Refusal>),
+    TakeNothing,
+    /// The other outbox is a copy of this one from here on.
+    Copy,
+    /// The steps after this one are of the other outbox.
+    Swap,
+    /// Whether both are the same.
+    Same(bool),
+}
+
+const PARKED_READ_AND_PULSE: [Step; 12] = [
+    Step::Arm(2),
+    Step::Park(2),
+    Step::RefusesToPark(2, Refusal::ReadPending),
+    Step::NothingFirst,
+    Step::Fire(2),
+    Step::Finish(2, None),
+    Step::Fire(2),
+    Step::IsParked(2, false),
+    Step::FirstPulse(2),
+    Step::TakePulse(2),
+    Step::TakeReply(2, None),
+    Step::TakeNothing,
+];
+
+const NEWS_AND_ARMING: [Step; 10] = [
+    Step::Arm(7),
+    Step::ArmAs(7, 127, 4_294_967_295),
+    Step::Fire(6),
+    Step::Fire(7),
+    Step::Fire(7),
+    Step::Arm(7),
+    Step::Disarm(7),
+    Step::Fire(7),
+    Step::TakePulseAs(127, 4_294_967_295),
+    Step::TakeNothing,
+];
+
+const LATE_REPLY_TOO_SMALL: [Step; 7] = [
+    Step::Park(3),
+    Step::Finish(3, Some(Refusal::TooSmall { need: 13 })),
+    Step::Park(3),
+    Step::Finish(3, Some(Refusal::BadHandle)),
+    Step::TakeReply(3, Some(Refusal::TooSmall { need: 13 })),
+    Step::TakeReply(3, Some(Refusal::BadHandle)),
+    Step::TakeNothing,
+];
+
+const FULL_OUTBOX: [Step; 15] = [
+    Step::ArmEach(2, 1_026),
+    Step::RefusesToArm(1_026, Refusal::OutboxFull),
+    Step::RefusesToPark(2, Refusal::OutboxFull),
+    Step::Arm(2),
+    Step::Disarm(2),
+    Step::Park(2),
+    Step::RefusesToPark(3, Refusal::OutboxFull),
+    Step::RefusesToPark(2, Refusal::ReadPending),
+    Step::Finish(2, Some(Refusal::Gone)),
+    Step::RefusesToArm(1_026, Refusal::OutboxFull),
+    Step::TakeReply(2, Some(Refusal::Gone)),
+    Step::Arm(1_026),
+    Step::FireEach(3, 1_027),
+    Step::TakePulses(3, 1_027),
+    Step::TakeNothing,
+];
+
+const COPIES_ARE_THE_SAME: [Step; 27] = [
+    Step::Copy,
+    Step::Arm(5),
+    Step::Park(5),
+    Step::Arm(1),
+    Step::Park(1),
+    Step::Arm(3),
+    Step::Park(3),
+    Step::Fire(3),
+    Step::Finish(5, None),
+    Step::Same(false),
+    Step::Copy,
+    Step::Same(true),
+    Step::Swap,
+    Step::Disarm(1),
+    Step::Same(false),
+    Step::Swap,
+    Step::Disarm(1),
+    Step::Swap,
+    Step::Finish(1, Some(Refusal::Gone)),
+    Step::Same(false),
+    Step::Swap,
+    Step::Finish(1, Some(Refusal::Gone)),
+    Step::Same(true),
+    Step::Swap,
+    Step::TakePulse(3),
+    Step::Same(false),
+    Step::TakeReply(5, None),
+];
+
+/// An outbox and another.
+#[derive(Drop)]
+struct Pair {
+    outbox: Outbox,
+    other: Outbox,
+}
+
+fn arm(outbox: &mut Outbox, number: u32, code: u8, value: u32) -> Result<(), Refusal> {
     let handle = Handle::new(number);
     outbox.arm_ready(handle)?;
-    outbox.arm(handle, 0, number);
+    outbox.arm(handle, code, value);
     Ok(())
 }
 
@@ -22,143 +150,133 @@ fn park(outbox: &mut Outbox, number: u32) -> Result<(), Refusal> {
     Ok(())
 }
 
-/// Ends the parking, if a read is parked there.
-fn finish(outbox: &mut Outbox, number: u32, reply: Result<SharedBytes, Refusal>) {
-    let handle = Handle::new(number);
-    if outbox.is_parked(handle) {
-        outbox.finish(handle, reply);
-    }
-}
-
 fn text(alloc: Global) -> Result<SharedBytes, AllocError> {
     shared(alloc, b"@gps\nspeed::5\n")
 }
 
-fn pulse(value: u32) -> Option<Item> {
-    Some(Item::Pulse { code: 0, value })
+/// The reply with a text, or with a refusal.
+fn reply(
+    alloc: Global,
+    refusal: Option<Refusal>,
+) -> Result<Result<SharedBytes, Refusal>, AllocError> {
+    match refusal {
+        None => Ok(Ok(text(alloc)?)),
+        Some(refusal) => Ok(Err(refusal)),
+    }
 }
 
-fn read_done(number: u32, reply: Result<SharedBytes, Refusal>) -> Option<Item> {
-    Some(Item::ReadDone {
-        handle: Handle::new(number),
-        result: reply,
-    })
-}
-
-#[test]
-fn parked_read_and_pulse(rt: HostRuntime) -> Result<(), Fail> {
-    let alloc = rt.alloc();
-    let mut outbox = Outbox::new(alloc)?;
-    arm(&mut outbox, 2)?;
-    park(&mut outbox, 2)?;
-    assert_eq!(rt; park(&mut outbox, 2), Err(Refusal::ReadPending));
-    assert_eq!(rt; outbox.first(), None);
-    outbox.fire(Handle::new(2));
-    finish(&mut outbox, 2, Ok(text(alloc)?));
-    outbox.fire(Handle::new(2));
-    assert!(rt; !outbox.is_parked(Handle::new(2)));
-    assert_eq!(rt; outbox.first(), pulse(2).as_ref());
-    assert_eq!(rt; outbox.take(), pulse(2));
-    assert_eq!(rt; outbox.take(), read_done(2, Ok(text(alloc)?)));
-    assert_eq!(rt; outbox.take(), None);
+fn arm_each(outbox: &mut Outbox, first: u32, end: u32) -> Result<(), Refusal> {
+    for number in (first..end).rev() {
+        arm(outbox, number, 0, number)?;
+    }
     Ok(())
 }
 
-#[test]
-fn news_and_arming(rt: HostRuntime) -> Result<(), Fail> {
-    let alloc = rt.alloc();
-    let mut outbox = Outbox::new(alloc)?;
-    let handle = Handle::new(7);
-    arm(&mut outbox, 7)?;
-    outbox.arm_ready(handle)?;
-    outbox.arm(handle, 127, 4_294_967_295);
-    outbox.fire(Handle::new(6));
-    outbox.fire(handle);
-    outbox.fire(handle);
-    arm(&mut outbox, 7)?;
-    outbox.disarm(handle);
-    outbox.fire(handle);
-    let newer = Some(Item::Pulse {
-        code: 127,
-        value: 4_294_967_295,
-    });
-    assert_eq!(rt; outbox.take(), newer);
-    assert_eq!(rt; outbox.take(), None);
-    Ok(())
-}
-
-#[test]
-fn late_reply_too_small(rt: HostRuntime) -> Result<(), Fail> {
-    let mut outbox = Outbox::new(rt.alloc())?;
-    let refused = Err(Refusal::TooSmall { need: 13 });
-    park(&mut outbox, 3)?;
-    finish(&mut outbox, 3, refused);
-    park(&mut outbox, 3)?;
-    finish(&mut outbox, 3, Err(Refusal::BadHandle));
-    assert_eq!(rt;
-        outbox.take(),
-        read_done(3, Err(Refusal::TooSmall { need: 13 }))
-    );
-    assert_eq!(rt; outbox.take(), read_done(3, Err(Refusal::BadHandle)));
-    assert_eq!(rt; outbox.take(), None);
-    Ok(())
-}
-
-/// Fires these handles. Their pulses come in this order, and nothing more.
-fn assert_comes_in_order(rt: &impl Abort, outbox: &mut Outbox, first: u32, end: u32) {
+fn fire_each(outbox: &mut Outbox, first: u32, end: u32) {
     for number in first..end {
         outbox.fire(Handle::new(number));
     }
-    for number in first..end {
-        assert_eq!(rt; outbox.take(), pulse(number));
-    }
-    assert_eq!(rt; outbox.take(), None);
 }
 
-#[test]
-fn full_outbox(rt: HostRuntime) -> Result<(), Fail> {
-    let mut outbox = Outbox::new(rt.alloc())?;
-    for number in (2..1_026).rev() {
-        arm(&mut outbox, number)?;
+fn takes_pulse(outbox: &mut Outbox, code: u8, value: u32) -> bool {
+    outbox.take() == Some(Item::Pulse { code, value })
+}
+
+fn takes_pulses(outbox: &mut Outbox, first: u32, end: u32) -> bool {
+    for number in first..end {
+        if !takes_pulse(outbox, 0, number) {
+            return false;
+        }
     }
-    assert_eq!(rt; arm(&mut outbox, 1_026), Err(Refusal::OutboxFull));
-    assert_eq!(rt; park(&mut outbox, 2), Err(Refusal::OutboxFull));
-    assert_eq!(rt; arm(&mut outbox, 2), Ok(()));
-    outbox.disarm(Handle::new(2));
-    assert_eq!(rt; park(&mut outbox, 2), Ok(()));
-    assert_eq!(rt; park(&mut outbox, 3), Err(Refusal::OutboxFull));
-    assert_eq!(rt; park(&mut outbox, 2), Err(Refusal::ReadPending));
-    finish(&mut outbox, 2, Err(Refusal::Gone));
-    assert_eq!(rt; arm(&mut outbox, 1_026), Err(Refusal::OutboxFull));
-    assert_eq!(rt; outbox.take(), read_done(2, Err(Refusal::Gone)));
-    assert_eq!(rt; arm(&mut outbox, 1_026), Ok(()));
-    assert_comes_in_order(&rt, &mut outbox, 3, 1_027);
+    true
+}
+
+fn takes_reply(
+    alloc: Global,
+    outbox: &mut Outbox,
+    number: u32,
+    refusal: Option<Refusal>,
+) -> Result<bool, AllocError> {
+    let wanted = Item::ReadDone {
+        handle: Handle::new(number),
+        result: reply(alloc, refusal)?,
+    };
+    Ok(outbox.take() == Some(wanted))
+}
+
+fn finish(
+    alloc: Global,
+    outbox: &mut Outbox,
+    number: u32,
+    refusal: Option<Refusal>,
+) -> Result<(), AllocError> {
+    let reply = reply(alloc, refusal)?;
+    let handle = Handle::new(number);
+    if outbox.is_parked(handle) {
+        outbox.finish(handle, reply);
+    }
+    Ok(())
+}
+
+/// Carries out a call. Whether the step is one.
+fn is_carried_out(alloc: Global, pair: &mut Pair, step: Step) -> Result<bool, Refusal> {
+    let outbox = &mut pair.outbox;
+    match step {
+        Step::Arm(number) => arm(outbox, number, 0, number)?,
+        Step::ArmAs(number, code, value) => arm(outbox, number, code, value)?,
+        Step::ArmEach(first, end) => arm_each(outbox, first, end)?,
+        Step::Disarm(number) => outbox.disarm(Handle::new(number)),
+        Step::Fire(number) => outbox.fire(Handle::new(number)),
+        Step::FireEach(first, end) => fire_each(outbox, first, end),
+        Step::Park(number) => park(outbox, number)?,
+        Step::Finish(number, refusal) => finish(alloc, outbox, number, refusal)?,
+        Step::Copy => pair.other = outbox.copy()?,
+        Step::Swap => std::mem::swap(&mut pair.outbox, &mut pair.other),
+        _ => return Ok(false),
+    }
+    Ok(true)
+}
+
+/// Whether the outbox answers as the step says.
+fn is_answered(alloc: Global, pair: &mut Pair, step: Step) -> Result<bool, Refusal> {
+    let outbox = &mut pair.outbox;
+    match step {
+        Step::RefusesToArm(number, refusal) => is_refused(arm(outbox, number, 0, 0), refusal),
+        Step::RefusesToPark(number, refusal) => is_refused(park(outbox, number), refusal),
+        Step::IsParked(number, is) => Ok(outbox.is_parked(Handle::new(number)) == is),
+        Step::FirstPulse(value) => Ok(outbox.first() == Some(&Item::Pulse { code: 0, value })),
+        Step::NothingFirst => Ok(outbox.first().is_none()),
+        Step::TakePulse(number) => Ok(takes_pulse(outbox, 0, number)),
+        Step::TakePulseAs(code, value) => Ok(takes_pulse(outbox, code, value)),
+        Step::TakePulses(first, end) => Ok(takes_pulses(outbox, first, end)),
+        Step::TakeReply(number, refusal) => Ok(takes_reply(alloc, outbox, number, refusal)?),
+        Step::TakeNothing => Ok(outbox.take().is_none()),
+        Step::Same(is) => Ok(outbox.same(&pair.other) == is && pair.other.same(outbox) == is),
+        _ => Ok(false),
+    }
+}
+
+/// Plays the steps in turn, of two outboxes that begin empty.
+fn play(rt: &impl Abort, alloc: Global, name: &str, steps: &[Step]) -> Result<(), Refusal> {
+    let mut pair = Pair {
+        outbox: Outbox::new(alloc)?,
+        other: Outbox::new(alloc)?,
+    };
+    for (number, step) in steps.iter().enumerate() {
+        let is_met = is_carried_out(alloc, &mut pair, *step)?
+            || is_answered(alloc, &mut pair, *step)?;
+        assert_met(rt, is_met, name, number);
+    }
     Ok(())
 }
 
 #[test]
-fn copies_are_the_same(rt: HostRuntime) -> Result<(), Fail> {
+fn outboxes_answer_in_turn(rt: HostRuntime) -> Result<(), Fail> {
     let alloc = rt.alloc();
-    let mut outbox = Outbox::new(alloc)?;
-    let empty = outbox.copy()?;
-    for number in [5, 1, 3] {
-        arm(&mut outbox, number)?;
-        park(&mut outbox, number)?;
-    }
-    outbox.fire(Handle::new(3));
-    finish(&mut outbox, 5, Ok(text(alloc)?));
-    let mut copy = outbox.copy()?;
-    assert!(rt; outbox.same(&copy));
-    assert!(rt; !outbox.same(&empty));
-    copy.disarm(Handle::new(1));
-    assert!(rt; !outbox.same(&copy));
-    outbox.disarm(Handle::new(1));
-    finish(&mut copy, 1, Err(Refusal::Gone));
-    assert!(rt; !outbox.same(&copy));
-    finish(&mut outbox, 1, Err(Refusal::Gone));
-    assert!(rt; outbox.same(&copy));
-    assert_eq!(rt; copy.take(), pulse(3));
-    assert!(rt; !outbox.same(&copy));
-    assert_eq!(rt; copy.take(), read_done(5, Ok(text(alloc)?)));
+    play(&rt, alloc, "parked_read_and_pulse", &PARKED_READ_AND_PULSE)?;
+    play(&rt, alloc, "news_and_arming", &NEWS_AND_ARMING)?;
+    play(&rt, alloc, "late_reply_too_small", &LATE_REPLY_TOO_SMALL)?;
+    play(&rt, alloc, "full_outbox", &FULL_OUTBOX)?;
+    play(&rt, alloc, "copies_are_the_same", &COPIES_ARE_THE_SAME)?;
     Ok(())
 }

@@ -1,7 +1,8 @@
 //! What tests of all parts are made from.
 
-use pps_types::{Bytes, Handle, Kind, Line, Lines, ObjId, Record, SharedBytes};
+use pps_types::{Bytes, Handle, Kind, Line, Lines, ObjId, Record, Refusal, SharedBytes};
 use std::alloc::{AllocError, Global};
+use std::process::Abort;
 
 pub(crate) fn bytes(alloc: Global, content: &[u8]) -> Result<Bytes, AllocError> {
     Bytes::from_slice(alloc, content)
@@ -55,5 +56,19 @@ pub(crate) fn record_of(object: u64, kind: Kind, writer: Option<u32>) -> Record 
         object: ObjId::new(object),
         kind,
         writer: writer.map(Handle::new),
+    }
+}
+
+/// The step of that number of the steps of that name is met.
+pub(crate) fn assert_met(rt: &impl Abort, is_met: bool, name: &str, number: usize) {
+    assert!(rt; is_met, "{name}, step {number}");
+}
+
+/// Whether a call is refused so. If memory was refused, that is the answer.
+pub(crate) fn is_refused(answer: Result<(), Refusal>, refusal: Refusal) -> Result<bool, Refusal> {
+    match answer {
+        Ok(()) => Ok(false),
+        Err(Refusal::OutOfMemory) => Err(Refusal::OutOfMemory),
+        Err(found) => Ok(found == refusal),
     }
 }

@@ -9,6 +9,8 @@ mod seats;
 #[cfg(test)]
 mod servers;
 #[cfg(test)]
+mod steps;
+#[cfg(test)]
 mod targets;
 #[cfg(test)]
 mod texts;

@@ -5,6 +5,7 @@ use object_state::Object;
 use pps_types::{Bytes, Conn, Handle, HandleKind, Kind, Line, Lines, ObjId, Record, Refusal};
 use server_queue::Entry;
 use std::alloc::{AllocError, Global};
+use std::process::Abort;
 use std::test::Fail;
 
 /// What an open without options fixes for handle 4 of connection 2, which may be owed 2 records.
@@ -55,59 +56,57 @@ fn reply(alloc: Global, kind: HandleKind, size: u32) -> Result<Reply, Refusal> {
     late_answer(alloc, 1, &opening(kind), &told, size)
 }
 
-/// How many records it gives, and their blocks.
-fn blocks_in(reply: &Reply) -> (usize, &[u8]) {
-    match reply {
-        Reply::Blocks { count, text } => (*count, text.as_slice()),
-        _ => (0, b""),
+/// What a late reply has to be.
+#[derive(Clone, Copy)]
+enum Wanted {
+    /// Blocks of so many records.
+    Blocks(usize, &'static [u8]),
+    Everything(&'static [u8]),
+    /// The read needs so many bytes.
+    Needs(u32),
+    Waits,
+}
+
+/// Whether it is that.
+fn is_wanted(reply: &Reply, wanted: Wanted) -> bool {
+    match (reply, wanted) {
+        (Reply::Blocks { count, text }, Wanted::Blocks(records, blocks)) => {
+            *count == records && text.as_slice() == blocks
+        }
+        (Reply::Everything(text), Wanted::Everything(everything)) => text.as_slice() == everything,
+        (Reply::TooSmall { need }, Wanted::Needs(size)) => *need == size,
+        (Reply::Waits, Wanted::Waits) => true,
+        _ => false,
     }
 }
 
-/// The text of everything.
-fn everything_in(reply: &Reply) -> &[u8] {
-    match reply {
-        Reply::Everything(text) => text.as_slice(),
-        _ => b"",
+/// A kind of handle, the size of a read by it, and its late reply.
+const REPLIES: &[(HandleKind, u32, Wanted)] = &[
+    // a_delta_handle_is_given_a_block
+    (
+        HandleKind::Object { delta: true },
+        11,
+        Wanted::Blocks(1, b"@gps\na:n:1\n"),
+    ),
+    // a_full_handle_is_given_everything
+    (
+        HandleKind::Object { delta: false },
+        11,
+        Wanted::Everything(b"@gps\na:n:1\n"),
+    ),
+    // a_read_is_too_small
+    (HandleKind::Object { delta: true }, 10, Wanted::Needs(11)),
+    (HandleKind::Object { delta: false }, 10, Wanted::Needs(11)),
+    // what_is_not_seen_is_not_given
+    (HandleKind::Names, 100, Wanted::Waits),
+];
+
+#[test]
+fn late_replies_are_as_wanted(rt: HostRuntime) -> Result<(), Fail> {
+    for (kind, size, wanted) in REPLIES {
+        let reply = reply(rt.alloc(), *kind, *size)?;
+        assert!(rt; is_wanted(&reply, *wanted), "{kind:?} with {size}");
     }
-}
-
-/// The size that it needs.
-fn need_in(reply: &Reply) -> u32 {
-    match reply {
-        Reply::TooSmall { need } => *need,
-        _ => 0,
-    }
-}
-
-#[test]
-fn a_delta_handle_is_given_a_block(rt: HostRuntime) -> Result<(), Fail> {
-    let reply = reply(rt.alloc(), HandleKind::Object { delta: true }, 11)?;
-    let (count, text) = blocks_in(&reply);
-    assert_eq!(rt; count, 1);
-    assert_eq!(rt; text, b"@gps\na:n:1\n".as_slice());
-    Ok(())
-}
-
-#[test]
-fn a_full_handle_is_given_everything(rt: HostRuntime) -> Result<(), Fail> {
-    let reply = reply(rt.alloc(), HandleKind::Object { delta: false }, 11)?;
-    assert_eq!(rt; everything_in(&reply), b"@gps\na:n:1\n".as_slice());
-    Ok(())
-}
-
-#[test]
-fn a_read_is_too_small(rt: HostRuntime) -> Result<(), Fail> {
-    let block = reply(rt.alloc(), HandleKind::Object { delta: true }, 10)?;
-    assert_eq!(rt; need_in(&block), 11);
-    let everything = reply(rt.alloc(), HandleKind::Object { delta: false }, 10)?;
-    assert_eq!(rt; need_in(&everything), 11);
-    Ok(())
-}
-
-#[test]
-fn what_is_not_seen_is_not_given(rt: HostRuntime) -> Result<(), Fail> {
-    let reply = reply(rt.alloc(), HandleKind::Names, 100)?;
-    assert!(rt; matches!(reply, Reply::Waits));
     Ok(())
 }
 
@@ -127,56 +126,70 @@ fn more_than_the_limit_is_everything(rt: HostRuntime) -> Result<(), Fail> {
     let members = [Member::alive(b"gps", &object)];
     let told = Told::new(&entries, true, &members);
     let reply = late_answer(alloc, 1, &opening, &told, 100)?;
-    assert_eq!(rt; everything_in(&reply), b"!@gps\n".as_slice());
+    assert!(rt; is_wanted(&reply, Wanted::Everything(b"!@gps\n")));
     Ok(())
 }
 
-/// The bytes of a late reply that is queued for connection 2.
-fn ended_with(following: &Following) -> &[u8] {
-    match following {
-        Following::Ends {
-            result: Ok(text),
-            ..
-        } => text.as_slice(),
-        _ => b"",
+/// What has to follow for a handle.
+#[derive(Clone, Copy)]
+enum Next {
+    /// A pulse of that value.
+    Fires(u32),
+    /// So many records are given.
+    Passes(usize),
+    /// A late reply of so many bytes.
+    Ends(usize),
+    /// A late reply which says that the read needs so many bytes.
+    Needs(u32),
+}
+
+/// Whether that follows.
+fn is_next(following: &Following, next: Next) -> bool {
+    match (following, next) {
+        (Following::Fires { pulse, .. }, Next::Fires(value)) => pulse.value == value,
+        (Following::Passes { count, .. }, Next::Passes(records)) => *count == records,
+        (Following::Ends { result, .. }, Next::Ends(len)) => match result {
+            Ok(text) => text.as_slice().len() == len,
+            Err(_) => false,
+        },
+        (Following::Ends { result, .. }, Next::Needs(need)) => match result {
+            Ok(_) => false,
+            Err(refusal) => *refusal == Refusal::TooSmall { need },
+        },
+        _ => false,
     }
 }
 
-#[test]
-fn a_pulse_comes_before_its_reply(rt: HostRuntime) -> Result<(), Fail> {
-    let alloc = rt.alloc();
-    let entries = three_changes(alloc)?;
+/// After these records, this follows for a handle with a read of that size and that pulse.
+fn assert_follows(
+    rt: &impl Abort,
+    alloc: Global,
+    entries: &[Entry],
+    parked: u32,
+    armed: Option<Pulse>,
+    wanted: &[Next],
+) -> Result<(), Refusal> {
     let opening = opening(HandleKind::Object { delta: true });
-    let pulse = Pulse { code: 3, value: 8 };
-    let woken = Woken::new(1, &opening, Some(30), Some(pulse));
-    let told = Told::new(&entries[..2], true, &[]);
+    let woken = Woken::new(1, &opening, Some(parked), armed);
+    let told = Told::new(entries, true, &[]);
     let mut changes = Vec::new(alloc);
     follow(alloc, &mut changes, &woken, &told)?;
-    assert_eq!(rt; changes.len(), 3);
-    assert!(rt; matches!(&changes[0], Following::Fires { pulse, .. } if pulse.value == 8));
-    assert!(rt; matches!(&changes[1], Following::Passes { count: 2, .. }));
-    assert_eq!(rt; ended_with(&changes[2]).len(), 22);
+    assert_eq!(rt; changes.len(), wanted.len());
+    for (following, next) in changes.iter().zip(wanted) {
+        assert!(rt; is_next(following, *next), "with {parked}");
+    }
     Ok(())
 }
 
+/// A pulse comes before its reply, and a late reply may be too small.
 #[test]
-fn a_late_reply_may_be_too_small(rt: HostRuntime) -> Result<(), Fail> {
-    let alloc = rt.alloc();
-    let entries = three_changes(alloc)?;
-    let opening = opening(HandleKind::Object { delta: true });
-    let woken = Woken::new(1, &opening, Some(5), None);
-    let told = Told::new(&entries[..1], true, &[]);
-    let mut changes = Vec::new(alloc);
-    follow(alloc, &mut changes, &woken, &told)?;
-    assert_eq!(rt; changes.len(), 1);
-    assert!(rt;
-        matches!(
-            &changes[0],
-            Following::Ends {
-                result: Err(Refusal::TooSmall { need: 11 }),
-                ..
-            }
-        )
-    );
+fn pulses_and_replies_follow(rt: HostRuntime) -> Result<(), Fail> {
+    let entries = three_changes(rt.alloc())?;
+    // a_pulse_comes_before_its_reply
+    let pulse = Pulse { code: 3, value: 8 };
+    let all = [Next::Fires(8), Next::Passes(2), Next::Ends(22)];
+    assert_follows(&rt, rt.alloc(), &entries[..2], 30, Some(pulse), &all)?;
+    // a_late_reply_may_be_too_small
+    assert_follows(&rt, rt.alloc(), &entries[..1], 5, None, &[Next::Needs(11)])?;
     Ok(())
 }

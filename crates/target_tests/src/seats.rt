@@ -6,31 +6,14 @@ ghost use Rattle.pps_types.specs.Rests.{Seen};
 ghost use Rattle.engine_targets.specs.Opened.{number_of, opened};
 ghost use Rattle.engine_seats.specs.Seated.{IsSameTarget, Suits, handles_of, name_of, target_of};
 
+use crate::steps::{assert_met, is_alone, opening};
 use engine_seats::Seats;
 use engine_targets::{Opening, Pulse};
-use pps_types::{Bytes, Conn, DirId, Handle, HandleKind, Kind, ObjId, Record, Refusal};
+use pps_types::{Bytes, DirId, Handle, HandleKind, Kind, ObjId, Record, Refusal};
 use server_queue::Entry;
 use std::alloc::{AllocError, Global};
+use std::process::Abort;
 use std::test::Fail;
-
-/// What an open fixes for the handle of that number.
-fn opening(number: u32, kind: HandleKind) -> Opening
-    ensures number { result.number ≡ number }
-    ensures kind { result.kind ≡ kind }
-{
-    Opening {
-        number: Handle::new(number),
-        connection: Conn::new(1),
-        kind,
-        reads: true,
-        writes: true,
-        wait: false,
-        reflect: false,
-        critical: false,
-        filter: None,
-        limit: 2,
-    }
-}
 
 /// Opens a handle.
 fn open(seats: &mut Seats, opening: Opening) -> Result<(), AllocError>
@@ -48,8 +31,14 @@ fn open(seats: &mut Seats, opening: Opening) -> Result<(), AllocError>
 fn readers(alloc: Global) -> Result<Seats, AllocError> {
     let name = Bytes::from_slice(alloc, b"gps")?;
     let mut seats = Seats::of_object(alloc, ObjId::new(1), name);
-    open(&mut seats, opening(3, HandleKind::Object { delta: true }))?;
-    open(&mut seats, opening(5, HandleKind::Object { delta: false }))?;
+    open(
+        &mut seats,
+        opening(3, HandleKind::Object { delta: true }, 2),
+    )?;
+    open(
+        &mut seats,
+        opening(5, HandleKind::Object { delta: false }, 2),
+    )?;
     Ok(seats)
 }
 
@@ -57,151 +46,247 @@ fn readers(alloc: Global) -> Result<Seats, AllocError> {
 fn served(alloc: Global) -> Result<Seats, AllocError> {
     let name = Bytes::from_slice(alloc, b"srv")?;
     let mut seats = Seats::of_service(alloc, ObjId::new(1), name);
-    open(&mut seats, opening(3, HandleKind::Server))?;
-    open(&mut seats, opening(4, HandleKind::Client))?;
+    open(&mut seats, opening(3, HandleKind::Server, 2))?;
+    open(&mut seats, opening(4, HandleKind::Client, 2))?;
     Ok(seats)
 }
 
-/// Tells the handles of a record of object 1.
-fn tell(alloc: Global, seats: &mut Seats, kind: Kind) -> Result<(), AllocError> {
+/// The handle 3 for the names alone, on a directory.
+fn listened(alloc: Global) -> Result<Seats, AllocError> {
+    let mut seats = Seats::of_directory(alloc, DirId::new(7));
+    open(&mut seats, opening(3, HandleKind::Names, 2))?;
+    Ok(seats)
+}
+
+/// A record of object 1, by that handle or by none.
+fn entry(alloc: Global, kind: Kind, writer: Option<Handle>) -> Result<Entry, AllocError> {
     let made = Record {
         object: ObjId::new(1),
         kind,
-        writer: None,
+        writer,
     };
-    let entry = Entry::new(alloc, 7, Bytes::from_slice(alloc, b"gps")?, made)?;
-    seats.reserve(std::slice::from_ref(&entry))?;
-    let shares = seats.shares(alloc, entry)?;
+    Entry::new(alloc, 7, Bytes::from_slice(alloc, b"gps")?, made)
+}
+
+/// Offers a record by no handle.
+fn offer(alloc: Global, seats: &mut Seats, kind: Kind) -> Result<(), AllocError> {
+    let made = entry(alloc, kind, None)?;
+    seats.reserve(std::slice::from_ref(&made))?;
+    let shares = seats.shares(alloc, made)?;
     seats.offer(shares);
     Ok(())
 }
 
-/// How many records a handle is owed, none where it is past its limit.
-fn owed(seats: &Seats, handle: u32) -> Option<usize> {
-    seats.owed(Handle::new(handle))
+/// Whether a truncation by the handle 5 wakes that handle alone.
+fn wakes(alloc: Global, seats: &Seats, handle: u32) -> Result<bool, AllocError> {
+    let made = entry(alloc, Kind::Truncated, Some(Handle::new(5)))?;
+    let woken = seats.woken_by(alloc, std::slice::from_ref(&made))?;
+    Ok(is_alone(woken.as_slice(), Some(handle)))
 }
 
-/// Whether a read of a handle would give something.
-fn has_news(seats: &Seats, handle: u32) -> bool {
-    seats.has_news(Handle::new(handle))
+/// Whether a read of 100 bytes gives this text, of so many records.
+fn gives(
+    alloc: Global,
+    seats: &Seats,
+    handle: u32,
+    count: usize,
+    text: &[u8],
+) -> Result<bool, Refusal> {
+    let given = seats.read_owed(alloc, Handle::new(handle), 100)?;
+    Ok(given.count == count && given.text.as_slice() == text)
 }
 
-/// Gives a handle everything.
-fn catch_up(seats: &mut Seats, handle: u32) {
-    seats.catch_up(Handle::new(handle));
+/// A call of seats, or what they have to answer.
+#[derive(Clone, Copy)]
+enum Step {
+    OfferTruncation,
+    /// The record of a closed handle is offered.
+    OfferClosing(u32),
+    /// A handle is given so many of the records that it is owed.
+    Pass(u32, usize),
+    /// A handle is given everything.
+    CatchUp(u32),
+    Close(u32),
+    Park(u32, Option<u32>),
+    Arm(u32, Option<Pulse>),
+    /// The other seats are a copy of these from here on.
+    Copy,
+    /// The steps after this one are of the other seats.
+    Swap,
+    IsService(bool),
+    IsEmpty(bool),
+    /// Whether there is a handle of that number.
+    IsThere(u32, bool),
+    /// How many records a handle is owed: none if it is past its limit.
+    Owed(u32, Option<usize>),
+    HasNews(u32, bool),
+    Parked(u32, Option<u32>),
+    Armed(u32, Option<Pulse>),
+    /// A read of 100 bytes by a handle gives this text, of so many records.
+    Gives(u32, usize, &'static [u8]),
+    /// A truncation by the handle 5 wakes that handle alone.
+    Wakes(u32),
+    /// Whether both seats hold the same.
+    Same(bool),
 }
 
-/// Closes a handle.
-fn close(seats: &mut Seats, handle: u32) {
-    seats.close(Handle::new(handle));
+/// Steps under the name of what they show.
+#[derive(Clone, Copy)]
+struct Steps {
+    name: &'static str,
+    list: &'static [Step],
 }
 
-/// A copy of all.
-fn copy(seats: &Seats) -> Result<Seats, Refusal> {
-    seats.copy()
+/// Seats and others.
+#[derive(Drop)]
+struct Pair {
+    seats: Seats,
+    other: Seats,
 }
 
-/// Whether the same stands in both.
-fn same(seats: &Seats, other: &Seats) -> bool {
-    seats.same(other)
+/// Carries out a call. Whether the step is one.
+fn is_carried_out(alloc: Global, pair: &mut Pair, step: Step) -> Result<bool, Refusal> {
+    let seats = &mut pair.seats;
+    match step {
+        Step::OfferTruncation => offer(alloc, seats, Kind::Truncated)?,
+        Step::OfferClosing(handle) => offer(alloc, seats, Kind::Closed(Handle::new(handle)))?,
+        Step::Pass(handle, count) => seats.pass(Handle::new(handle), count),
+        Step::CatchUp(handle) => seats.catch_up(Handle::new(handle)),
+        Step::Close(handle) => seats.close(Handle::new(handle)),
+        Step::Park(handle, max) => seats.park(Handle::new(handle), max),
+        Step::Arm(handle, pulse) => seats.arm(Handle::new(handle), pulse),
+        Step::Copy => pair.other = seats.copy()?,
+        Step::Swap => std::mem::swap(&mut pair.seats, &mut pair.other),
+        _ => return Ok(false),
+    }
+    Ok(true)
 }
 
-/// Whom a truncation by the handle 5 wakes.
-fn woken(alloc: Global, seats: &Seats) -> Result<Vec<Handle>, AllocError> {
-    let made = Record {
-        object: ObjId::new(1),
-        kind: Kind::Truncated,
-        writer: Some(Handle::new(5)),
-    };
-    let entry = Entry::new(alloc, 7, Bytes::from_slice(alloc, b"gps")?, made)?;
-    seats.woken_by(alloc, std::slice::from_ref(&entry))
+/// Whether the seats answer as the step says.
+fn is_answered(alloc: Global, pair: &Pair, step: Step) -> Result<bool, Refusal> {
+    let seats = &pair.seats;
+    Ok(match step {
+        Step::IsService(is) => seats.is_service() == is,
+        Step::IsEmpty(is) => seats.is_empty() == is,
+        Step::IsThere(handle, is) => seats.opening(Handle::new(handle)).is_some() == is,
+        Step::Owed(handle, count) => seats.owed(Handle::new(handle)) == count,
+        Step::HasNews(handle, has) => seats.has_news(Handle::new(handle)) == has,
+        Step::Parked(handle, max) => seats.parked(Handle::new(handle)) == max,
+        Step::Armed(handle, pulse) => seats.armed(Handle::new(handle)) == pulse,
+        Step::Gives(handle, count, text) => gives(alloc, seats, handle, count, text)?,
+        Step::Wakes(handle) => wakes(alloc, seats, handle)?,
+        Step::Same(is) => pair.other.same(seats) == is,
+        _ => false,
+    })
 }
 
-#[test]
-fn readers_open_and_close(rt: HostRuntime) -> Result<(), Fail> {
-    let alloc = rt.alloc();
-    let mut seats = readers(alloc)?;
-    assert!(rt; !seats.is_service());
-    assert!(rt; !seats.is_empty());
-    let is_there = seats.opening(Handle::new(3)).is_some();
-    assert!(rt; is_there);
-    close(&mut seats, 3);
-    close(&mut seats, 5);
-    assert!(rt; seats.is_empty());
+/// Plays the steps in turn, of these seats and the others.
+fn play(
+    rt: &impl Abort,
+    alloc: Global,
+    seats: Seats,
+    other: Seats,
+    steps: &Steps,
+) -> Result<(), Refusal> {
+    let mut pair = Pair { seats, other };
+    for (number, step) in steps.list.iter().enumerate() {
+        let is_met = is_carried_out(alloc, &mut pair, *step)? || is_answered(alloc, &pair, *step)?;
+        assert_met(rt, is_met, steps.name, number);
+    }
     Ok(())
 }
 
-#[test]
-fn readers_are_told(rt: HostRuntime) -> Result<(), Fail> {
-    let alloc = rt.alloc();
-    let mut seats = readers(alloc)?;
-    catch_up(&mut seats, 3);
-    catch_up(&mut seats, 5);
-    assert!(rt; !has_news(&seats, 3));
-    tell(alloc, &mut seats, Kind::Truncated)?;
-    assert!(rt; has_news(&seats, 3));
-    assert!(rt; has_news(&seats, 5));
-    assert_eq!(rt; owed(&seats, 3), Some(1));
-    let read = seats.read_owed(alloc, Handle::new(3), 100)?;
-    assert_eq!(rt; read.text.as_slice(), b"#@gps\n".as_slice());
-    seats.pass(Handle::new(3), read.count);
-    assert_eq!(rt; owed(&seats, 3), Some(0));
-    Ok(())
-}
+const PULSE: Pulse = Pulse { code: 1, value: 9 };
+
+/// Steps of the readers, beside a server object.
+const OF_READERS: &[Steps] = &[
+    Steps {
+        name: "readers_open_and_close",
+        list: &[
+            Step::IsService(false),
+            Step::IsEmpty(false),
+            Step::IsThere(3, true),
+            Step::Close(3),
+            Step::Close(5),
+            Step::IsEmpty(true),
+        ],
+    },
+    Steps {
+        name: "readers_are_told",
+        list: &[
+            Step::CatchUp(3),
+            Step::CatchUp(5),
+            Step::HasNews(3, false),
+            Step::OfferTruncation,
+            Step::HasNews(3, true),
+            Step::HasNews(5, true),
+            Step::Owed(3, Some(1)),
+            Step::Gives(3, 1, b"#@gps\n"),
+            Step::Pass(3, 1),
+            Step::Owed(3, Some(0)),
+        ],
+    },
+    Steps {
+        name: "who_waits_is_woken",
+        list: &[
+            Step::CatchUp(3),
+            Step::CatchUp(5),
+            Step::Park(3, Some(64)),
+            Step::Arm(5, Some(PULSE)),
+            Step::Parked(3, Some(64)),
+            Step::Armed(5, Some(PULSE)),
+            Step::Wakes(3),
+        ],
+    },
+    // At first the other seats are those of the server object.
+    Steps {
+        name: "a_copy_is_the_same",
+        list: &[
+            Step::Same(false),
+            Step::Copy,
+            Step::Same(true),
+            Step::Swap,
+            Step::Close(3),
+            Step::Swap,
+            Step::Same(false),
+        ],
+    },
+];
+
+/// Steps of a server's handle and a client's.
+const OF_A_SERVER: &[Steps] = &[
+    Steps {
+        name: "a_server_is_told",
+        list: &[
+            Step::IsService(true),
+            Step::OfferClosing(4),
+            Step::Owed(3, Some(1)),
+            Step::Owed(4, Some(0)),
+            Step::Gives(3, 1, b"-@gps.4\n"),
+        ],
+    },
+    Steps {
+        name: "a_copy_is_the_same, of a server object",
+        list: &[Step::Copy, Step::Same(true)],
+    },
+];
+
+/// Steps of a directory, of which the other has no handle.
+const OF_A_DIRECTORY: Steps = Steps {
+    name: "a_directory_is_listened_to",
+    list: &[Step::HasNews(3, true), Step::Swap, Step::IsEmpty(true)],
+};
 
 #[test]
-fn a_server_is_told(rt: HostRuntime) -> Result<(), Fail> {
+fn seats_answer_in_turn(rt: HostRuntime) -> Result<(), Fail> {
     let alloc = rt.alloc();
-    let mut seats = served(alloc)?;
-    assert!(rt; seats.is_service());
-    tell(alloc, &mut seats, Kind::Closed(Handle::new(4)))?;
-    assert_eq!(rt; owed(&seats, 3), Some(1));
-    assert_eq!(rt; owed(&seats, 4), Some(0));
-    let read = seats.read_owed(alloc, Handle::new(3), 100)?;
-    assert_eq!(rt; read.count, 1);
-    assert_eq!(rt; read.text.as_slice(), b"-@gps.4\n".as_slice());
-    Ok(())
-}
-
-#[test]
-fn who_waits_is_woken(rt: HostRuntime) -> Result<(), Fail> {
-    let alloc = rt.alloc();
-    let mut seats = readers(alloc)?;
-    catch_up(&mut seats, 3);
-    catch_up(&mut seats, 5);
-    seats.park(Handle::new(3), Some(64));
-    let pulse = Pulse { code: 1, value: 9 };
-    seats.arm(Handle::new(5), Some(pulse));
-    assert_eq!(rt; seats.parked(Handle::new(3)), Some(64));
-    let armed = seats.armed(Handle::new(5));
-    assert!(rt; armed == Some(pulse));
-    let woken = woken(alloc, &seats)?;
-    assert_eq!(rt; woken.len(), 1);
-    assert!(rt; woken.first() == Some(&Handle::new(3)));
-    Ok(())
-}
-
-#[test]
-fn a_directory_is_listened_to(rt: HostRuntime) -> Result<(), Fail> {
-    let alloc = rt.alloc();
-    let mut seats = Seats::of_directory(alloc, DirId::new(7));
-    assert!(rt; seats.is_empty());
-    open(&mut seats, opening(3, HandleKind::Names))?;
-    assert!(rt; has_news(&seats, 3));
-    Ok(())
-}
-
-#[test]
-fn a_copy_is_the_same(rt: HostRuntime) -> Result<(), Fail> {
-    let alloc = rt.alloc();
-    let plain = readers(alloc)?;
-    let server = served(alloc)?;
-    let mut other = copy(&plain)?;
-    assert!(rt; same(&other, &plain));
-    assert!(rt; !same(&server, &plain));
-    let of_server = copy(&server)?;
-    assert!(rt; same(&of_server, &server));
-    close(&mut other, 3);
-    assert!(rt; !same(&other, &plain));
+    for steps in OF_READERS {
+        play(&rt, alloc, readers(alloc)?, served(alloc)?, steps)?;
+    }
+    for steps in OF_A_SERVER {
+        play(&rt, alloc, served(alloc)?, readers(alloc)?, steps)?;
+    }
+    let bare = Seats::of_directory(alloc, DirId::new(7));
+    play(&rt, alloc, listened(alloc)?, bare, &OF_A_DIRECTORY)?;
     Ok(())
 }

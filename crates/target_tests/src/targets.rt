@@ -6,32 +6,13 @@ ghost use Rattle.pps_types.specs.Reading.{Open, is_directory_kind, reseen, style
 ghost use Rattle.pps_types.specs.Rests.{Seen};
 ghost use Rattle.engine_targets.specs.Opened.{is_directory, is_reader, number_of, opened};
 
+use crate::steps::{assert_met, is_alone, limit_of, lines, opening};
 use engine_targets::{Opening, Pulse, Target};
-use pps_types::{
-    Bytes, Conn, DirId, Handle, HandleKind, Kind, Line, Lines, ObjId, Record, Refusal,
-};
+use pps_types::{Bytes, DirId, Handle, HandleKind, Kind, ObjId, Record, Refusal};
 use server_queue::Entry;
 use std::alloc::{AllocError, Global};
+use std::process::Abort;
 use std::test::Fail;
-
-/// What an open without options fixes for the handle of that number.
-fn opening(number: u32, kind: HandleKind, limit: u32) -> Opening
-    ensures number { result.number ≡ number }
-    ensures kind { result.kind ≡ kind }
-{
-    Opening {
-        number: Handle::new(number),
-        connection: Conn::new(1),
-        kind,
-        reads: true,
-        writes: true,
-        wait: false,
-        reflect: false,
-        critical: false,
-        filter: None,
-        limit,
-    }
-}
 
 /// Opens a handle.
 fn open(target: &mut Target, opening: Opening) -> Result<(), AllocError>
@@ -44,18 +25,6 @@ fn open(target: &mut Target, opening: Opening) -> Result<(), AllocError>
     target.reserve_handle()?;
     target.open_reserved(opening);
     Ok(())
-}
-
-/// The kind of a record that sets one attribute.
-fn change(alloc: Global) -> Result<Kind, AllocError> {
-    let mut lines = Vec::new(alloc);
-    lines.push(Line::Set {
-        name: Bytes::from_slice(alloc, b"a")?,
-        enc: Bytes::from_slice(alloc, b"n")?,
-        value: Bytes::from_slice(alloc, b"1")?,
-        n: false,
-    })?;
-    Ok(Kind::Change(Lines::new(lines)))
 }
 
 /// A record of an object in directory 7.
@@ -76,7 +45,7 @@ fn entry(
 /// Offers so many changes of object 1 by nobody here.
 fn offer_changes(alloc: Global, target: &mut Target, count: usize) -> Result<(), AllocError> {
     'changes: for _ in 0..count {
-        let made = entry(alloc, 1, change(alloc)?, None)?;
+        let made = entry(alloc, 1, Kind::Change(lines(alloc)?), None)?;
         target.reserve(1)?;
         target.offer(made);
     }
@@ -100,102 +69,6 @@ fn read_by_two(alloc: Global) -> Result<Target, AllocError> {
     Ok(target)
 }
 
-/// How many records a handle is owed, none where it is past its limit or nothing is known of it.
-fn owed(target: &Target, handle: u32) -> Option<u32> {
-    target.owed(Handle::new(handle))
-}
-
-/// Gives a handle so many of the records that it is owed.
-fn pass(target: &mut Target, handle: u32, count: usize) {
-    target.pass(Handle::new(handle), count);
-}
-
-/// Gives a handle everything.
-fn catch_up(target: &mut Target, handle: u32) {
-    target.catch_up(Handle::new(handle));
-}
-
-/// How many records are kept.
-fn kept(target: &Target) -> u64 {
-    target.kept()
-}
-
-/// A copy of all.
-fn copy(target: &Target) -> Result<Target, Refusal> {
-    target.copy()
-}
-
-/// Whether the same stands in both.
-fn same(target: &Target, other: &Target) -> bool {
-    target.same(other)
-}
-
-#[test]
-fn records_are_kept_until_the_slowest_has_read_them(rt: HostRuntime) -> Result<(), Fail> {
-    let alloc = rt.alloc();
-    let mut target = read_by_two(alloc)?;
-    assert_eq!(rt; kept(&target), 0);
-    offer_changes(alloc, &mut target, 2)?;
-    assert_eq!(rt; owed(&target, 4), Some(2));
-    assert_eq!(rt; owed(&target, 9), Some(2));
-    assert_eq!(rt; kept(&target), 2);
-    pass(&mut target, 4, 2);
-    assert_eq!(rt; owed(&target, 4), Some(0));
-    assert_eq!(rt; kept(&target), 2);
-    pass(&mut target, 9, 1);
-    assert_eq!(rt; owed(&target, 9), Some(1));
-    assert_eq!(rt; kept(&target), 1);
-    catch_up(&mut target, 9);
-    assert_eq!(rt; kept(&target), 0);
-    Ok(())
-}
-
-#[test]
-fn past_its_limit_a_handle_holds_nothing(rt: HostRuntime) -> Result<(), Fail> {
-    let alloc = rt.alloc();
-    let mut target = read_by_two(alloc)?;
-    offer_changes(alloc, &mut target, 3)?;
-    assert_eq!(rt; owed(&target, 4), None);
-    assert_eq!(rt; owed(&target, 9), Some(3));
-    assert_eq!(rt; kept(&target), 3);
-    offer_changes(alloc, &mut target, 1)?;
-    assert_eq!(rt; owed(&target, 9), None);
-    assert_eq!(rt; kept(&target), 0);
-    assert!(rt; target.has_news(Handle::new(4)));
-    Ok(())
-}
-
-#[test]
-fn what_a_closed_handle_was_owed_goes(rt: HostRuntime) -> Result<(), Fail> {
-    let alloc = rt.alloc();
-    let mut target = read_by_two(alloc)?;
-    offer_changes(alloc, &mut target, 2)?;
-    pass(&mut target, 4, 1);
-    target.close(Handle::new(9));
-    assert_eq!(rt; kept(&target), 1);
-    assert_eq!(rt; owed(&target, 9), None);
-    assert!(rt; !target.is_empty());
-    target.close(Handle::new(4));
-    assert_eq!(rt; kept(&target), 0);
-    assert!(rt; target.is_empty());
-    Ok(())
-}
-
-#[test]
-fn records_of_others_and_its_own_are_not_owed(rt: HostRuntime) -> Result<(), Fail> {
-    let alloc = rt.alloc();
-    let mut target = read_by_two(alloc)?;
-    let of_another = entry(alloc, 2, change(alloc)?, None)?;
-    target.reserve(2)?;
-    target.offer(of_another);
-    assert_eq!(rt; kept(&target), 0);
-    target.reserve(1)?;
-    target.offer(entry(alloc, 1, change(alloc)?, Some(Handle::new(4)))?);
-    assert_eq!(rt; owed(&target, 4), Some(0));
-    assert_eq!(rt; owed(&target, 9), Some(1));
-    Ok(())
-}
-
 /// A directory, with a handle in full mode and one for the names alone.
 fn directory_read_by_two(alloc: Global) -> Result<Target, AllocError> {
     let mut target = Target::directory(alloc, DirId::new(7));
@@ -204,131 +77,356 @@ fn directory_read_by_two(alloc: Global) -> Result<Target, AllocError> {
         opening(1, HandleKind::Directory { delta: false }, 5),
     )?;
     open(&mut target, opening(2, HandleKind::Names, 5))?;
-    catch_up(&mut target, 1);
-    catch_up(&mut target, 2);
+    target.catch_up(Handle::new(1));
+    target.catch_up(Handle::new(2));
     Ok(target)
 }
 
-#[test]
-fn a_directory_tells_its_names(rt: HostRuntime) -> Result<(), Fail> {
-    let alloc = rt.alloc();
-    let mut target = directory_read_by_two(alloc)?;
-    offer_changes(alloc, &mut target, 1)?;
-    assert!(rt; target.has_news(Handle::new(1)));
-    assert!(rt; !target.has_news(Handle::new(2)));
-    assert_eq!(rt; kept(&target), 0);
-    let made = entry(alloc, 3, Kind::Created, None)?;
-    target.reserve(1)?;
-    target.offer(made);
-    offer_changes(alloc, &mut target, 1)?;
-    assert_eq!(rt; owed(&target, 2), Some(1));
-    assert_eq!(rt; kept(&target), 2);
-    pass(&mut target, 2, 1);
-    assert_eq!(rt; kept(&target), 0);
-    assert_eq!(rt; owed(&target, 1), None);
+/// Offers a record of that object, once there is room for so many.
+fn offer_one(
+    alloc: Global,
+    target: &mut Target,
+    room: usize,
+    object: u64,
+    kind: Kind,
+    writer: Option<u32>,
+) -> Result<(), AllocError> {
+    let made = entry(alloc, object, kind, writer.map(Handle::new))?;
+    target.reserve(room)?;
+    if room > 0 {
+        target.offer(made);
+    }
     Ok(())
 }
 
-#[test]
-fn what_waits_on_a_handle_is_told(rt: HostRuntime) -> Result<(), Fail> {
-    let mut target = read_by_two(rt.alloc())?;
-    let pulse = Pulse { code: 3, value: 70 };
-    target.park(Handle::new(4), Some(100));
-    target.arm(Handle::new(9), Some(pulse));
-    assert_eq!(rt; target.parked(Handle::new(4)), Some(100));
-    assert_eq!(rt; target.parked(Handle::new(9)), None);
-    assert_eq!(rt; target.armed(Handle::new(9)), Some(pulse));
-    assert_eq!(rt; target.armed(Handle::new(4)), None);
-    target.park(Handle::new(4), None);
-    target.arm(Handle::new(5), Some(pulse));
-    assert_eq!(rt; target.parked(Handle::new(4)), None);
-    assert_eq!(rt; target.armed(Handle::new(5)), None);
-    Ok(())
-}
-
-#[test]
-fn the_opening_of_a_handle_is_told(rt: HostRuntime) -> Result<(), Fail> {
-    let target = read_by_two(rt.alloc())?;
-    let limit = match target.opening(Handle::new(9)) {
-        None => 0,
-        Some(opening) => opening.limit,
-    };
-    assert_eq!(rt; limit, 3);
-    let is_there = target.opening(Handle::new(5)).is_some();
-    assert!(rt; !is_there);
-    Ok(())
-}
-
-/// Room for no more is had; what stands stays.
-#[test]
-fn refused_room_changes_nothing(rt: HostRuntime) -> Result<(), Fail> {
-    let alloc = rt.alloc();
-    let mut target = read_by_two(alloc)?;
-    offer_changes(alloc, &mut target, 1)?;
-    let is_refused = target.reserve(usize::MAX).is_err();
-    assert!(rt; is_refused);
-    assert_eq!(rt; owed(&target, 4), Some(1));
-    offer_changes(alloc, &mut target, 1)?;
-    assert_eq!(rt; owed(&target, 4), Some(2));
-    Ok(())
-}
-
-#[test]
-fn a_read_gives_whole_blocks_that_fit(rt: HostRuntime) -> Result<(), Fail> {
-    let alloc = rt.alloc();
-    let mut target = read_by_two(alloc)?;
-    offer_changes(alloc, &mut target, 2)?;
-    let all = target.read_owed(alloc, Handle::new(4), 100)?;
-    assert_eq!(rt; all.count, 2);
-    assert_eq!(rt;
-        all.text.as_slice(),
-        b"@gps\na:n:1\n@gps\na:n:1\n".as_slice()
-    );
-    let first = target.read_owed(alloc, Handle::new(9), 21)?;
-    assert_eq!(rt; first.count, 1);
-    assert_eq!(rt; first.text.as_slice(), b"@gps\na:n:1\n".as_slice());
-    let refusal = target.read_owed(alloc, Handle::new(9), 10).err();
-    assert_eq!(rt; refusal, Some(Refusal::TooSmall { need: 11 }));
-    assert_eq!(rt; owed(&target, 4), Some(2));
-    Ok(())
-}
-
-#[test]
-fn nothing_owed_gives_nothing(rt: HostRuntime) -> Result<(), Fail> {
-    let alloc = rt.alloc();
-    let target = read_by_two(alloc)?;
-    let idle = target.read_owed(alloc, Handle::new(4), 100)?;
-    assert_eq!(rt; idle.count, 0);
-    let nobodys = target.read_owed(alloc, Handle::new(5), 100)?;
-    assert_eq!(rt; nobodys.text.as_slice(), b"".as_slice());
-    Ok(())
-}
-
-#[test]
-fn a_record_wakes_those_that_wait_without_news(rt: HostRuntime) -> Result<(), Fail> {
-    let alloc = rt.alloc();
-    let mut target = read_by_two(alloc)?;
-    let made = [entry(alloc, 1, change(alloc)?, None)?];
-    assert_eq!(rt; target.woken_by(alloc, &made)?.len(), 0);
-    target.park(Handle::new(9), Some(100));
+/// Whether a change of object 1 wakes that handle alone, or nobody.
+fn wakes(alloc: Global, target: &Target, handle: Option<u32>) -> Result<bool, AllocError> {
+    let made = [entry(alloc, 1, Kind::Change(lines(alloc)?), None)?];
     let woken = target.woken_by(alloc, &made)?;
-    assert_eq!(rt; woken.len(), 1);
-    assert!(rt; woken.first() == Some(&Handle::new(9)));
-    offer_changes(alloc, &mut target, 1)?;
-    assert_eq!(rt; target.woken_by(alloc, &made)?.len(), 0);
+    Ok(is_alone(woken.as_slice(), handle))
+}
+
+/// Whether a read of so many bytes gives this text, of so many records.
+fn gives(
+    alloc: Global,
+    target: &Target,
+    handle: u32,
+    max: u32,
+    count: usize,
+    text: &[u8],
+) -> Result<bool, Refusal> {
+    let given = target.read_owed(alloc, Handle::new(handle), max)?;
+    Ok(given.count == count && given.text.as_slice() == text)
+}
+
+/// A call of a target, or what it has to answer.
+#[derive(Clone, Copy)]
+enum Step {
+    /// So many changes of object 1 are offered, by nobody here.
+    Offer(usize),
+    /// A change of object 1 by that handle is offered.
+    OfferBy(u32),
+    /// A change of object 2 is offered, where there is room for two.
+    OfferOfAnother,
+    /// The record that creates object 3 is offered.
+    OfferCreated,
+    /// A handle is given so many of the records that it is owed.
+    Pass(u32, usize),
+    /// A handle is given everything.
+    CatchUp(u32),
+    Close(u32),
+    Park(u32, Option<u32>),
+    Arm(u32, Option<Pulse>),
+    /// The other target is a copy of this one from here on.
+    Copy,
+    /// The steps after this one are of the other target.
+    Swap,
+    /// How many records are kept.
+    Kept(u64),
+    /// How many records a handle is owed: none if it is past its limit, or if there is no such handle.
+    Owed(u32, Option<u32>),
+    HasNews(u32, bool),
+    IsOver(u32, bool),
+    IsEmpty(bool),
+    Parked(u32, Option<u32>),
+    Armed(u32, Option<Pulse>),
+    /// The limit that the opening of a handle has.
+    Limit(u32, Option<u32>),
+    /// Room for as many records as there are numbers is refused.
+    RefusesRoom,
+    /// A read of so many bytes by a handle gives this text, of so many records.
+    Gives(u32, u32, usize, &'static [u8]),
+    /// A read of so many bytes by a handle is too small, and needs so many.
+    Needs(u32, u32, u32),
+    /// A change of object 1 wakes that handle alone, or nobody.
+    Wakes(Option<u32>),
+    /// Whether both targets hold the same.
+    Same(bool),
+}
+
+/// Steps under the name of what they show.
+#[derive(Clone, Copy)]
+struct Steps {
+    name: &'static str,
+    list: &'static [Step],
+}
+
+/// A target and another.
+#[derive(Drop)]
+struct Pair {
+    target: Target,
+    other: Target,
+}
+
+/// Carries out a call. Whether the step is one.
+fn is_carried_out(alloc: Global, pair: &mut Pair, step: Step) -> Result<bool, Refusal> {
+    let target = &mut pair.target;
+    match step {
+        Step::Offer(count) => offer_changes(alloc, target, count)?,
+        Step::OfferBy(handle) => offer_one(
+            alloc,
+            target,
+            1,
+            1,
+            Kind::Change(lines(alloc)?),
+            Some(handle),
+        )?,
+        Step::OfferOfAnother => offer_one(alloc, target, 2, 2, Kind::Change(lines(alloc)?), None)?,
+        Step::OfferCreated => offer_one(alloc, target, 1, 3, Kind::Created, None)?,
+        Step::Pass(handle, count) => target.pass(Handle::new(handle), count),
+        Step::CatchUp(handle) => target.catch_up(Handle::new(handle)),
+        Step::Close(handle) => target.close(Handle::new(handle)),
+        Step::Park(handle, max) => target.park(Handle::new(handle), max),
+        Step::Arm(handle, pulse) => target.arm(Handle::new(handle), pulse),
+        Step::Copy => pair.other = target.copy()?,
+        Step::Swap => std::mem::swap(&mut pair.target, &mut pair.other),
+        _ => return Ok(false),
+    }
+    Ok(true)
+}
+
+/// Whether the target answers as the step says.
+fn is_answered(
+    alloc: Global,
+    target: &mut Target,
+    other: &Target,
+    step: Step,
+) -> Result<bool, Refusal> {
+    Ok(match step {
+        Step::Kept(count) => target.kept() == count,
+        Step::Owed(handle, count) => target.owed(Handle::new(handle)) == count,
+        Step::HasNews(handle, has) => target.has_news(Handle::new(handle)) == has,
+        Step::IsOver(handle, is) => target.is_over(Handle::new(handle)) == is,
+        Step::IsEmpty(is) => target.is_empty() == is,
+        Step::Parked(handle, max) => target.parked(Handle::new(handle)) == max,
+        Step::Armed(handle, pulse) => target.armed(Handle::new(handle)) == pulse,
+        Step::Limit(handle, limit) => { limit_of(target.opening(Handle::new(handle))) == limit }
+        Step::RefusesRoom => target.reserve(usize::MAX).is_err(),
+        Step::Gives(handle, max, count, text) => gives(alloc, target, handle, max, count, text)?,
+        Step::Needs(handle, max, need) => {
+            target.read_owed(alloc, Handle::new(handle), max).err()
+                == Some(Refusal::TooSmall { need })
+        }
+        Step::Wakes(handle) => wakes(alloc, target, handle)?,
+        Step::Same(is) => target.same(other) == is,
+        _ => false,
+    })
+}
+
+/// Plays the steps in turn, of two targets that begin as this one.
+fn play(rt: &impl Abort, alloc: Global, target: Target, steps: &Steps) -> Result<(), Refusal> {
+    let other = target.copy()?;
+    let mut pair = Pair { target, other };
+    for (number, step) in steps.list.iter().enumerate() {
+        let is_met = is_carried_out(alloc, &mut pair, *step)?
+            || is_answered(alloc, &mut pair.target, &pair.other, *step)?;
+        assert_met(rt, is_met, steps.name, number);
+    }
     Ok(())
 }
 
+const PULSE: Pulse = Pulse { code: 3, value: 70 };
+
+/// Steps of an object that is read by two.
+const OF_AN_OBJECT: &[Steps] = &[
+    Steps {
+        name: "records_are_kept_until_the_slowest_has_read_them",
+        list: &[
+            Step::Kept(0),
+            Step::Offer(2),
+            Step::Owed(4, Some(2)),
+            Step::Owed(9, Some(2)),
+            Step::Kept(2),
+            Step::Pass(4, 2),
+            Step::Owed(4, Some(0)),
+            Step::Kept(2),
+            Step::Pass(9, 1),
+            Step::Owed(9, Some(1)),
+            Step::Kept(1),
+            Step::CatchUp(9),
+            Step::Kept(0),
+        ],
+    },
+    Steps {
+        name: "past_its_limit_a_handle_holds_nothing",
+        list: &[
+            Step::Offer(3),
+            Step::Owed(4, None),
+            Step::Owed(9, Some(3)),
+            Step::Kept(3),
+            Step::Offer(1),
+            Step::Owed(9, None),
+            Step::Kept(0),
+            Step::HasNews(4, true),
+        ],
+    },
+    Steps {
+        name: "what_a_closed_handle_was_owed_goes",
+        list: &[
+            Step::Offer(2),
+            Step::Pass(4, 1),
+            Step::Close(9),
+            Step::Kept(1),
+            Step::Owed(9, None),
+            Step::IsEmpty(false),
+            Step::Close(4),
+            Step::Kept(0),
+            Step::IsEmpty(true),
+        ],
+    },
+    Steps {
+        name: "records_of_others_and_its_own_are_not_owed",
+        list: &[
+            Step::OfferOfAnother,
+            Step::Kept(0),
+            Step::OfferBy(4),
+            Step::Owed(4, Some(0)),
+            Step::Owed(9, Some(1)),
+        ],
+    },
+    Steps {
+        name: "what_waits_on_a_handle_is_told",
+        list: &[
+            Step::Park(4, Some(100)),
+            Step::Arm(9, Some(PULSE)),
+            Step::Parked(4, Some(100)),
+            Step::Parked(9, None),
+            Step::Armed(9, Some(PULSE)),
+            Step::Armed(4, None),
+            Step::Park(4, None),
+            Step::Arm(5, Some(PULSE)),
+            Step::Parked(4, None),
+            Step::Armed(5, None),
+        ],
+    },
+    Steps {
+        name: "the_opening_of_a_handle_is_told",
+        list: &[Step::Limit(9, Some(3)), Step::Limit(5, None)],
+    },
+    // Room for no more is had; what there is stays.
+    Steps {
+        name: "refused_room_changes_nothing",
+        list: &[
+            Step::Offer(1),
+            Step::RefusesRoom,
+            Step::Owed(4, Some(1)),
+            Step::Offer(1),
+            Step::Owed(4, Some(2)),
+        ],
+    },
+    Steps {
+        name: "a_read_gives_whole_blocks_that_fit",
+        list: &[
+            Step::Offer(2),
+            Step::Gives(4, 100, 2, b"@gps\na:n:1\n@gps\na:n:1\n"),
+            Step::Gives(9, 21, 1, b"@gps\na:n:1\n"),
+            Step::Needs(9, 10, 11),
+            Step::Owed(4, Some(2)),
+        ],
+    },
+    Steps {
+        name: "nothing_owed_gives_nothing",
+        list: &[Step::Gives(4, 100, 0, b""), Step::Gives(5, 100, 0, b"")],
+    },
+    Steps {
+        name: "a_record_wakes_those_that_wait_without_news",
+        list: &[
+            Step::Wakes(None),
+            Step::Park(9, Some(100)),
+            Step::Wakes(Some(9)),
+            Step::Offer(1),
+            Step::Wakes(None),
+        ],
+    },
+    Steps {
+        name: "a_handle_is_over_past_its_limit",
+        list: &[
+            Step::Offer(2),
+            Step::IsOver(4, false),
+            Step::Offer(1),
+            Step::IsOver(4, true),
+            Step::IsOver(9, false),
+            Step::IsOver(5, false),
+        ],
+    },
+    // Two records are kept, of which the first handle has been given one.
+    Steps {
+        name: "a_copy_holds_the_same",
+        list: &[
+            Step::Offer(2),
+            Step::Pass(4, 1),
+            Step::Copy,
+            Step::Swap,
+            Step::Same(true),
+            Step::Kept(2),
+            Step::Owed(4, Some(1)),
+        ],
+    },
+    // The other has had one record before, which both handles have read, so that what is kept begins at another place.
+    Steps {
+        name: "the_same_is_kept_wherever_it_begins",
+        list: &[
+            Step::Offer(2),
+            Step::Pass(4, 1),
+            Step::Swap,
+            Step::Offer(1),
+            Step::CatchUp(4),
+            Step::CatchUp(9),
+            Step::Same(false),
+            Step::Offer(2),
+            Step::Pass(4, 1),
+            Step::Same(true),
+            Step::Pass(9, 1),
+            Step::Same(false),
+        ],
+    },
+];
+
+/// Steps of a directory that is read by two.
+const OF_A_DIRECTORY: Steps = Steps {
+    name: "a_directory_tells_its_names",
+    list: &[
+        Step::Offer(1),
+        Step::HasNews(1, true),
+        Step::HasNews(2, false),
+        Step::Kept(0),
+        Step::OfferCreated,
+        Step::Offer(1),
+        Step::Owed(2, Some(1)),
+        Step::Kept(2),
+        Step::Pass(2, 1),
+        Step::Kept(0),
+        Step::Owed(1, None),
+    ],
+};
+
 #[test]
-fn a_handle_is_over_past_its_limit(rt: HostRuntime) -> Result<(), Fail> {
+fn targets_answer_in_turn(rt: HostRuntime) -> Result<(), Fail> {
     let alloc = rt.alloc();
-    let mut target = read_by_two(alloc)?;
-    offer_changes(alloc, &mut target, 2)?;
-    assert!(rt; !target.is_over(Handle::new(4)));
-    offer_changes(alloc, &mut target, 1)?;
-    assert!(rt; target.is_over(Handle::new(4)));
-    assert!(rt; !target.is_over(Handle::new(9)));
-    assert!(rt; !target.is_over(Handle::new(5)));
+    for steps in OF_AN_OBJECT {
+        play(&rt, alloc, read_by_two(alloc)?, steps)?;
+    }
+    play(&rt, alloc, directory_read_by_two(alloc)?, &OF_A_DIRECTORY)?;
     Ok(())
 }
 
@@ -339,46 +437,5 @@ fn an_opening_is_copied(rt: HostRuntime) -> Result<(), Fail> {
     assert!(rt; copy.same(&first));
     let other = opening(4, HandleKind::Names, 3);
     assert!(rt; !copy.same(&other));
-    Ok(())
-}
-
-/// Two records are kept, of which the first handle has been given one.
-fn half_passed(alloc: Global) -> Result<Target, AllocError> {
-    let mut target = read_by_two(alloc)?;
-    offer_changes(alloc, &mut target, 2)?;
-    pass(&mut target, 4, 1);
-    Ok(target)
-}
-
-#[test]
-fn a_copy_holds_the_same(rt: HostRuntime) -> Result<(), Fail> {
-    let target = half_passed(rt.alloc())?;
-    let copy = copy(&target)?;
-    assert!(rt; same(&copy, &target));
-    assert_eq!(rt; kept(&copy), 2);
-    assert_eq!(rt; owed(&copy, 4), Some(1));
-    Ok(())
-}
-
-/// One record has been read by both before, so that what is kept begins at another place.
-fn after_another(alloc: Global) -> Result<Target, AllocError> {
-    let mut target = read_by_two(alloc)?;
-    offer_changes(alloc, &mut target, 1)?;
-    catch_up(&mut target, 4);
-    catch_up(&mut target, 9);
-    Ok(target)
-}
-
-#[test]
-fn the_same_is_kept_wherever_it_begins(rt: HostRuntime) -> Result<(), Fail> {
-    let alloc = rt.alloc();
-    let target = half_passed(alloc)?;
-    let mut late = after_another(alloc)?;
-    assert!(rt; !same(&late, &target));
-    offer_changes(alloc, &mut late, 2)?;
-    pass(&mut late, 4, 1);
-    assert!(rt; same(&late, &target));
-    pass(&mut late, 9, 1);
-    assert!(rt; !same(&late, &target));
     Ok(())
 }
