@@ -2,11 +2,81 @@ use engine_connections::Connections;
 use notify_box::Outbox;
 use pps_types::{Conn, Handle, Item, Refusal, SharedBytes};
 use std::alloc::{AllocError, Global};
+use std::process::Abort;
 use std::test::Fail;
 
-/// Attaches a connection, unless it is attached.
-fn attach(connections: &mut Connections, alloc: Global, number: u16) -> Result<(), Refusal> {
-    let conn = Conn::new(number);
+/// What a late reply is.
+#[derive(Clone, Copy)]
+enum Reply {
+    Text,
+    IsRefused(Refusal),
+}
+
+/// The bytes of `Reply::Text`.
+const TEXT: &[u8] = b"@gps\nspeed::5\n";
+
+/// What is queued for a connection.
+#[derive(Clone, Copy)]
+enum Sent {
+    Nothing,
+    /// A pulse of that value.
+    Pulse(u32),
+    /// The late reply to the read of a handle.
+    ReadDone(u32, Reply),
+}
+
+/// What changes a connection, or one of its handles.
+#[derive(Clone, Copy)]
+enum Change {
+    /// Attaches the connection, unless it is attached.
+    Attach,
+    Leave,
+    /// Opens the handle, unless it is not above all others of the connection.
+    Open,
+    Close,
+    /// Arms a pulse whose value is the handle's number.
+    Arm,
+    Disarm,
+    Fire,
+    Park,
+    /// Ends the parking, if a read is parked there.
+    Finish(Reply),
+    EndParked,
+}
+
+/// What is seen of a connection, or of one of its handles.
+#[derive(Clone, Copy)]
+enum Seen {
+    Attached(bool),
+    Parked(bool),
+    /// Whether a handle of that number may be opened.
+    Above(bool),
+    /// The numbers of all its handles. Where there are fewer, 0 comes instead.
+    Handles(u32, u32, u32),
+    /// What is first in its queue.
+    First(Sent),
+    /// How many connections there are.
+    Len(usize),
+}
+
+/// A step, with what it must answer.
+#[derive(Clone, Copy)]
+enum Step {
+    Does(Change),
+    IsRefused(Change, Refusal),
+    Sees(Seen),
+    /// What is taken from its queue.
+    Takes(Sent),
+}
+
+use Change::{Arm, Attach, Close, Disarm, EndParked, Finish, Fire, Leave, Open, Park};
+use Seen::{Above, Attached, First, Handles, Len, Parked};
+use Step::{Does, IsRefused, Sees, Takes};
+
+/// A connection, one of its handles, and what is done there. Where the step is of no handle, that is 0.
+type Row = (u16, u32, Step);
+
+fn attach(connections: &mut Connections, alloc: Global, conn: Conn) -> Result<(), Refusal> {
     let outbox = Outbox::new(alloc)?;
     connections.attach_ready()?;
     if !connections.is_attached(conn) {
@@ -15,10 +85,7 @@ fn attach(connections: &mut Connections, alloc: Global, number: u16) -> Result<(
     Ok(())
 }
 
-/// Opens a handle, unless it is not above all others of the connection.
-fn open(connections: &mut Connections, number: u16, handle: u32) -> Result<(), Refusal> {
-    let conn = Conn::new(number);
-    let handle = Handle::new(handle);
+fn open(connections: &mut Connections, conn: Conn, handle: Handle) -> Result<(), Refusal> {
     connections.open_ready(conn)?;
     if connections.is_above_handles(conn, handle) {
         connections.opened(conn, handle);
@@ -26,220 +93,339 @@ fn open(connections: &mut Connections, number: u16, handle: u32) -> Result<(), R
     Ok(())
 }
 
-/// Arms a pulse whose value is the handle's number.
-fn arm(connections: &mut Connections, number: u16, handle: u32) -> Result<(), Refusal> {
-    let conn = Conn::new(number);
-    connections.arm_ready(conn, Handle::new(handle))?;
-    connections.arm(conn, Handle::new(handle), 0, handle);
+fn arm(connections: &mut Connections, conn: Conn, handle: Handle) -> Result<(), Refusal> {
+    connections.arm_ready(conn, handle)?;
+    connections.arm(conn, handle, 0, handle.number());
     Ok(())
 }
 
-fn park(connections: &mut Connections, number: u16, handle: u32) -> Result<(), Refusal> {
-    let conn = Conn::new(number);
-    connections.park_ready(conn, Handle::new(handle))?;
-    connections.park(conn, Handle::new(handle));
+fn park(connections: &mut Connections, conn: Conn, handle: Handle) -> Result<(), Refusal> {
+    connections.park_ready(conn, handle)?;
+    connections.park(conn, handle);
     Ok(())
 }
 
-/// Ends the parking, if a read is parked there.
+fn reply_of(alloc: Global, reply: Reply) -> Result<Result<SharedBytes, Refusal>, AllocError> {
+    match reply {
+        Reply::Text => Ok(Ok(SharedBytes::new(alloc, Vec::from_slice(alloc, TEXT)?)?)),
+        Reply::IsRefused(refusal) => Ok(Err(refusal)),
+    }
+}
+
 fn finish(
     connections: &mut Connections,
-    number: u16,
-    handle: u32,
-    reply: Result<SharedBytes, Refusal>,
-) {
-    let conn = Conn::new(number);
-    let handle = Handle::new(handle);
+    alloc: Global,
+    conn: Conn,
+    handle: Handle,
+    reply: Reply,
+) -> Result<(), Refusal> {
+    let reply = reply_of(alloc, reply)?;
     if connections.is_parked(conn, handle) {
         connections.finish(conn, handle, reply);
     }
+    Ok(())
 }
 
-fn text(alloc: Global) -> Result<SharedBytes, AllocError> {
-    SharedBytes::new(alloc, Vec::from_slice(alloc, b"@gps\nspeed::5\n")?)
+fn carry_out(
+    connections: &mut Connections,
+    alloc: Global,
+    conn: Conn,
+    handle: Handle,
+    change: Change,
+) -> Result<(), Refusal> {
+    match change {
+        Attach => attach(connections, alloc, conn)?,
+        Leave => connections.leave(conn),
+        Open => open(connections, conn, handle)?,
+        Close => connections.closed(conn, handle),
+        Arm => arm(connections, conn, handle)?,
+        Disarm => connections.disarm(conn, handle),
+        Fire => connections.fire(conn, handle),
+        Park => park(connections, conn, handle)?,
+        Finish(reply) => finish(connections, alloc, conn, handle, reply)?,
+        EndParked => connections.end_parked(conn, handle),
+    }
+    Ok(())
 }
 
-fn pulse(value: u32) -> Option<Item> {
-    Some(Item::Pulse { code: 0, value })
+fn has_handles(handles: &[Handle], numbers: [u32; 3]) -> bool {
+    let wanted = numbers.iter().copied().filter(|number| *number != 0);
+    handles.iter().map(|handle| handle.number()).eq(wanted)
 }
 
-fn read_done(handle: u32, reply: Result<SharedBytes, Refusal>) -> Option<Item> {
-    Some(Item::ReadDone {
-        handle: Handle::new(handle),
-        result: reply,
-    })
+fn is_reply(given: &Result<SharedBytes, Refusal>, reply: Reply) -> bool {
+    match (given, reply) {
+        (Ok(bytes), Reply::Text) => bytes.as_slice() == TEXT,
+        (Err(refusal), Reply::IsRefused(wanted)) => *refusal == wanted,
+        _ => false,
+    }
 }
 
-fn has_handles(connections: &Connections, conn: Conn, numbers: &[u32]) -> bool {
-    let handles = connections.handles_of(conn).iter();
-    handles
-        .map(|handle| handle.number())
-        .eq(numbers.iter().copied())
+fn is_sent(item: Option<&Item>, sent: Sent) -> bool {
+    match (item, sent) {
+        (None, Sent::Nothing) => true,
+        (Some(Item::Pulse { code, value }), Sent::Pulse(wanted)) => *code == 0 && *value == wanted,
+        (Some(Item::ReadDone { handle, result }), Sent::ReadDone(number, reply)) => {
+            handle.number() == number && is_reply(result, reply)
+        }
+        _ => false,
+    }
 }
 
-/// Connections of these numbers.
-fn attached(alloc: Global, numbers: &[u16]) -> Result<Connections, Refusal> {
+fn holds(connections: &Connections, conn: Conn, handle: Handle, seen: Seen) -> bool {
+    match seen {
+        Attached(is) => connections.is_attached(conn) == is,
+        Parked(is) => connections.is_parked(conn, handle) == is,
+        Above(is) => connections.is_above_handles(conn, handle) == is,
+        Handles(first, second, third) => {
+            has_handles(connections.handles_of(conn), [first, second, third])
+        }
+        First(sent) => is_sent(connections.first(conn), sent),
+        Len(len) => connections.len() == len && connections.is_empty() == (len == 0),
+    }
+}
+
+fn take(connections: &mut Connections, conn: Conn) -> Option<Item> {
+    connections.take(conn)
+}
+
+/// Whether a step answers as it must.
+fn is_played(
+    connections: &mut Connections,
+    alloc: Global,
+    conn: Conn,
+    handle: Handle,
+    step: Step,
+) -> bool {
+    match step {
+        Does(done) => carry_out(connections, alloc, conn, handle, done) == Ok(()),
+        IsRefused(done, refusal) => {
+            carry_out(connections, alloc, conn, handle, done) == Err(refusal)
+        }
+        Sees(seen) => holds(connections, conn, handle, seen),
+        Takes(sent) => is_sent(take(connections, conn).as_ref(), sent),
+    }
+}
+
+fn play(rt: &impl Abort, alloc: Global, connections: &mut Connections, rows: &[Row]) {
+    for (place, (conn, handle, step)) in rows.iter().enumerate() {
+        let conn = Conn::new(*conn);
+        let handle = Handle::new(*handle);
+        assert!(rt;
+            is_played(connections, alloc, conn, handle, *step),
+            "step {place}"
+        );
+    }
+}
+
+const ATTACHING_AND_LEAVING: [Row; 29] = [
+    (5, 0, Does(Attach)),
+    (1, 0, Does(Attach)),
+    (1_024, 0, Does(Attach)),
+    (3, 0, Does(Attach)),
+    (3, 8, Does(Open)),
+    (3, 8, Does(Arm)),
+    (3, 8, Does(Fire)),
+    (0, 0, Sees(Len(4))),
+    (1, 0, Does(Leave)),
+    (1, 0, Sees(Attached(false))),
+    (7, 0, Does(Leave)),
+    (7, 0, Sees(Attached(false))),
+    (3, 0, Does(Leave)),
+    (3, 0, Sees(Attached(false))),
+    (1, 0, Does(Leave)),
+    (1, 0, Sees(Attached(false))),
+    (0, 0, Sees(Len(2))),
+    (5, 0, Sees(Attached(true))),
+    (1_024, 0, Sees(Attached(true))),
+    (3, 0, Does(Attach)),
+    (3, 0, Sees(First(Sent::Nothing))),
+    (3, 0, Sees(Handles(0, 0, 0))),
+    (0, 0, Sees(Len(3))),
+    (5, 0, Does(Leave)),
+    (0, 0, Sees(Len(2))),
+    (3, 0, Does(Leave)),
+    (0, 0, Sees(Len(1))),
+    (1_024, 0, Does(Leave)),
+    (0, 0, Sees(Len(0))),
+];
+
+const OPENING_AND_CLOSING: [Row; 23] = [
+    (2, 0, Does(Attach)),
+    (1, 0, Does(Attach)),
+    (1, 2, Does(Open)),
+    (2, 3, Does(Open)),
+    (1, 5, Does(Open)),
+    (1, 5, Does(Open)),
+    (1, 4, Does(Open)),
+    (2, 7, Does(Open)),
+    (1, 9, Does(Open)),
+    (3, 11, Does(Open)),
+    (1, 0, Sees(Handles(2, 5, 9))),
+    (2, 0, Sees(Handles(3, 7, 0))),
+    (3, 0, Sees(Handles(0, 0, 0))),
+    (1, 5, Does(Close)),
+    (2, 5, Does(Close)),
+    (1, 5, Does(Close)),
+    (3, 5, Does(Close)),
+    (2, 3, Does(Close)),
+    (1, 0, Sees(Handles(2, 9, 0))),
+    (2, 0, Sees(Handles(7, 0, 0))),
+    (1, 9, Sees(Above(false))),
+    (1, 10, Sees(Above(true))),
+    (3, 1, Sees(Above(true))),
+];
+
+const EACH_HAS_ITS_OWN: [Row; 19] = [
+    (4, 0, Does(Attach)),
+    (9, 0, Does(Attach)),
+    (4, 1, Does(Arm)),
+    (9, 2, Does(Arm)),
+    (4, 1, Does(Park)),
+    (4, 1, IsRefused(Park, Refusal::ReadPending)),
+    (9, 1, Does(Park)),
+    (4, 1, Does(Fire)),
+    (4, 2, Does(Fire)),
+    (4, 1, Does(Finish(Reply::Text))),
+    (9, 2, Does(Disarm)),
+    (9, 2, Does(Fire)),
+    (9, 1, Sees(Parked(true))),
+    (4, 1, Sees(Parked(false))),
+    (9, 0, Sees(First(Sent::Nothing))),
+    (4, 0, Sees(First(Sent::Pulse(1)))),
+    (4, 0, Takes(Sent::Pulse(1))),
+    (4, 0, Takes(Sent::ReadDone(1, Reply::Text))),
+    (4, 0, Takes(Sent::Nothing)),
+];
+
+const CLOSING_A_PARKED_READ: [Row; 14] = [
+    (6, 0, Does(Attach)),
+    (6, 3, Does(Open)),
+    (6, 3, Does(Arm)),
+    (6, 3, Does(Park)),
+    (6, 3, Does(Close)),
+    (6, 3, Does(Disarm)),
+    (6, 3, Does(EndParked)),
+    (6, 3, Does(Close)),
+    (6, 3, Does(Disarm)),
+    (6, 3, Does(EndParked)),
+    (6, 3, Does(Fire)),
+    (6, 0, Sees(Handles(0, 0, 0))),
+    (
+        6,
+        0,
+        Takes(Sent::ReadDone(3, Reply::IsRefused(Refusal::BadHandle))),
+    ),
+    (6, 0, Takes(Sent::Nothing)),
+];
+
+/// Plays rows on new connections.
+fn play_new(rt: &impl Abort, alloc: Global, rows: &[Row]) {
     let mut connections = Connections::new(alloc);
-    for number in numbers {
-        attach(&mut connections, alloc, *number)?;
-    }
-    Ok(connections)
+    play(rt, alloc, &mut connections, rows);
 }
 
 #[test]
-fn attaching_and_leaving(rt: HostRuntime) -> Result<(), Fail> {
-    let alloc = rt.alloc();
-    let mut connections = attached(alloc, &[5, 1, 1_024, 3])?;
-    open(&mut connections, 3, 8)?;
-    arm(&mut connections, 3, 8)?;
-    connections.fire(Conn::new(3), Handle::new(8));
-    assert_eq!(rt; connections.len(), 4);
-    for number in [1, 7, 3, 1] {
-        connections.leave(Conn::new(number));
-        assert!(rt; !connections.is_attached(Conn::new(number)));
-    }
-    assert_eq!(rt; connections.len(), 2);
-    assert!(rt; connections.is_attached(Conn::new(5)));
-    assert!(rt; connections.is_attached(Conn::new(1_024)));
-    attach(&mut connections, alloc, 3)?;
-    assert!(rt; connections.first(Conn::new(3)).is_none());
-    assert!(rt; connections.handles_of(Conn::new(3)).is_empty());
-    for number in [5, 3, 1_024] {
-        assert!(rt; !connections.is_empty());
-        connections.leave(Conn::new(number));
-    }
-    assert!(rt; connections.is_empty());
+fn connections_have_handles_and_queues(rt: HostRuntime) -> Result<(), Fail> {
+    play_new(&rt, rt.alloc(), &ATTACHING_AND_LEAVING);
+    play_new(&rt, rt.alloc(), &OPENING_AND_CLOSING);
+    play_new(&rt, rt.alloc(), &EACH_HAS_ITS_OWN);
+    play_new(&rt, rt.alloc(), &CLOSING_A_PARKED_READ);
     Ok(())
 }
 
-#[test]
-fn handles_open_and_close(rt: HostRuntime) -> Result<(), Fail> {
-    let mut connections = attached(rt.alloc(), &[2, 1])?;
-    for (number, handle) in [
-        (1, 2),
-        (2, 3),
-        (1, 5),
-        (1, 5),
-        (1, 4),
-        (2, 7),
-        (1, 9),
-        (3, 11),
-    ] {
-        open(&mut connections, number, handle)?;
-    }
-    let [one, two, three] = [1, 2, 3].map(|number| Conn::new(number));
-    assert!(rt; has_handles(&connections, one, &[2, 5, 9]));
-    assert!(rt; has_handles(&connections, two, &[3, 7]));
-    assert!(rt; has_handles(&connections, three, &[]));
-    for (conn, handle) in [(one, 5), (two, 5), (one, 5), (three, 5), (two, 3)] {
-        connections.closed(conn, Handle::new(handle));
-    }
-    assert!(rt; has_handles(&connections, one, &[2, 9]));
-    assert!(rt; has_handles(&connections, two, &[7]));
-    assert!(rt; !connections.is_above_handles(one, Handle::new(9)));
-    assert!(rt; connections.is_above_handles(one, Handle::new(10)));
-    assert!(rt; connections.is_above_handles(three, Handle::new(1)));
-    Ok(())
-}
-
-#[test]
-fn each_has_its_own_to_come(rt: HostRuntime) -> Result<(), Fail> {
-    let alloc = rt.alloc();
-    let mut connections = attached(alloc, &[4, 9])?;
-    let [four, nine] = [4, 9].map(|number| Conn::new(number));
-    arm(&mut connections, 4, 1)?;
-    arm(&mut connections, 9, 2)?;
-    park(&mut connections, 4, 1)?;
-    assert_eq!(rt; park(&mut connections, 4, 1), Err(Refusal::ReadPending));
-    park(&mut connections, 9, 1)?;
-    connections.fire(four, Handle::new(1));
-    connections.fire(four, Handle::new(2));
-    finish(&mut connections, 4, 1, Ok(text(alloc)?));
-    connections.disarm(nine, Handle::new(2));
-    connections.fire(nine, Handle::new(2));
-    assert!(rt; connections.is_parked(nine, Handle::new(1)));
-    assert!(rt; !connections.is_parked(four, Handle::new(1)));
-    assert!(rt; connections.first(nine).is_none());
-    assert_eq!(rt; connections.first(four), pulse(1).as_ref());
-    assert_eq!(rt; connections.take(four), pulse(1));
-    assert_eq!(rt; connections.take(four), read_done(1, Ok(text(alloc)?)));
-    assert_eq!(rt; connections.take(four), None);
-    Ok(())
-}
-
-#[test]
-fn parked_read_of_a_handle_that_closes(rt: HostRuntime) -> Result<(), Fail> {
-    let mut connections = attached(rt.alloc(), &[6])?;
-    let conn = Conn::new(6);
-    open(&mut connections, 6, 3)?;
-    arm(&mut connections, 6, 3)?;
-    park(&mut connections, 6, 3)?;
-    for _ in 0..2 {
-        connections.closed(conn, Handle::new(3));
-        connections.disarm(conn, Handle::new(3));
-        connections.end_parked(conn, Handle::new(3));
-    }
-    connections.fire(conn, Handle::new(3));
-    assert!(rt; has_handles(&connections, conn, &[]));
-    assert_eq!(rt;
-        connections.take(conn),
-        read_done(3, Err(Refusal::BadHandle))
-    );
-    assert_eq!(rt; connections.take(conn), None);
-    Ok(())
-}
-
-#[test]
-fn nothing_is_done_where_none_is_attached(rt: HostRuntime) -> Result<(), Fail> {
-    let mut connections = attached(rt.alloc(), &[1, 3])?;
-    let before = connections.copy()?;
-    open(&mut connections, 2, 1)?;
-    arm(&mut connections, 2, 1)?;
-    park(&mut connections, 2, 1)?;
-    connections.fire(Conn::new(2), Handle::new(1));
-    finish(&mut connections, 2, 1, Err(Refusal::Gone));
-    connections.end_parked(Conn::new(2), Handle::new(1));
-    connections.leave(Conn::new(2));
-    assert_eq!(rt; connections.take(Conn::new(2)), None);
-    assert!(rt; connections.same(&before));
-    Ok(())
-}
+const BESIDE_A_FULL_OUTBOX: [Row; 6] = [
+    (2, 1_024, IsRefused(Arm, Refusal::OutboxFull)),
+    (2, 0, IsRefused(Park, Refusal::OutboxFull)),
+    (2, 0, Does(Arm)),
+    (1, 1_024, Does(Arm)),
+    (2, 0, Does(Disarm)),
+    (2, 0, Does(Park)),
+];
 
 #[test]
 fn full_outbox(rt: HostRuntime) -> Result<(), Fail> {
-    let mut connections = attached(rt.alloc(), &[1, 2])?;
+    let mut connections = Connections::new(rt.alloc());
+    let attaching = [(1, 0, Does(Attach)), (2, 0, Does(Attach))];
+    play(&rt, rt.alloc(), &mut connections, &attaching);
     for handle in 0..1_024 {
-        arm(&mut connections, 2, handle)?;
+        let arming = [(2, handle, Does(Arm))];
+        play(&rt, rt.alloc(), &mut connections, &arming);
     }
-    assert_eq!(rt; arm(&mut connections, 2, 1_024), Err(Refusal::OutboxFull));
-    assert_eq!(rt; park(&mut connections, 2, 0), Err(Refusal::OutboxFull));
-    assert_eq!(rt; arm(&mut connections, 2, 0), Ok(()));
-    assert_eq!(rt; arm(&mut connections, 1, 1_024), Ok(()));
-    connections.disarm(Conn::new(2), Handle::new(0));
-    assert_eq!(rt; park(&mut connections, 2, 0), Ok(()));
+    play(&rt, rt.alloc(), &mut connections, &BESIDE_A_FULL_OUTBOX);
     Ok(())
 }
 
-#[test]
-fn copies_are_the_same(rt: HostRuntime) -> Result<(), Fail> {
-    let alloc = rt.alloc();
-    let mut connections = attached(alloc, &[7, 2])?;
-    open(&mut connections, 7, 1)?;
+/// Steps of connections, or of their copy, and whether both are the same after them.
+type Stage<'a> = (bool, &'a [Row], bool);
+
+/// Plays rows, copies the connections, and plays the stages on them and their copy.
+fn compare(rt: &impl Abort, alloc: Global, begin: &[Row], stages: &[Stage]) -> Result<(), Refusal> {
+    let mut connections = Connections::new(alloc);
+    play(rt, alloc, &mut connections, begin);
     let mut copy = connections.copy()?;
     assert!(rt; copy.same(&connections));
-    open(&mut connections, 7, 2)?;
-    assert!(rt; !copy.same(&connections));
-    connections.closed(Conn::new(7), Handle::new(2));
-    assert!(rt; copy.same(&connections));
-    arm(&mut connections, 2, 5)?;
-    assert!(rt; !copy.same(&connections));
-    arm(&mut copy, 2, 5)?;
-    park(&mut copy, 7, 5)?;
-    assert!(rt; !copy.same(&connections));
-    finish(&mut copy, 7, 5, Err(Refusal::Gone));
-    assert_eq!(rt; copy.take(Conn::new(7)), read_done(5, Err(Refusal::Gone)));
-    assert!(rt; copy.same(&connections));
-    copy.leave(Conn::new(2));
-    assert!(rt; !copy.same(&connections));
+    for (is_copy, rows, are_same) in stages {
+        if *is_copy {
+            play(rt, alloc, &mut copy, rows);
+        } else {
+            play(rt, alloc, &mut connections, rows);
+        }
+        assert_eq!(rt; copy.same(&connections), *are_same);
+    }
+    Ok(())
+}
+
+const COPIED: [Row; 3] = [
+    (7, 0, Does(Attach)),
+    (2, 0, Does(Attach)),
+    (7, 1, Does(Open)),
+];
+
+const OPENED: [Row; 1] = [(7, 2, Does(Open))];
+
+const CLOSED: [Row; 1] = [(7, 2, Does(Close))];
+
+const ARMED: [Row; 1] = [(2, 5, Does(Arm))];
+
+const ARMED_AND_PARKED: [Row; 2] = [(2, 5, Does(Arm)), (7, 5, Does(Park))];
+
+const FINISHED_AND_TAKEN: [Row; 2] = [
+    (7, 5, Does(Finish(Reply::IsRefused(Refusal::Gone)))),
+    (
+        7,
+        0,
+        Takes(Sent::ReadDone(5, Reply::IsRefused(Refusal::Gone))),
+    ),
+];
+
+const LEFT: [Row; 1] = [(2, 0, Does(Leave))];
+
+const TWO: [Row; 2] = [(1, 0, Does(Attach)), (3, 0, Does(Attach))];
+
+/// Steps of a connection that is not attached, between two that are.
+const NOT_ATTACHED: [Row; 8] = [
+    (2, 1, Does(Open)),
+    (2, 1, Does(Arm)),
+    (2, 1, Does(Park)),
+    (2, 1, Does(Fire)),
+    (2, 1, Does(Finish(Reply::IsRefused(Refusal::Gone)))),
+    (2, 1, Does(EndParked)),
+    (2, 0, Does(Leave)),
+    (2, 0, Takes(Sent::Nothing)),
+];
+
+#[test]
+fn copies_are_compared(rt: HostRuntime) -> Result<(), Fail> {
+    let stages: [Stage; 6] = [
+        (false, &OPENED, false),
+        (false, &CLOSED, true),
+        (false, &ARMED, false),
+        (true, &ARMED_AND_PARKED, false),
+        (true, &FINISHED_AND_TAKEN, true),
+        (true, &LEFT, false),
+    ];
+    compare(&rt, rt.alloc(), &COPIED, &stages)?;
+    compare(&rt, rt.alloc(), &TWO, &[(false, &NOT_ATTACHED, true)])?;
     Ok(())
 }

@@ -1,6 +1,7 @@
+use crate::samples::new_tables;
 use engine_tables::Tables;
 use open_requests::{carry_out, open};
-use pps_types::{Bytes, Conn, Mode, Refusal, contents_stay};
+use pps_types::{Bytes, Conn, Mode, Refusal};
 use std::alloc::Global;
 use std::test::Fail;
 
@@ -29,32 +30,22 @@ fn counts(tables: &Tables) -> (usize, usize, u64) {
     )
 }
 
-/// What stands when connection 3 has opened that text in a new service, and what stood when the open was only planned.
-fn opened(
-    alloc: Global,
-    mode: Mode,
-    text: &[u8],
-) -> Result<(Tables, (usize, usize, u64)), Refusal> {
-    contents_stay();
-    let mut tables = Tables::new(alloc, 7, 20)?;
+/// What there is when connection 3 plans to open that text in a new service, and when it has opened it.
+fn opened(alloc: Global, mode: Mode, text: &[u8]) -> Result<[(usize, usize, u64); 2], Refusal> {
     let text = Bytes::from_slice(alloc, text)?;
+    let mut tables = new_tables(alloc)?;
     let opens = open(&mut tables, alloc, Conn::new(3), mode, &text)?;
     let planned = counts(&tables);
     carry_out(&mut tables, opens);
-    Ok((tables, planned))
+    Ok([planned, counts(&tables)])
 }
 
 #[test]
-fn all_of_the_root_is_opened(rt: HostRuntime) -> Result<(), Fail> {
-    let (tables, _) = opened(rt.alloc(), READS, b"/.all?delta")?;
-    assert!(rt; counts(&tables) == (0, 1, 0));
-    Ok(())
-}
-
-#[test]
-fn an_object_is_created(rt: HostRuntime) -> Result<(), Fail> {
-    let (tables, planned) = opened(rt.alloc(), CREATES, b"/speed?server")?;
+fn the_root_and_a_new_object_are_opened(rt: HostRuntime) -> Result<(), Fail> {
+    let [_, all] = opened(rt.alloc(), READS, b"/.all?delta")?;
+    assert!(rt; all == (0, 1, 0));
+    let [planned, created] = opened(rt.alloc(), CREATES, b"/speed?server")?;
     assert!(rt; planned == (0, 0, 0));
-    assert!(rt; counts(&tables) == (1, 1, 1));
+    assert!(rt; created == (1, 1, 1));
     Ok(())
 }

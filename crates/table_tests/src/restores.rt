@@ -1,85 +1,71 @@
-ghost use Rattle.std.specs.Prelude.{IfOk};
+ghost use Rattle.std.specs.Prelude.{OnOk};
 ghost use Rattle.pps_types.specs.WellFormed.{IsContent};
 ghost use Rattle.content_bounds.specs.Bounds.{IsBound};
 ghost use Rattle.engine_tables.specs.Tables.{content_in};
 
-use crate::samples::{find, path};
-use content_bounds::bounds_stay;
-use engine_events::{carry_out, plan};
+use crate::samples::{ask, find, new_tables, path};
 use engine_tables::Tables;
-use pps_types::{
-    Bytes, Conn, DirId, Event, Found, Handle, Line, Mode, ObjId, Refusal, Request, contents_stay,
-};
+use pps_types::{Bytes, DirId, Found, Handle, Line, Mode, ObjId, Refusal, Request};
 use restore_requests::{restore_directory, restore_line, restore_object};
 use std::alloc::{AllocError, Global};
 use std::test::Fail;
 
-/// A new service in which that directory is restored.
-fn with_directory(alloc: Global, name: &[u8]) -> Result<Tables, Refusal> {
-    contents_stay();
-    let mut tables = Tables::new(alloc, 1, 256)?;
-    restore_directory(&mut tables, path(alloc, name)?)?;
-    Ok(tables)
+/// How something is restored in a new service, and what there is then.
+#[derive(Clone, Copy)]
+struct Restored {
+    done: Result<(), Refusal>,
+    found: Result<Found, Refusal>,
+    directories: usize,
+    records: u64,
+    handles: usize,
 }
 
-#[test]
-fn a_directory_is_restored(rt: HostRuntime) -> Result<(), Fail> {
-    let tables = with_directory(rt.alloc(), b"cars")?;
-    let found = find(rt.alloc(), &tables, b"cars")?;
-    assert_eq!(rt; found, Found::Directory(DirId::new(1)));
-    Ok(())
-}
-
-/// A new service in which that object is restored.
-fn with_object(alloc: Global, name: &[u8]) -> Result<Tables, Refusal> {
-    contents_stay();
-    let mut tables = Tables::new(alloc, 1, 256)?;
-    restore_object(&mut tables, alloc, path(alloc, name)?)?;
-    Ok(tables)
-}
-
-#[test]
-fn an_object_is_restored(rt: HostRuntime) -> Result<(), Fail> {
-    let tables = with_object(rt.alloc(), b"gps")?;
-    let found = find(rt.alloc(), &tables, b"gps")?;
-    assert_eq!(rt; found, Found::Object(ObjId::new(0)));
-    assert_eq!(rt; tables.records(), 1);
-    assert_eq!(rt; tables.handles().len(), 0);
-    Ok(())
-}
-
-/// How the root is restored in a new service, and how many directories there are then.
-fn restored_root(alloc: Global) -> Result<(Result<(), Refusal>, usize), Refusal> {
-    contents_stay();
-    let mut tables = Tables::new(alloc, 1, 256)?;
-    let restored = restore_directory(&mut tables, Vec::new(alloc));
-    Ok((restored, tables.names().directory_count()))
-}
-
-#[test]
-fn what_stands_is_not_restored(rt: HostRuntime) -> Result<(), Fail> {
-    let (restored, directories) = restored_root(rt.alloc())?;
-    assert_eq!(rt; restored, Err(Refusal::Exists));
-    assert_eq!(rt; directories, 1);
-    Ok(())
-}
-
-/// What a request of connection 3 leaves.
-fn after(mut tables: Tables, alloc: Global, request: Request) -> Result<Tables, Refusal>
-    requires formed { IsContent (content_in tables) }
-    requires bound { IsBound (content_in tables) }
-    ensures formed { IfOk result (λ left. IsContent (content_in left)) }
-    ensures bound { IfOk result (λ left. IsBound (content_in left)) }
+fn restore(
+    tables: &mut Tables,
+    alloc: Global,
+    path: Vec<Bytes>,
+    is_object: bool,
+) -> Result<(), Refusal>
+    requires { IsContent (content_in tables.old) }
 {
-    contents_stay();
-    bounds_stay();
-    let event = Event {
-        conn: Conn::new(3),
-        request,
-    };
-    let planned = plan(&mut tables, alloc, &event)?;
-    carry_out(&mut tables, planned.pending);
-    Ok(tables)
+    if is_object {
+        restore_object(tables, alloc, path)
+    } else {
+        restore_directory(tables, path)
+    }
+}
+
+/// Restores an object or a directory of that name, or the root, which has none.
+fn restore_new(alloc: Global, name: &[u8], is_object: bool) -> Result<Restored, Refusal> {
+    let mut names = path(alloc, name)?;
+    if name.is_empty() {
+        names.clear();
+    }
+    let mut tables = new_tables(alloc)?;
+    let done = restore(&mut tables, alloc, names, is_object);
+    Ok(Restored {
+        done,
+        found: find(alloc, &tables, name),
+        directories: tables.names().directory_count(),
+        records: tables.records(),
+        handles: tables.handles().len(),
+    })
+}
+
+#[test]
+fn directories_and_objects_are_restored(rt: HostRuntime) -> Result<(), Fail> {
+    let cars = restore_new(rt.alloc(), b"cars", false)?;
+    assert_eq!(rt; cars.done, Ok(()));
+    assert_eq!(rt; cars.found, Ok(Found::Directory(DirId::new(1))));
+    let gps = restore_new(rt.alloc(), b"gps", true)?;
+    assert_eq!(rt; gps.done, Ok(()));
+    assert_eq!(rt; gps.found, Ok(Found::Object(ObjId::new(0))));
+    assert_eq!(rt; gps.records, 1);
+    assert_eq!(rt; gps.handles, 0);
+    let root = restore_new(rt.alloc(), b"", false)?;
+    assert_eq!(rt; root.done, Err(Refusal::Exists));
+    assert_eq!(rt; root.directories, 1);
+    Ok(())
 }
 
 /// The open of that text, for reading and writing, which may create.
@@ -103,27 +89,18 @@ fn reading(handle: u32) -> Request {
     }
 }
 
-/// A service in which connection 3 follows the changes of the object gps by handle 1, and those of its directory by handle 2.
-fn followed(alloc: Global) -> Result<Tables, Refusal>
-    ensures formed { IfOk result (λ left. IsContent (content_in left)) }
-    ensures bound { IfOk result (λ left. IsBound (content_in left)) }
+/// Lets connection 3 follow the changes of the object gps by handle 1, and those of its directory by handle 2.
+fn follow(tables: &mut Tables, alloc: Global) -> Result<(), Refusal>
+    requires formed { IsContent (content_in tables.old) }
+    requires bound { IsBound (content_in tables.old) }
+    ensures formed { OnOk result (IsContent (content_in tables.new)) }
+    ensures bound { OnOk result (IsBound (content_in tables.new)) }
 {
-    contents_stay();
-    bounds_stay();
-    let tables = Tables::new(alloc, 1, 256)?;
-    let tables = after(tables, alloc, Request::Attach)?;
-    let tables = after(tables, alloc, opening(alloc, b"/gps?delta", true)?)?;
-    after(tables, alloc, opening(alloc, b"/.all?delta", false)?)
-}
-
-/// The same, once both were given everything.
-fn caught_up(alloc: Global) -> Result<Tables, Refusal>
-    ensures formed { IfOk result (λ left. IsContent (content_in left)) }
-    ensures bound { IfOk result (λ left. IsBound (content_in left)) }
-{
-    let tables = followed(alloc)?;
-    let tables = after(tables, alloc, reading(1))?;
-    after(tables, alloc, reading(2))
+    ask(tables, alloc, Request::Attach)?;
+    ask(tables, alloc, opening(alloc, b"/gps?delta", true)?)?;
+    ask(tables, alloc, opening(alloc, b"/.all?delta", false)?)?;
+    ask(tables, alloc, reading(1))?;
+    ask(tables, alloc, reading(2))
 }
 
 /// The line `speed:n:65`.
@@ -136,11 +113,19 @@ fn speed(alloc: Global) -> Result<Line, AllocError> {
     })
 }
 
-/// The same service, once that line is restored.
-fn with_line(alloc: Global) -> Result<Tables, Refusal> {
-    let mut tables = caught_up(alloc)?;
+/// Restores that line in the object gps.
+fn restore_speed(tables: &mut Tables, alloc: Global) -> Result<(), Refusal>
+    requires { IsContent (content_in tables.old) }
+{
     let gps = path(alloc, b"gps")?;
-    restore_line(&mut tables, alloc, &gps, speed(alloc)?)?;
+    restore_line(tables, alloc, &gps, speed(alloc)?)
+}
+
+/// A service in which both were given everything, and then that line was restored.
+fn with_line(alloc: Global) -> Result<Tables, Refusal> {
+    let mut tables = new_tables(alloc)?;
+    follow(&mut tables, alloc)?;
+    restore_speed(&mut tables, alloc)?;
     Ok(tables)
 }
 
@@ -153,14 +138,17 @@ fn given(alloc: Global, tables: &Tables, handle: u32) -> Result<Vec<u8>, Refusal
     }
 }
 
+/// Whether a handle is given that text.
+fn is_given(alloc: Global, tables: &Tables, handle: u32, text: &[u8]) -> Result<bool, Refusal> {
+    Ok(given(alloc, tables, handle)?.as_slice() == text)
+}
+
 #[test]
 fn a_restored_line_is_given_to_who_follows(rt: HostRuntime) -> Result<(), Fail> {
     let alloc = rt.alloc();
     let tables = with_line(alloc)?;
     assert_eq!(rt; tables.records(), 2);
-    let on_object = given(alloc, &tables, 1)?;
-    assert!(rt; on_object.as_slice() == b"@gps\nspeed:n:65\n".as_slice());
-    let on_directory = given(alloc, &tables, 2)?;
-    assert!(rt; on_directory.as_slice() == b"@gps\nspeed:n:65\n".as_slice());
+    assert!(rt; is_given(alloc, &tables, 1, b"@gps\nspeed:n:65\n")?);
+    assert!(rt; is_given(alloc, &tables, 2, b"@gps\nspeed:n:65\n")?);
     Ok(())
 }

@@ -1,16 +1,15 @@
 //! What follows from an event.
 
-use engine_tables::Tables;
+use crate::samples::new_tables;
 use event_settling::settle;
-use pps_types::{Bytes, Kind, ObjId, Record, Refusal, contents_stay};
+use pps_types::{Bytes, Kind, ObjId, Record, Refusal};
 use server_queue::Entry;
 use std::alloc::{AllocError, Global};
 use std::test::Fail;
 
 /// Whether nothing follows in a new service from these records.
 fn is_settled(alloc: Global, entries: &[Entry]) -> Result<bool, Refusal> {
-    contents_stay();
-    let tables = Tables::new(alloc, 1, 256)?;
+    let tables = new_tables(alloc)?;
     let following = settle(&tables, alloc, entries, &[])?;
     Ok(following.is_empty())
 }

@@ -1,27 +1,24 @@
-use crate::samples::{find, path};
+ghost use Rattle.std.specs.Prelude.{OnOk};
+ghost use Rattle.pps_types.specs.WellFormed.{IsContent};
+ghost use Rattle.content_bounds.specs.Bounds.{IsBound};
+ghost use Rattle.engine_tables.specs.Tables.{content_in};
+
+use crate::samples::{ask, find, new_tables, path};
 use engine_tables::Tables;
-use notify_box::Outbox;
-use pps_types::{Bytes, Conn, DirId, Found, Refusal};
-use std::alloc::Global;
+use pps_types::{Bytes, Conn, DirId, Found, Refusal, Request};
+use std::alloc::{AllocError, Global};
 use std::test::Fail;
 
-/// The tables of a new service.
-fn new_tables(alloc: Global) -> Result<Tables, Refusal> {
-    Ok(Tables::new(alloc, 7, 20)?)
+/// Whether the tables are those of a new service.
+fn is_new(tables: &Tables) -> bool {
+    tables.default_limit() == 20
+        && tables.records() == 0
+        && tables.names().directory_count() == 1
+        && tables.handles().next() == 7
+        && tables.connections().is_empty()
 }
 
-#[test]
-fn a_new_service_has_the_root(rt: HostRuntime) -> Result<(), Fail> {
-    let tables = new_tables(rt.alloc())?;
-    assert_eq!(rt; tables.default_limit(), 20);
-    assert_eq!(rt; tables.records(), 0);
-    assert_eq!(rt; tables.names().directory_count(), 1);
-    assert_eq!(rt; tables.handles().next(), 7);
-    assert!(rt; tables.connections().is_empty());
-    Ok(())
-}
-
-/// Whether something can stand at a path, or why not.
+/// Whether something can be made at a path, or why not.
 fn check_free(tables: &Tables, path: &[Bytes]) -> Result<(), Refusal> {
     tables.check_free(path)
 }
@@ -31,9 +28,51 @@ fn check_new_directory(tables: &Tables, path: &[Bytes]) -> Result<(), Refusal> {
     tables.check_new_directory(path)
 }
 
+/// The request to make, or to remove, the directory "cars".
+fn making(alloc: Global) -> Result<Request, AllocError> {
+    let path = Bytes::from_slice(alloc, b"/cars")?;
+    Ok(Request::Mkdir { path })
+}
+
+fn removing(alloc: Global) -> Result<Request, AllocError> {
+    let path = Bytes::from_slice(alloc, b"/cars")?;
+    Ok(Request::Unlink { path })
+}
+
+/// Connection 3 attaches and makes the directory "cars".
+fn come(tables: &mut Tables, alloc: Global) -> Result<(), Refusal>
+    requires formed { IsContent (content_in tables.old) }
+    requires bound { IsBound (content_in tables.old) }
+    ensures formed { OnOk result (IsContent (content_in tables.new)) }
+    ensures bound { OnOk result (IsBound (content_in tables.new)) }
+{
+    ask(tables, alloc, Request::Attach)?;
+    ask(tables, alloc, making(alloc)?)
+}
+
+/// It removes the directory and leaves.
+fn go(tables: &mut Tables, alloc: Global) -> Result<(), Refusal>
+    requires formed { IsContent (content_in tables.old) }
+    requires bound { IsBound (content_in tables.old) }
+{
+    ask(tables, alloc, removing(alloc)?)?;
+    ask(tables, alloc, Request::Detach)
+}
+
+/// Whether "cars" is the directory of that number.
+fn has_directory(alloc: Global, tables: &Tables, number: u64) -> bool {
+    find(alloc, tables, b"cars") == Ok(Found::Directory(DirId::new(number)))
+}
+
+/// Whether connection 3 is attached.
+fn is_attached(tables: &Tables) -> bool {
+    tables.is_attached(Conn::new(3))
+}
+
 #[test]
-fn places_and_numbers_are_free(rt: HostRuntime) -> Result<(), Fail> {
-    let tables = new_tables(rt.alloc())?;
+fn tables_begin_with_the_root_alone(rt: HostRuntime) -> Result<(), Fail> {
+    let tables = Tables::new(rt.alloc(), 7, 20)?;
+    assert!(rt; is_new(&tables));
     let free = path(rt.alloc(), b"cars")?;
     assert_eq!(rt; check_free(&tables, &free), Ok(()));
     assert_eq!(rt; check_free(&tables, &[]), Err(Refusal::Exists));
@@ -42,43 +81,15 @@ fn places_and_numbers_are_free(rt: HostRuntime) -> Result<(), Fail> {
     Ok(())
 }
 
-/// The tables of a new service to which connection 3 is attached.
-fn attached(alloc: Global) -> Result<Tables, Refusal> {
-    let mut tables = Tables::new(alloc, 7, 20)?;
-    tables.attach_ready()?;
-    let outbox = Outbox::new(alloc)?;
-    tables.attach(Conn::new(3), outbox);
-    Ok(tables)
-}
-
 #[test]
-fn a_connection_attaches_and_leaves(rt: HostRuntime) -> Result<(), Fail> {
-    let conn = Conn::new(3);
-    let mut tables = attached(rt.alloc())?;
-    assert!(rt; tables.is_attached(conn));
-    tables.leave(conn);
-    assert!(rt; !tables.is_attached(conn));
-    Ok(())
-}
-
-/// The tables of a new service in which the directory "cars" is made.
-fn with_a_directory(alloc: Global) -> Result<Tables, Refusal> {
-    let mut tables = Tables::new(alloc, 7, 20)?;
-    let names = path(alloc, b"cars")?;
-    tables.make_directory_ready(&names)?;
-    tables.make_directory(names);
-    Ok(tables)
-}
-
-#[test]
-fn a_directory_is_made_and_removed(rt: HostRuntime) -> Result<(), Fail> {
-    let directory = DirId::new(1);
-    let mut tables = with_a_directory(rt.alloc())?;
-    let found = find(rt.alloc(), &tables, b"cars")?;
-    assert_eq!(rt; found, Found::Directory(directory));
-    if tables.names().is_bare(directory) {
-        tables.remove_directory(directory);
-    }
-    assert!(rt; find(rt.alloc(), &tables, b"cars").is_err());
+fn what_comes_goes_again(rt: HostRuntime) -> Result<(), Fail> {
+    let alloc = rt.alloc();
+    let mut tables = new_tables(alloc)?;
+    come(&mut tables, alloc)?;
+    assert!(rt; is_attached(&tables));
+    assert!(rt; has_directory(alloc, &tables, 1));
+    go(&mut tables, alloc)?;
+    assert!(rt; !is_attached(&tables));
+    assert!(rt; find(alloc, &tables, b"cars").is_err());
     Ok(())
 }
