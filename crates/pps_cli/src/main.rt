@@ -9,6 +9,7 @@ mod patient;
 mod script;
 mod serving;
 mod sessions;
+mod whole_file;
 
 use command_line::{Asked, RunOptions, ServiceOptions, read_words};
 use fault::{Failure, Fault};

@@ -2,6 +2,7 @@
 
 use crate::command_line::ServeOptions;
 use crate::fault::{Failure, Fault};
+use crate::whole_file::{Contents, write_whole};
 use pps_dispatch::{Gate, ServeError, Served, Session, distinct, serve};
 use pps_engine::Engine;
 use pps_frame::encode_request;
@@ -178,23 +179,40 @@ fn push_connections(alloc: Global, out: &mut Vec<u8>, segment: &Segment) -> Resu
     Ok(())
 }
 
-// Writes the order in which the messages were served to a file, if one is named.
+// The order in which messages were served.
+#[derive(Clone, Copy)]
+struct History<'s> {
+    segments: &'s [Segment],
+}
+
+impl Contents for History<'_> {
+    fn write_to<'w, O: Write>(
+        &self,
+        alloc: Global,
+        output: &mut O,
+        file: &'w str,
+    ) -> Result<(), Failure<'w>> {
+        let mut text = Vec::new(alloc);
+        'segments: for segment in self.segments {
+            push_connections(alloc, &mut text, segment)?;
+        }
+        match output.write_all(text.as_slice()) {
+            Err(_) => Err(Failure::CannotWrite { file }),
+            Ok(()) => Ok(()),
+        }
+    }
+}
+
+// Writes the order in which the messages were served to a file, if one is named, as a whole.
 fn write_history<'w, F: Files>(
     alloc: Global,
     files: &F,
     segments: &[Segment],
     file: Option<&'w str>,
 ) -> Result<(), Failure<'w>> {
-    let Some(file) = file else {
-        return Ok(());
-    };
-    let mut text = Vec::new(alloc);
-    'segments: for segment in segments {
-        push_connections(alloc, &mut text, segment)?;
-    }
-    match fs::write(files, file, text.as_slice()) {
-        Err(_) => Err(Failure::CannotWrite { file }),
-        Ok(()) => Ok(()),
+    match file {
+        None => Ok(()),
+        Some(file) => write_whole(alloc, files, &History { segments }, file),
     }
 }
 
