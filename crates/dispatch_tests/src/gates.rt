@@ -15,41 +15,19 @@ const LOOKS: u32 = 10_000;
 /// What messages of another session have to have done.
 #[derive(Clone, Copy, PartialEq, Eq)]
 pub(crate) enum Passed {
+    /// They are about to be served.
     Entered,
+    /// They have their answers.
     Left,
 }
 
-/// A message that is held until so many of another session have passed.
+/// A message, by its connection and its place there, is held until so many messages of another connection have passed.
 #[derive(Clone, Copy)]
-pub(crate) struct Hold {
-    pub(crate) conn: u16,
-    pub(crate) index: u64,
-    pub(crate) other: u16,
-    pub(crate) count: u64,
-    pub(crate) passed: Passed,
-}
-
-/// A message that is held until that one of another session has its answer.
-pub(crate) fn behind(conn: u16, index: u64, other: u16, count: u64) -> Hold {
-    Hold {
-        conn,
-        index,
-        other,
-        count,
-        passed: Passed::Left,
-    }
-}
-
-/// A message that is held until that one of another session is about to be served.
-pub(crate) fn beside(conn: u16, index: u64, other: u16, count: u64) -> Hold {
-    Hold {
-        conn,
-        index,
-        other,
-        count,
-        passed: Passed::Entered,
-    }
-}
+pub(crate) struct Hold(
+    pub(crate) (u16, u64),
+    pub(crate) Passed,
+    pub(crate) (u16, u64),
+);
 
 // How many messages have passed, of three sessions.
 #[derive(Drop)]
@@ -77,7 +55,7 @@ impl Counts {
     }
 }
 
-/// Holds messages, and counts those that pass. What it has waited for in vain is told by `is_late`.
+/// Holds messages, and counts those that pass. `is_late` says whether it has waited in vain.
 #[derive(Drop)]
 pub(crate) struct Order<R: Clock + Drop> {
     rt: R,
@@ -99,11 +77,11 @@ impl<R: Clock + Drop> Order<R> {
     }
 
     fn has_passed(&self, hold: &Hold) -> bool {
-        let counts = match hold.passed {
+        let counts = match hold.1 {
             Passed::Entered => &self.entered,
             Passed::Left => &self.left,
         };
-        counts.of(hold.other).load(SeqCst) >= hold.count
+        counts.of(hold.2.0).load(SeqCst) >= hold.2.1
     }
 
     fn wait(&self, hold: &Hold) {
@@ -131,7 +109,7 @@ impl<R: Clock + Drop> Gate for Order<R> {
     fn enter(&self, conn: Conn, index: u64) {
         self.entered.of(conn.number()).fetch_add(1, SeqCst);
         for hold in &self.holds {
-            if hold.conn == conn.number() && hold.index == index {
+            if hold.0.0 == conn.number() && hold.0.1 == index {
                 self.wait(hold);
             }
         }

@@ -1,12 +1,19 @@
 //! Sessions that are served, and the histories that come of it.
+ghost use Rattle.std.specs.Prelude.{◌≤◌};
 
-use crate::gates::{Hold, Order, behind, beside};
-use crate::sessions::{lister, publisher, subscriber};
-use pps_dispatch::{Served, Session, distinct, serve};
+use crate::gates::Passed::{Entered, Left};
+use crate::gates::{Hold, Order};
+use crate::sessions::Deed::{List, Publish, Subscribe};
+use crate::sessions::{Deed, sessions};
+use pps_dispatch::{Served, distinct, serve};
 use pps_engine::Engine;
 use pps_types::Refusal;
-use std::alloc::{AllocError, Global};
+use std::alloc::Global;
+use std::process::Abort;
+use std::rt::Clock;
+use std::sync::Wait;
 use std::test::Fail;
+use std::thread::Threads;
 
 const PUBLISHED: &[u8] =
     b"\0\0\0\x03\0\x01\x01\0\0\0\x07\0\x01\x02\0\0\0\x01\0\0\0\x07\0\x01\x04\0\0\0\x0b";
@@ -50,131 +57,158 @@ fn receipt_count(served: &Served, place: usize) -> usize {
     }
 }
 
-fn pair(alloc: Global, first: Session, second: Session) -> Result<Vec<Session>, AllocError> {
-    let mut sessions = Vec::new(alloc);
-    sessions.push(first)?;
-    sessions.push(second)?;
-    Ok(sessions)
+// What is seen once sessions are served, beside the bytes that are given with it.
+#[derive(Clone, Copy)]
+enum Seen {
+    // How many entries the segments have together.
+    Entries(usize),
+    // How many segments there are.
+    Segments(usize),
+    // At least so many segments have so many entries.
+    Full(usize, usize),
+    // How many sessions there are.
+    Sessions(usize),
+    // The session in that place was answered with these frames.
+    Replies(usize),
+    // How many bytes they have.
+    ReplyLen(usize, usize),
+    // How many receipts the session in that place has.
+    Receipts(usize, usize),
+    // So many messages of a connection have entered the gate, and as many have left.
+    Passes(u16, u64),
 }
 
-fn three(alloc: Global, first: u32, others: u32) -> Result<Vec<Session>, Refusal> {
-    let mut sessions = Vec::new(alloc);
-    sessions.push(lister(alloc, 1, first)?)?;
-    sessions.push(lister(alloc, 2, others)?)?;
-    sessions.push(lister(alloc, 3, others)?)?;
-    Ok(sessions)
+use Seen::{Entries, Full, Passes, Receipts, Replies, ReplyLen, Segments, Sessions};
+
+fn holds<R: Clock + Drop>(served: &Served, gate: &Order<R>, seen: Seen, bytes: &[u8]) -> bool {
+    match seen {
+        Entries(count) => entries(served) == count,
+        Segments(count) => served.segments.len() == count,
+        Full(least, limit) => full(served, limit) >= least,
+        Sessions(count) => served.sessions.len() == count,
+        Replies(place) => replies(served, place) == bytes,
+        ReplyLen(place, len) => replies(served, place).len() == len,
+        Receipts(place, count) => receipt_count(served, place) == count,
+        Passes(conn, count) => gate.has_seen(conn, count),
+    }
 }
 
 // A publisher and a subscriber that wait for each other.
-fn waits() -> [Hold; 3] {
-    [behind(2, 2, 1, 2), behind(1, 3, 2, 4), behind(2, 5, 1, 3)]
-}
+const WAITS: [Hold; 3] = [
+    Hold((2, 2), Left, (1, 2)),
+    Hold((1, 3), Left, (2, 4)),
+    Hold((2, 5), Left, (1, 3)),
+];
 
-#[test]
-fn a_publisher_and_a_subscriber(rt: HostRuntime) -> Result<(), Fail> {
-    let alloc = rt.alloc();
-    let gate = Order::new(alloc, rt.clone().unwrap(), &waits())?;
-    let sessions = pair(alloc, publisher(alloc)?, subscriber(alloc)?)?;
-    assert!(rt; distinct(&sessions));
-    let engine = Engine::new(alloc)?;
-    let Ok(served) = serve(&rt, alloc, engine, sessions, 2, 2, &gate) else {
-        panic!(rt; "served");
-    };
+const PUBLISHED_AND_RECEIVED: [(Seen, &[u8]); 7] = [
+    (Entries(9), b""),
+    (Full(4, 2), b""),
+    (Sessions(2), b""),
+    (Replies(0), PUBLISHED),
+    (Replies(1), RECEIVED),
+    (Receipts(0, 3), b""),
+    (Receipts(1, 6), b""),
+];
+
+const IN_ONE_SEGMENT: [(Seen, &[u8]); 4] = [
+    (Segments(1), b""),
+    (Full(1, 9), b""),
+    (Replies(0), PUBLISHED),
+    (Replies(1), RECEIVED),
+];
+
+const OF_THREE_SESSIONS: [(Seen, &[u8]); 11] = [
+    (Entries(9), b""),
+    (Sessions(3), b""),
+    (ReplyLen(0, 21), b""),
+    (ReplyLen(1, 21), b""),
+    (ReplyLen(2, 21), b""),
+    (Receipts(0, 3), b""),
+    (Receipts(1, 3), b""),
+    (Receipts(2, 3), b""),
+    (Passes(1, 3), b""),
+    (Passes(2, 3), b""),
+    (Passes(3, 3), b""),
+];
+
+// Each of two workers waits until the other has taken a message.
+const EACH_WAITS: [Hold; 2] = [Hold((1, 1), Entered, (2, 1)), Hold((2, 1), Entered, (1, 1))];
+
+const OF_TWO_WORKERS: [(Seen, &[u8]); 4] = [
+    (Passes(1, 1), b""),
+    (Passes(2, 1), b""),
+    (Replies(0), b"\0\0\0\x03\0\x01\x01"),
+    (Replies(1), b"\0\0\0\x03\0\x02\x01"),
+];
+
+// While one worker waits, the other serves both other sessions.
+const ONE_WAITS: [Hold; 2] = [Hold((1, 1), Left, (2, 2)), Hold((1, 1), Left, (3, 2))];
+
+const OF_ONE_WORKER: [(Seen, &[u8]); 3] = [
+    (ReplyLen(0, 7), b""),
+    (ReplyLen(1, 14), b""),
+    (ReplyLen(2, 14), b""),
+];
+
+fn check<R: Clock + Drop>(
+    rt: &impl Abort,
+    served: &Served,
+    gate: &Order<R>,
+    seen: &[(Seen, &[u8])],
+) {
     assert!(rt; !gate.is_late());
-    assert_eq!(rt; entries(&served), 9);
-    assert!(rt; full(&served, 2) >= 4);
-    assert_eq!(rt; served.sessions.len(), 2);
-    assert!(rt; replies(&served, 0) == PUBLISHED);
-    assert!(rt; replies(&served, 1) == RECEIVED);
-    assert_eq!(rt; receipt_count(&served, 0), 3);
-    assert_eq!(rt; receipt_count(&served, 1), 6);
-    Ok(())
-}
-
-#[test]
-fn one_segment_is_enough(rt: HostRuntime) -> Result<(), Fail> {
-    let alloc = rt.alloc();
-    let gate = Order::new(alloc, rt.clone().unwrap(), &waits())?;
-    let sessions = pair(alloc, publisher(alloc)?, subscriber(alloc)?)?;
-    assert!(rt; distinct(&sessions));
-    let engine = Engine::new(alloc)?;
-    let Ok(served) = serve(&rt, alloc, engine, sessions, 2, 9, &gate) else {
-        panic!(rt; "served");
-    };
-    assert_eq!(rt; served.segments.len(), 1);
-    assert_eq!(rt; full(&served, 9), 1);
-    assert!(rt; replies(&served, 0) == PUBLISHED);
-    assert!(rt; replies(&served, 1) == RECEIVED);
-    Ok(())
-}
-
-#[test]
-fn three_sessions_of_three_messages(rt: HostRuntime) -> Result<(), Fail> {
-    let alloc = rt.alloc();
-    let gate = Order::new(alloc, rt.clone().unwrap(), &[])?;
-    let sessions = three(alloc, 2, 2)?;
-    assert!(rt; distinct(&sessions));
-    let engine = Engine::new(alloc)?;
-    let Ok(served) = serve(&rt, alloc, engine, sessions, 2, 2, &gate) else {
-        panic!(rt; "served");
-    };
-    assert_eq!(rt; entries(&served), 9);
-    for session in &served.sessions {
-        assert_eq!(rt; session.replies().len(), 21);
-        assert_eq!(rt; session.receipts().len(), 3);
+    for (place, (seen, bytes)) in seen.iter().enumerate() {
+        assert!(rt; holds(served, gate, *seen, bytes), "{place}");
     }
-    assert!(rt; gate.has_seen(1, 3) && gate.has_seen(2, 3) && gate.has_seen(3, 3));
-    Ok(())
 }
 
-#[test]
-fn two_workers_overlap(rt: HostRuntime) -> Result<(), Fail> {
-    let alloc = rt.alloc();
-    let holds = [beside(1, 1, 2, 1), beside(2, 1, 1, 1)];
-    let gate = Order::new(alloc, rt.clone().unwrap(), &holds)?;
-    let sessions = pair(alloc, lister(alloc, 1, 0)?, lister(alloc, 2, 0)?)?;
-    assert!(rt; distinct(&sessions));
-    let engine = Engine::new(alloc)?;
-    let Ok(served) = serve(&rt, alloc, engine, sessions, 2, 2, &gate) else {
-        panic!(rt; "served");
-    };
-    assert!(rt; !gate.is_late());
-    assert!(rt; gate.has_seen(1, 1) && gate.has_seen(2, 1));
-    assert!(rt; replies(&served, 0) == b"\0\0\0\x03\0\x01\x01".as_slice());
-    assert!(rt; replies(&served, 1) == b"\0\0\0\x03\0\x02\x01".as_slice());
-    Ok(())
+fn is_same(served: &Served, engine: &Engine) -> bool {
+    served.engine.same(engine)
 }
 
-#[test]
-fn sessions_are_not_dealt_out(rt: HostRuntime) -> Result<(), Fail> {
-    let alloc = rt.alloc();
-    let holds = [behind(1, 1, 2, 2), behind(1, 1, 3, 2)];
-    let gate = Order::new(alloc, rt.clone().unwrap(), &holds)?;
-    let sessions = three(alloc, 0, 1)?;
-    assert!(rt; distinct(&sessions));
-    let engine = Engine::new(alloc)?;
-    let Ok(served) = serve(&rt, alloc, engine, sessions, 2, 2, &gate) else {
-        panic!(rt; "served");
-    };
-    assert!(rt; !gate.is_late());
-    assert_eq!(rt; replies(&served, 0).len(), 7);
-    assert_eq!(rt; replies(&served, 1).len(), 14);
-    assert_eq!(rt; replies(&served, 2).len(), 14);
-    Ok(())
-}
-
-#[test]
-fn no_sessions_are_served(rt: HostRuntime) -> Result<(), Fail> {
-    let alloc = rt.alloc();
-    let gate = Order::new(alloc, rt.clone().unwrap(), &[])?;
-    let sessions = Vec::new(alloc);
-    assert!(rt; distinct(&sessions));
+// Serves sessions that do this. Some of their messages are held at a gate until others have come so far.
+fn play<R: Abort + Threads + Wait + Sync, C: Clock + Drop + Sync>(
+    rt: &R,
+    alloc: Global,
+    gate: &Order<C>,
+    workers: usize,
+    limit: usize,
+    deeds: &[Deed],
+    seen: &[(Seen, &[u8])],
+) -> Result<(), Refusal>
+    requires workers { (1 ≤ workers) × (workers ≤ 8) }
+    requires limit { (1 ≤ limit) × (limit ≤ 65536) }
+{
+    let sessions = sessions(alloc, deeds)?;
     let engine = Engine::new(alloc)?;
     let before = engine.copy()?;
-    let Ok(served) = serve(&rt, alloc, engine, sessions, 8, 1, &gate) else {
+    assert!(rt; distinct(&sessions));
+    let Ok(served) = serve(rt, alloc, engine, sessions, workers, limit, gate) else {
         panic!(rt; "served");
     };
-    assert_eq!(rt; entries(&served), 0);
-    assert!(rt; served.engine.same(&before));
+    check(rt, &served, gate, seen);
+    assert_eq!(rt; is_same(&served, &before), deeds.is_empty());
+    Ok(())
+}
+
+#[test]
+fn sessions_are_served(rt: HostRuntime) -> Result<(), Fail> {
+    let alloc = rt.alloc();
+    let two = [Publish, Subscribe];
+    let gate = Order::new(alloc, rt.clone().unwrap(), &WAITS)?;
+    play(&rt, alloc, &gate, 2, 2, &two, &PUBLISHED_AND_RECEIVED)?;
+    let gate = Order::new(alloc, rt.clone().unwrap(), &WAITS)?;
+    play(&rt, alloc, &gate, 2, 9, &two, &IN_ONE_SEGMENT)?;
+    let gate = Order::new(alloc, rt.clone().unwrap(), &[])?;
+    let three = [List(1, 2), List(2, 2), List(3, 2)];
+    play(&rt, alloc, &gate, 2, 2, &three, &OF_THREE_SESSIONS)?;
+    let gate = Order::new(alloc, rt.clone().unwrap(), &EACH_WAITS)?;
+    let two = [List(1, 0), List(2, 0)];
+    play(&rt, alloc, &gate, 2, 2, &two, &OF_TWO_WORKERS)?;
+    let gate = Order::new(alloc, rt.clone().unwrap(), &ONE_WAITS)?;
+    let three = [List(1, 0), List(2, 1), List(3, 1)];
+    play(&rt, alloc, &gate, 2, 2, &three, &OF_ONE_WORKER)?;
+    let gate = Order::new(alloc, rt.clone().unwrap(), &[])?;
+    play(&rt, alloc, &gate, 8, 1, &[], &[(Entries(0), b"")])?;
     Ok(())
 }

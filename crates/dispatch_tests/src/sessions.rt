@@ -1,135 +1,101 @@
 //! Sessions and the bytes that make them.
 
 use pps_dispatch::{Session, distinct};
-use pps_frame::encode_request;
-use pps_types::{Action, Bytes, Conn, Event, Handle, Mode, Refusal, Request};
+use pps_types::{Conn, Refusal};
 use std::alloc::Global;
 use std::test::Fail;
 
-/// Adds the frame of a request.
-pub(crate) fn add(
-    alloc: Global,
-    bytes: &mut Vec<u8>,
-    conn: u16,
-    request: Request,
-) -> Result<(), Refusal> {
-    let conn = Conn::new(conn);
-    let event = Event { conn, request };
-    let frame = encode_request(alloc, &event)?;
-    bytes.extend_from_slice(&frame)?;
-    Ok(())
+/// Connection 1 attaches, creates an object and writes to it.
+const PUBLISHER: &[u8] = b"\0\0\0\x03\x01\0\x01\
+\0\0\0\x08\x03\0\x01\x07/gps\
+\0\0\0\x12\x05\0\x01\0\0\0\x01speed:n:65\n";
+
+/// Connection 2 attaches, opens the object and reads it, arms a pulse and takes it, and reads again.
+const SUBSCRIBER: &[u8] = b"\0\0\0\x03\x01\0\x02\
+\0\0\0\x08\x03\0\x02\x01/gps\
+\0\0\0\x0b\x04\0\x02\0\0\0\x02\0\0\0\x63\
+\0\0\0\x0d\x0a\0\x02\0\0\0\x02\x02\x05\0\0\0\x4d\
+\0\0\0\x03\x0b\0\x02\
+\0\0\0\x0b\x04\0\x02\0\0\0\x02\0\0\0\x63";
+
+/// What a session does.
+#[derive(Clone, Copy)]
+pub(crate) enum Deed {
+    Publish,
+    Subscribe,
+    /// This connection attaches, and lists the root as often.
+    List(u8, u32),
 }
 
-pub(crate) fn attached(alloc: Global, conn: u16) -> Result<Vec<u8>, Refusal> {
-    let mut bytes = Vec::new(alloc);
-    add(alloc, &mut bytes, conn, Request::Attach)?;
-    Ok(bytes)
-}
+use Deed::{List, Publish, Subscribe};
 
-pub(crate) fn open(
-    alloc: Global,
-    bytes: &mut Vec<u8>,
-    conn: u16,
-    creates: bool,
-) -> Result<(), Refusal> {
-    let mode = Mode {
-        r: true,
-        w: creates,
-        c: creates,
-        t: false,
-    };
-    let text = Bytes::from_slice(alloc, b"/gps")?;
-    add(alloc, bytes, conn, Request::Open { mode, text })
-}
-
-pub(crate) fn read(alloc: Global, bytes: &mut Vec<u8>, conn: u16) -> Result<(), Refusal> {
-    let handle = Handle::new(2);
-    add(alloc, bytes, conn, Request::Read { handle, size: 99 })
-}
-
-pub(crate) fn list(alloc: Global, bytes: &mut Vec<u8>, conn: u16) -> Result<(), Refusal> {
-    let path = Bytes::from_slice(alloc, b"/")?;
-    add(alloc, bytes, conn, Request::List { path })
-}
-
-pub(crate) fn session(alloc: Global, conn: u16, bytes: &[u8]) -> Result<Session, Refusal> {
+fn begun(alloc: Global, conn: u16, bytes: &[u8]) -> Result<Session, Refusal> {
     Session::from_frames(alloc, Conn::new(conn), bytes)
 }
 
-/// It attaches, and lists the root as often.
-pub(crate) fn lister(alloc: Global, conn: u16, lists: u32) -> Result<Session, Refusal> {
-    let mut bytes = attached(alloc, conn)?;
+/// The frames of a connection that attaches, and lists the root as often.
+fn listing(alloc: Global, conn: u8, lists: u32) -> Result<Vec<u8>, Refusal> {
+    let mut bytes = Vec::from_slice(alloc, b"\0\0\0\x03\x01\0")?;
+    bytes.push(conn)?;
     for _ in 0..lists {
-        list(alloc, &mut bytes, conn)?;
+        bytes.extend_from_slice(b"\0\0\0\x04\x09\0")?;
+        bytes.push(conn)?;
+        bytes.push(b'/')?;
     }
-    session(alloc, conn, &bytes)
+    Ok(bytes)
 }
 
-/// It creates an object and writes to it.
-pub(crate) fn publisher(alloc: Global) -> Result<Session, Refusal> {
-    let mut bytes = attached(alloc, 1)?;
-    open(alloc, &mut bytes, 1, true)?;
-    let handle = Handle::new(1);
-    let text = Bytes::from_slice(alloc, b"speed:n:65\n")?;
-    let write = Request::Write {
-        handle,
-        bytes: text,
-    };
-    add(alloc, &mut bytes, 1, write)?;
-    session(alloc, 1, &bytes)
+fn session(alloc: Global, deed: Deed) -> Result<Session, Refusal> {
+    match deed {
+        Publish => begun(alloc, 1, PUBLISHER),
+        Subscribe => begun(alloc, 2, SUBSCRIBER),
+        List(conn, lists) => begun(alloc, conn as u16, &listing(alloc, conn, lists)?),
+    }
 }
 
-/// It opens the object, reads it, and is told of news.
-pub(crate) fn subscriber(alloc: Global) -> Result<Session, Refusal> {
-    let mut bytes = attached(alloc, 2)?;
-    open(alloc, &mut bytes, 2, false)?;
-    read(alloc, &mut bytes, 2)?;
-    let notify = Request::Notify {
-        handle: Handle::new(2),
-        action: Action::Pollarm,
-        code: 5,
-        value: 77,
-    };
-    add(alloc, &mut bytes, 2, notify)?;
-    add(alloc, &mut bytes, 2, Request::Receive)?;
-    read(alloc, &mut bytes, 2)?;
-    session(alloc, 2, &bytes)
+/// Sessions that do this.
+pub(crate) fn sessions(alloc: Global, deeds: &[Deed]) -> Result<Vec<Session>, Refusal> {
+    let mut sessions = Vec::new(alloc);
+    for deed in deeds {
+        sessions.push(session(alloc, *deed)?)?;
+    }
+    Ok(sessions)
 }
+
+/// Whether bytes make a session of a connection, which has no answers yet.
+fn is_begun(alloc: Global, conn: u16, bytes: &[u8]) -> Result<bool, Refusal> {
+    let session = begun(alloc, conn, bytes)?;
+    let is_empty = session.replies().is_empty() && session.receipts().is_empty();
+    Ok(session.conn() == Conn::new(conn) && is_empty)
+}
+
+/// Frames that are read for a connection, and whether they make a session.
+const CASES: [(u16, &[u8], Result<bool, Refusal>); 6] = [
+    (1, b"\0\0\0\x03\x01\0\x01", Ok(true)),
+    (1, b"", Ok(true)),
+    (2, b"\0\0\0\x03\x01\0\x01", Err(Refusal::BadArgument)),
+    (1, b"\0\0\0\x03\x01\0", Err(Refusal::BadFrame)),
+    (1, b"\0\0\0\x03\x0c\0\x01", Err(Refusal::BadFrame)),
+    (2, b"\0\0\0\x03\x01\0\x01\0", Err(Refusal::BadFrame)),
+];
 
 #[test]
 fn frames_make_a_session(rt: HostRuntime) -> Result<(), Fail> {
-    let alloc = rt.alloc();
-    let begun = session(alloc, 1, &[0, 0, 0, 3, 1, 0, 1])?;
-    assert!(rt; begun.conn() == Conn::new(1));
-    assert!(rt; begun.replies().is_empty());
-    assert!(rt; begun.receipts().is_empty());
-    assert!(rt; session(alloc, 1, &[])?.replies().is_empty());
+    for (conn, bytes, wanted) in CASES {
+        assert_eq!(rt; is_begun(rt.alloc(), conn, bytes), wanted, "{bytes:?}");
+    }
     Ok(())
 }
 
-#[test]
-fn other_bytes_make_none(rt: HostRuntime) -> Result<(), Fail> {
-    let alloc = rt.alloc();
-    let stranger = session(alloc, 2, &[0, 0, 0, 3, 1, 0, 1]);
-    assert!(rt; matches!(stranger, Err(Refusal::BadArgument)));
-    let cut = session(alloc, 1, &[0, 0, 0, 3, 1, 0]);
-    assert!(rt; matches!(cut, Err(Refusal::BadFrame)));
-    let malformed = session(alloc, 1, &[0, 0, 0, 3, 12, 0, 1]);
-    assert!(rt; matches!(malformed, Err(Refusal::BadFrame)));
-    let both = session(alloc, 2, &[0, 0, 0, 3, 1, 0, 1, 0]);
-    assert!(rt; matches!(both, Err(Refusal::BadFrame)));
-    Ok(())
+fn are_distinct(alloc: Global, deeds: &[Deed]) -> Result<bool, Refusal> {
+    Ok(distinct(&sessions(alloc, deeds)?))
 }
 
 #[test]
 fn connections_are_compared(rt: HostRuntime) -> Result<(), Fail> {
     let alloc = rt.alloc();
-    let mut sessions = Vec::new(alloc);
-    assert!(rt; distinct(&sessions));
-    sessions.push(lister(alloc, 1, 0)?)?;
-    sessions.push(lister(alloc, 2, 0)?)?;
-    assert!(rt; distinct(&sessions));
-    sessions.push(lister(alloc, 1, 1)?)?;
-    assert!(rt; !distinct(&sessions));
+    assert!(rt; are_distinct(alloc, &[])?);
+    assert!(rt; are_distinct(alloc, &[List(1, 0), List(2, 0)])?);
+    assert!(rt; !are_distinct(alloc, &[List(1, 0), List(2, 0), List(1, 1)])?);
     Ok(())
 }
