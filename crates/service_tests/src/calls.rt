@@ -1,206 +1,180 @@
-//! The engine's calls.
+//! The engine's calls, and how much is kept of what a path names and owed to a handle.
 
-use crate::scripts::{copy, data, new_engine, owed, same, shared, step};
-use open_options::read_path;
+use crate::scripts::Start::{LastHandle, LimitOf9, New};
+use crate::scripts::Step::{Crowds, HasLimit, Keeps, Lists, Owes, Plans, Runs, Says};
+use crate::scripts::{Step, events, new_engine, play};
 use pps_engine::Engine;
-use pps_types::{Action, Bytes, Conn, Event, Handle, Item, Mode, Outcome, Refusal, Request};
-use std::alloc::{AllocError, Global};
+use pps_types::{Outcome, Refusal};
+use std::alloc::Global;
 use std::test::Fail;
 
-const PUBLISHER: u16 = 1;
-
-const SUBSCRIBER: u16 = 2;
-
-fn asked(conn: u16, request: Request) -> Event {
-    Event {
-        conn: Conn::new(conn),
-        request,
-    }
-}
-
-fn open(alloc: Global, conn: u16, letters: &str, text: &[u8]) -> Result<Event, AllocError> {
-    let mode = Mode {
-        r: letters.contains('r'),
-        w: letters.contains('w'),
-        c: letters.contains('c'),
-        t: letters.contains('t'),
-    };
-    let text = Bytes::from_slice(alloc, text)?;
-    Ok(asked(conn, Request::Open { mode, text }))
-}
-
-fn write(alloc: Global, conn: u16, handle: u32, bytes: &[u8]) -> Result<Event, AllocError> {
-    let handle = Handle::new(handle);
-    let bytes = Bytes::from_slice(alloc, bytes)?;
-    Ok(asked(conn, Request::Write { handle, bytes }))
-}
-
-fn read(conn: u16, handle: u32, size: u32) -> Event {
-    let handle = Handle::new(handle);
-    asked(conn, Request::Read { handle, size })
-}
-
 /// One connection has created `/gps` and written to it, and another has opened it in delta mode.
-fn published(alloc: Global) -> Result<Engine, Refusal> {
-    let mut engine = new_engine(alloc)?;
-    step(&mut engine, &asked(PUBLISHER, Request::Attach))?;
-    step(&mut engine, &open(alloc, PUBLISHER, "rwc", b"/gps")?)?;
-    step(&mut engine, &write(alloc, PUBLISHER, 1, b"speed:n:65\n")?)?;
-    step(&mut engine, &asked(SUBSCRIBER, Request::Attach))?;
-    step(
-        &mut engine,
-        &open(alloc, SUBSCRIBER, "r", b"/gps?delta,wait")?,
-    )?;
-    Ok(engine)
-}
+const PUBLISHED: [&[u8]; 5] = [
+    b"1 attach",
+    b"1 open rwc /gps",
+    b"1 write 1 speed:n:65\\n",
+    b"2 attach",
+    b"2 open r /gps?delta,wait",
+];
+
+const WRITTEN_AND_READ: [(Step, &[u8], &[u8]); 5] = [
+    (Says, b"2 read 2 4096", b"2 data 16 @gps\\nspeed:n:65\\n"),
+    (Says, b"2 read 2 4096", b"2 parked"),
+    (Says, b"1 write 1 speed:n:66\\n", b"1 wrote 11"),
+    (Says, b"2 receive", b"2 done 2 data 16 @gps\\nspeed:n:66\\n"),
+    (Says, b"2 receive", b"2 empty"),
+];
+
+const REQUESTS_OF_ALL_KINDS: [(Step, &[u8], &[u8]); 7] = [
+    (Says, b"1 mkdir /maps", b"1 ok"),
+    (Says, b"1 list /", b"1 data 10 gps\\nmaps/\\n"),
+    (Says, b"1 unlink /maps", b"1 ok"),
+    (Says, b"2 notify 2 poll 1 2", b"2 input 1"),
+    (Says, b"2 close 2", b"2 ok"),
+    (Says, b"2 detach", b"2 ok"),
+    (Says, b"2 receive", b"2 refused 3 NotAttached"),
+];
+
+const PLANNED_AND_CARRIED_OUT: [(Step, &[u8], &[u8]); 2] = [
+    (Plans, b"2 read 2 4096", b"@gps\nspeed:n:65\n"),
+    (Says, b"2 read 9 4096", b"2 refused 13 BadHandle"),
+];
+
+const DEBTS: [(Step, &[u8], &[u8]); 5] = [
+    (Owes(2, None), b"", b""),
+    (Runs, b"2 read 2 4096", b""),
+    (Runs, b"1 write 1 speed:n:66\\n", b""),
+    (Owes(2, Some(1)), b"", b""),
+    (Keeps(Some(1)), b"/gps", b""),
+];
+
+const BEGUN_AT_THE_LAST_HANDLE: [(Step, &[u8], &[u8]); 3] = [
+    (Runs, b"1 attach", b""),
+    (Says, b"1 open rwc /a", b"1 handle 4294967295"),
+    (Says, b"1 open rwc /a", b"1 refused 24 TableFull"),
+];
 
 #[test]
-fn what_is_written_is_read(rt: HostRuntime) -> Result<(), Fail> {
+fn calls_are_answered(rt: HostRuntime) -> Result<(), Fail> {
     let alloc = rt.alloc();
-    let mut engine = published(alloc)?;
-    let everything = data(alloc, b"@gps\nspeed:n:65\n")?;
-    assert_eq!(rt;
-        step(&mut engine, &read(SUBSCRIBER, 2, 4_096)),
-        Ok(everything)
-    );
-    assert_eq!(rt;
-        step(&mut engine, &read(SUBSCRIBER, 2, 4_096)),
-        Ok(Outcome::Parked)
-    );
-    assert_eq!(rt;
-        step(&mut engine, &write(alloc, PUBLISHER, 1, b"speed:n:66\n")?),
-        Ok(Outcome::Wrote(11))
-    );
-    let late = Outcome::Item(Item::ReadDone {
-        handle: Handle::new(2),
-        result: Ok(shared(alloc, b"@gps\nspeed:n:66\n")?),
-    });
-    assert_eq!(rt;
-        step(&mut engine, &asked(SUBSCRIBER, Request::Receive)),
-        Ok(late)
-    );
-    assert_eq!(rt;
-        step(&mut engine, &asked(SUBSCRIBER, Request::Receive)),
-        Ok(Outcome::Empty)
-    );
+    play(&rt, alloc, New, &PUBLISHED, &WRITTEN_AND_READ)?;
+    play(&rt, alloc, New, &PUBLISHED, &REQUESTS_OF_ALL_KINDS)?;
+    play(&rt, alloc, New, &PUBLISHED, &PLANNED_AND_CARRIED_OUT)?;
+    play(&rt, alloc, New, &PUBLISHED, &DEBTS)?;
+    play(&rt, alloc, New, &[], &[(HasLimit(256), b"", b"")])?;
+    play(&rt, alloc, LimitOf9, &[], &[(HasLimit(9), b"", b"")])?;
+    play(&rt, alloc, LastHandle, &[], &BEGUN_AT_THE_LAST_HANDLE)?;
     Ok(())
 }
 
-#[test]
-fn requests_of_all_kinds_are_answered(rt: HostRuntime) -> Result<(), Fail> {
-    let alloc = rt.alloc();
-    let mut engine = published(alloc)?;
-    let path = Bytes::from_slice(alloc, b"/maps")?;
-    assert_eq!(rt;
-        step(&mut engine, &asked(PUBLISHER, Request::Mkdir { path })),
-        Ok(Outcome::Done)
-    );
-    let path = Bytes::from_slice(alloc, b"/")?;
-    let names = data(alloc, b"gps\nmaps/\n")?;
-    assert_eq!(rt;
-        step(&mut engine, &asked(PUBLISHER, Request::List { path })),
-        Ok(names)
-    );
-    let path = Bytes::from_slice(alloc, b"/maps")?;
-    assert_eq!(rt;
-        step(&mut engine, &asked(PUBLISHER, Request::Unlink { path })),
-        Ok(Outcome::Done)
-    );
-    let notify = Request::Notify {
-        handle: Handle::new(2),
-        action: Action::Poll,
-        code: 1,
-        value: 2,
-    };
-    assert_eq!(rt;
-        step(&mut engine, &asked(SUBSCRIBER, notify)),
-        Ok(Outcome::Input(true))
-    );
-    let close = Request::Close {
-        handle: Handle::new(2),
-    };
-    assert_eq!(rt;
-        step(&mut engine, &asked(SUBSCRIBER, close)),
-        Ok(Outcome::Done)
-    );
-    assert_eq!(rt;
-        step(&mut engine, &asked(SUBSCRIBER, Request::Detach)),
-        Ok(Outcome::Done)
-    );
-    assert_eq!(rt;
-        step(&mut engine, &asked(SUBSCRIBER, Request::Receive)),
-        Err(Refusal::NotAttached)
-    );
-    Ok(())
-}
+const RUN_AS_A_LIST: [&[u8]; 3] = [b"1 attach", b"1 attach", b"1 receive"];
 
-#[test]
-fn what_is_planned_is_carried_out(rt: HostRuntime) -> Result<(), Fail> {
-    let alloc = rt.alloc();
-    let mut engine = published(alloc)?;
-    let before = copy(&engine)?;
-    let plan = engine.plan(&read(SUBSCRIBER, 2, 4_096))?;
-    assert!(rt; same(&engine, &before));
-    let everything = data(alloc, b"@gps\nspeed:n:65\n")?;
-    assert_eq!(rt; *plan.reply(), everything);
-    assert_eq!(rt; engine.commit(plan), everything);
-    assert!(rt; !same(&engine, &before));
-    let after = copy(&engine)?;
-    assert_eq!(rt;
-        step(&mut engine, &read(SUBSCRIBER, 9, 4_096)),
-        Err(Refusal::BadHandle)
-    );
-    assert!(rt; same(&engine, &after));
-    Ok(())
-}
-
-#[test]
-fn debts_are_told(rt: HostRuntime) -> Result<(), Fail> {
-    let alloc = rt.alloc();
-    let mut engine = published(alloc)?;
-    let path = read_path(alloc, b"/gps")?;
-    assert_eq!(rt; owed(&engine, 2), None);
-    step(&mut engine, &read(SUBSCRIBER, 2, 4_096))?;
-    step(&mut engine, &write(alloc, PUBLISHER, 1, b"speed:n:66\n")?)?;
-    assert_eq!(rt; owed(&engine, 2), Some(1));
-    assert_eq!(rt; engine.kept(&path), Some(1));
-    engine.holds_what_is_owed();
-    Ok(())
-}
-
-#[test]
-fn engines_begin_as_asked(rt: HostRuntime) -> Result<(), Fail> {
-    let alloc = rt.alloc();
-    let plain = Engine::new(alloc)?;
-    assert_eq!(rt; plain.limit(), 256);
-    let other = Engine::with_limit(alloc, 9)?;
-    assert_eq!(rt; other.limit(), 9);
-    let mut last = Engine::new_at(alloc, Handle::new(4_294_967_295))?;
-    step(&mut last, &asked(PUBLISHER, Request::Attach))?;
-    let event = open(alloc, PUBLISHER, "rwc", b"/a")?;
-    assert_eq!(rt;
-        step(&mut last, &event),
-        Ok(Outcome::Opened(Handle::new(4_294_967_295)))
-    );
-    assert_eq!(rt; step(&mut last, &event), Err(Refusal::TableFull));
-    Ok(())
+/// The answers to the commands of lines, as an engine runs them in a list.
+fn run_list(
+    alloc: Global,
+    engine: &mut Engine,
+    lines: &[&[u8]],
+) -> Result<Vec<Result<Outcome, Refusal>>, Refusal> {
+    let events = events(alloc, lines)?;
+    engine.run_list(&events)
 }
 
 #[test]
 fn lists_of_events_are_run(rt: HostRuntime) -> Result<(), Fail> {
-    let alloc = rt.alloc();
-    let mut engine = new_engine(alloc)?;
-    let events = [
-        asked(PUBLISHER, Request::Attach),
-        asked(PUBLISHER, Request::Attach),
-        asked(PUBLISHER, Request::Receive),
-    ];
-    let replies = engine.run_list(&events)?;
+    let mut engine = new_engine(rt.alloc())?;
+    let answers = run_list(rt.alloc(), &mut engine, &RUN_AS_A_LIST)?;
     let wanted = [
         Ok(Outcome::Done),
         Err(Refusal::AlreadyAttached),
         Ok(Outcome::Empty),
     ];
-    assert_eq!(rt; replies.as_slice(), wanted.as_slice());
+    assert_eq!(rt; answers.as_slice(), wanted.as_slice());
+    Ok(())
+}
+
+/// The first 17 commands of the worked script `exact_cut`: three writes, and subscribers at different places.
+const EXACT_CUT: [&[u8]; 17] = [
+    b"1 attach",
+    b"2 attach",
+    b"3 attach",
+    b"4 attach",
+    b"5 attach",
+    b"1 open rwc /gps",
+    b"2 open r /gps?delta",
+    b"3 open r /gps?delta",
+    b"4 open r /gps?delta,limit=1",
+    b"5 open r /.all?delta",
+    b"2 read 2 99",
+    b"3 read 3 99",
+    b"4 read 4 99",
+    b"5 read 5 99",
+    b"1 write 1 a::1\\n",
+    b"1 write 1 a::2\\n",
+    b"1 write 1 a::3\\n",
+];
+
+/// The first 8 commands of the worked script `filtered_deltas`: of three writes a filter matches the second.
+const FILTERED_DELTAS: [&[u8]; 8] = [
+    b"1 attach",
+    b"2 attach",
+    b"1 open rwc /gps",
+    b"2 open r /gps?delta,f=speed>60+city",
+    b"2 read 2 99",
+    b"1 write 1 speed:n:60\\n",
+    b"1 write 1 speed:n:61\\nalt::9\\n",
+    b"1 write 1 alt::1\\n",
+];
+
+const HIDDEN_BETWEEN_OTHERS: [(Step, &[u8], &[u8]); 4] = [
+    (Owes(2, Some(1)), b"", b""),
+    (Keeps(Some(2)), b"/gps", b""),
+    (Runs, b"2 read 2 99", b""),
+    (Keeps(Some(0)), b"/gps", b""),
+];
+
+const JUST_WHAT_IS_OWED: [(Step, &[u8], &[u8]); 14] = [
+    (Keeps(Some(3)), b"/gps", b""),
+    (Keeps(Some(3)), b"/", b""),
+    (Owes(4, None), b"", b""),
+    (Runs, b"2 read 2 99", b""),
+    (Keeps(Some(3)), b"/gps", b""),
+    (Runs, b"3 read 3 10", b""),
+    (Keeps(Some(2)), b"/gps", b""),
+    (Runs, b"3 close 3", b""),
+    (Keeps(Some(0)), b"/gps", b""),
+    (Keeps(Some(3)), b"/", b""),
+    (Runs, b"4 read 4 99", b""),
+    (Runs, b"5 close 5", b""),
+    (Keeps(Some(0)), b"/", b""),
+    (Keeps(None), b"/none", b""),
+];
+
+const THE_SLOWEST_DECIDES: [(Step, &[u8], &[u8]); 4] = [
+    (Runs, b"3 read 3 10", b""),
+    (Keeps(Some(3)), b"/gps", b""),
+    (Runs, b"2 read 2 20", b""),
+    (Keeps(Some(2)), b"/gps", b""),
+];
+
+/// A directory that is full, and goes on once an object is unlinked.
+const A_FULL_DIRECTORY: [(Step, &[u8], &[u8]); 9] = [
+    (Runs, b"1 attach", b""),
+    (Runs, b"1 mkdir /d", b""),
+    (Crowds, b"", b""),
+    (Says, b"1 open wc /d/more", b"1 refused 24 TableFull"),
+    (Lists(256), b"1 list /d", b""),
+    (Runs, b"1 open w /d/oaa", b""),
+    (Runs, b"1 mkdir /d/e", b""),
+    (Runs, b"1 unlink /d/oab", b""),
+    (Runs, b"1 open wc /d/more", b""),
+];
+
+#[test]
+fn what_is_owed_is_kept(rt: HostRuntime) -> Result<(), Fail> {
+    let alloc = rt.alloc();
+    play(&rt, alloc, New, &FILTERED_DELTAS, &HIDDEN_BETWEEN_OTHERS)?;
+    play(&rt, alloc, New, &EXACT_CUT, &JUST_WHAT_IS_OWED)?;
+    play(&rt, alloc, New, &EXACT_CUT, &THE_SLOWEST_DECIDES)?;
+    play(&rt, alloc, New, &[], &A_FULL_DIRECTORY)?;
     Ok(())
 }

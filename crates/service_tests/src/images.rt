@@ -3,12 +3,24 @@ ghost use Rattle.std.specs.Prelude.{◌≡◌, [], true, IfOk};
 ghost use Rattle.pps_types.specs.Image.{SavedLine, as_line};
 ghost use Rattle.pps_types.specs.OpenText.{are_names};
 
-use crate::scripts::{answer, copy, data, run, same};
+use crate::scripts::Start::{New, Restored};
+use crate::scripts::Step::{Runs, Saves, Says};
+use crate::scripts::{Step, copy, play, same};
 use open_options::read_path;
 use pps_engine::{Engine, SavedEntry};
 use pps_types::{Bytes, Line, Refusal};
 use std::alloc::{AllocError, Global};
+use std::process::Abort;
 use std::test::Fail;
+
+/// What a call restores.
+#[derive(Clone, Copy)]
+enum Kind {
+    Directory,
+    Object,
+    /// A persistent attribute.
+    Line,
+}
 
 /// The names of a path.
 fn names(alloc: Global, path: &[u8]) -> Result<Vec<Bytes>, Refusal>
@@ -29,6 +41,62 @@ fn line(alloc: Global, name: &[u8], enc: &[u8], value: &[u8]) -> Result<Line, Al
     })
 }
 
+/// Bytes, written so often.
+fn repeated(alloc: Global, bytes: &[u8], count: usize) -> Result<Vec<u8>, AllocError> {
+    let mut all = Vec::new(alloc);
+    for _ in 0..count {
+        all.extend_from_slice(bytes)?;
+    }
+    Ok(all)
+}
+
+/// Restores what is under that path: an attribute has a name, an encoding and a value.
+fn restore(
+    alloc: Global,
+    engine: &mut Engine,
+    kind: Kind,
+    path: &[u8],
+    attribute: [&[u8]; 3],
+) -> Result<(), Refusal>
+    requires { engine.old.content.handles ≡ [] }
+    ensures { engine.new.content.handles ≡ [] }
+{
+    let path = names(alloc, path)?;
+    match kind {
+        Kind::Directory => engine.restore_directory(path),
+        Kind::Object => engine.restore_object(path),
+        Kind::Line => {
+            let [name, enc, value] = attribute;
+            engine.restore_line(&path, line(alloc, name, enc, value)?)
+        }
+    }
+}
+
+const NO_ATTRIBUTE: [&[u8]; 3] = [b"", b"", b""];
+
+/// Restores `/maps` and `/maps/gps`, and two attributes of the latter.
+fn restore_maps(alloc: Global, engine: &mut Engine) -> Result<(), Refusal>
+    requires { engine.old.content.handles ≡ [] }
+    ensures { engine.new.content.handles ≡ [] }
+{
+    restore(alloc, engine, Kind::Directory, b"/maps", NO_ATTRIBUTE)?;
+    restore(alloc, engine, Kind::Object, b"/maps/gps", NO_ATTRIBUTE)?;
+    restore(
+        alloc,
+        engine,
+        Kind::Line,
+        b"/maps/gps",
+        [b"speed", b"n", b"65"],
+    )?;
+    restore(
+        alloc,
+        engine,
+        Kind::Line,
+        b"/maps/gps",
+        [b"city", b"", b"Ottawa"],
+    )
+}
+
 /// A service with nothing but the root, of which nobody has a handle.
 fn unused(alloc: Global) -> Result<Engine, AllocError>
     ensures { IfOk result (λ engine. engine.content.handles ≡ []) }
@@ -37,16 +105,93 @@ fn unused(alloc: Global) -> Result<Engine, AllocError>
 }
 
 /// A service in which `/maps` and `/maps/gps` were restored, and two attributes of the latter.
-fn restored(alloc: Global) -> Result<Engine, Refusal>
+pub(crate) fn restored(alloc: Global) -> Result<Engine, Refusal>
     ensures { IfOk result (λ engine. engine.content.handles ≡ []) }
 {
     let mut engine = unused(alloc)?;
-    engine.restore_directory(names(alloc, b"/maps")?)?;
-    let path = names(alloc, b"/maps/gps")?;
-    engine.restore_object(names(alloc, b"/maps/gps")?)?;
-    engine.restore_line(&path, line(alloc, b"speed", b"n", b"65")?)?;
-    engine.restore_line(&path, line(alloc, b"city", b"", b"Ottawa")?)?;
+    restore_maps(alloc, &mut engine)?;
     Ok(engine)
+}
+
+/// What is not restored over `/maps` and `/maps/gps`, and why: its path, and an attribute's name and value, which is written
+/// so often.
+const REFUSED: [(Kind, [&[u8]; 3], usize, Refusal); 13] = [
+    (
+        Kind::Directory,
+        [b"/roads/a", b"", b""],
+        0,
+        Refusal::NotFound,
+    ),
+    (
+        Kind::Directory,
+        [b"/maps/gps/a", b"", b""],
+        0,
+        Refusal::NotDirectory,
+    ),
+    (Kind::Directory, [b"/maps", b"", b""], 0, Refusal::Exists),
+    (Kind::Directory, [b"/", b"", b""], 0, Refusal::Exists),
+    (Kind::Object, [b"/roads/a", b"", b""], 0, Refusal::NotFound),
+    (
+        Kind::Object,
+        [b"/maps/gps/a", b"", b""],
+        0,
+        Refusal::NotDirectory,
+    ),
+    (Kind::Object, [b"/maps", b"", b""], 0, Refusal::Exists),
+    (Kind::Object, [b"/maps/gps", b"", b""], 0, Refusal::Exists),
+    (Kind::Line, [b"/roads/a", b"a", b"1"], 1, Refusal::NotFound),
+    (
+        Kind::Line,
+        [b"/maps/gps/a", b"a", b"1"],
+        1,
+        Refusal::NotDirectory,
+    ),
+    (Kind::Line, [b"/maps", b"a", b"1"], 1, Refusal::IsDirectory),
+    (
+        Kind::Line,
+        [b"/maps/gps", b"city", b"Rome"],
+        1,
+        Refusal::Exists,
+    ),
+    (
+        Kind::Line,
+        [b"/maps/gps", b"a", b"x"],
+        65_510,
+        Refusal::TooLarge,
+    ),
+];
+
+/// Sees that it is refused so, and that nothing has changed.
+fn assert_refused(
+    rt: &impl Abort,
+    alloc: Global,
+    kind: Kind,
+    texts: [&[u8]; 3],
+    count: usize,
+    wanted: Refusal,
+) -> Result<(), Refusal> {
+    let [path, name, value] = texts;
+    let value = repeated(alloc, value, count)?;
+    let mut engine = restored(alloc)?;
+    let before = copy(&engine)?;
+    let refused = restore(
+        alloc,
+        &mut engine,
+        kind,
+        path,
+        [name, b"", value.as_slice()],
+    );
+    assert_eq!(rt; refused, Err(wanted), "{path:?}");
+    assert!(rt; same(&engine, &before));
+    Ok(())
+}
+
+#[test]
+fn what_may_not_follow_is_refused(rt: HostRuntime) -> Result<(), Fail> {
+    for (kind, texts, count, wanted) in REFUSED {
+        assert_refused(&rt, rt.alloc(), kind, texts, count, wanted)?;
+    }
+    Ok(())
 }
 
 /// Prints an entry: `D` or `O`, its path, how many attributes it has, and each of these.
@@ -71,7 +216,7 @@ fn push_entry(out: &mut Vec<u8>, entry: &SavedEntry) -> Result<(), AllocError> {
 }
 
 /// What an image of a service saves, an entry a line.
-fn saved(alloc: Global, engine: &Engine) -> Result<Vec<u8>, Refusal> {
+pub(crate) fn saved(alloc: Global, engine: &Engine) -> Result<Vec<u8>, Refusal> {
     let mut out = Vec::new(alloc);
     for entry in &engine.entries()? {
         push_entry(&mut out, entry)?;
@@ -79,110 +224,49 @@ fn saved(alloc: Global, engine: &Engine) -> Result<Vec<u8>, Refusal> {
     Ok(out)
 }
 
-#[test]
-fn what_is_restored_is_read(rt: HostRuntime) -> Result<(), Fail> {
-    let alloc = rt.alloc();
-    let mut engine = restored(alloc)?;
-    run(alloc, &mut engine, &[b"1 attach", b"1 open r /maps/gps"])?;
-    let everything = data(alloc, b"@gps\nspeed:n:65\ncity::Ottawa\n")?;
-    assert_eq!(rt; answer(alloc, &mut engine, b"1 read 1 99"), Ok(everything));
-    let listed = data(alloc, b"gps\n")?;
-    assert_eq!(rt; answer(alloc, &mut engine, b"1 list /maps"), Ok(listed));
-    Ok(())
-}
+const READ_AND_SAVED: [(Step, &[u8], &[u8]); 5] = [
+    (
+        Saves,
+        b"",
+        b"D/maps 0\nO/maps/gps 2 speed:n:65 city::Ottawa\n",
+    ),
+    (Runs, b"1 attach", b""),
+    (Runs, b"1 open r /maps/gps", b""),
+    (
+        Says,
+        b"1 read 1 99",
+        b"1 data 29 @gps\\nspeed:n:65\\ncity::Ottawa\\n",
+    ),
+    (Says, b"1 list /maps", b"1 data 4 gps\\n"),
+];
+
+const OBJECTS_IN_DIRECTORIES: [&[u8]; 16] = [
+    b"1 attach",
+    b"1 mkdir /maps",
+    b"1 open rwc /maps/gps",
+    b"1 write 1 city::Ottawa\\n[n]speed:n:65\\nalt::9\\n",
+    b"1 open rwc /zoo",
+    b"1 open rwc /gps?nopersist",
+    b"1 open rwc /radio?server",
+    b"1 mkdir /map",
+    b"1 open rwc /map/b",
+    b"1 write 5 a:b:c\\n",
+    b"1 open rwc /map/a",
+    b"1 mkdir /map/c",
+    b"1 mkdir /map/c/d",
+    b"1 open rwc /maps/c",
+    b"1 write 7 [n]a::1\\n",
+    b"1 close 1",
+];
+
+const SAVED_IN_ORDER: &[u8] =
+    b"D/map 0\nO/map/a 0\nO/map/b 1 a:b:c\nD/map/c 0\nD/map/c/d 0\nD/maps 0\nO/maps/c 0\nO/maps/gps 2 city::Ottawa alt::9\nO/zoo 0\n";
 
 #[test]
-fn directories_are_refused(rt: HostRuntime) -> Result<(), Fail> {
+fn what_is_restored_is_read_and_saved(rt: HostRuntime) -> Result<(), Fail> {
     let alloc = rt.alloc();
-    let mut engine = restored(alloc)?;
-    let before = copy(&engine)?;
-    let nowhere = engine.restore_directory(names(alloc, b"/roads/a")?);
-    assert_eq!(rt; nowhere, Err(Refusal::NotFound));
-    let below = engine.restore_directory(names(alloc, b"/maps/gps/a")?);
-    assert_eq!(rt; below, Err(Refusal::NotDirectory));
-    let again = engine.restore_directory(names(alloc, b"/maps")?);
-    assert_eq!(rt; again, Err(Refusal::Exists));
-    let root = engine.restore_directory(names(alloc, b"/")?);
-    assert_eq!(rt; root, Err(Refusal::Exists));
-    assert!(rt; same(&engine, &before));
-    Ok(())
-}
-
-#[test]
-fn objects_are_refused(rt: HostRuntime) -> Result<(), Fail> {
-    let alloc = rt.alloc();
-    let mut engine = restored(alloc)?;
-    let before = copy(&engine)?;
-    let nowhere = engine.restore_object(names(alloc, b"/roads/a")?);
-    assert_eq!(rt; nowhere, Err(Refusal::NotFound));
-    let below = engine.restore_object(names(alloc, b"/maps/gps/a")?);
-    assert_eq!(rt; below, Err(Refusal::NotDirectory));
-    let directory = engine.restore_object(names(alloc, b"/maps")?);
-    assert_eq!(rt; directory, Err(Refusal::Exists));
-    let again = engine.restore_object(names(alloc, b"/maps/gps")?);
-    assert_eq!(rt; again, Err(Refusal::Exists));
-    assert!(rt; same(&engine, &before));
-    Ok(())
-}
-
-#[test]
-fn lines_are_refused(rt: HostRuntime) -> Result<(), Fail> {
-    let alloc = rt.alloc();
-    let mut engine = restored(alloc)?;
-    let before = copy(&engine)?;
-    let nowhere = engine.restore_line(&names(alloc, b"/roads/a")?, line(alloc, b"a", b"", b"1")?);
-    assert_eq!(rt; nowhere, Err(Refusal::NotFound));
-    let below = engine.restore_line(
-        &names(alloc, b"/maps/gps/a")?,
-        line(alloc, b"a", b"", b"1")?,
-    );
-    assert_eq!(rt; below, Err(Refusal::NotDirectory));
-    let directory = engine.restore_line(&names(alloc, b"/maps")?, line(alloc, b"a", b"", b"1")?);
-    assert_eq!(rt; directory, Err(Refusal::IsDirectory));
-    let gps = names(alloc, b"/maps/gps")?;
-    let again = engine.restore_line(&gps, line(alloc, b"city", b"", b"Rome")?);
-    assert_eq!(rt; again, Err(Refusal::Exists));
-    let long = vec![in alloc; b'x'; 65_510]?;
-    let large = engine.restore_line(&gps, line(alloc, b"a", b"", &long)?);
-    assert_eq!(rt; large, Err(Refusal::TooLarge));
-    assert!(rt; same(&engine, &before));
-    Ok(())
-}
-
-#[test]
-fn what_stands_is_saved_in_order(rt: HostRuntime) -> Result<(), Fail> {
-    let alloc = rt.alloc();
-    let mut engine = Engine::new(alloc)?;
-    let lines: [&[u8]; 16] = [
-        b"1 attach",
-        b"1 mkdir /maps",
-        b"1 open rwc /maps/gps",
-        b"1 write 1 city::Ottawa\\n[n]speed:n:65\\nalt::9\\n",
-        b"1 open rwc /zoo",
-        b"1 open rwc /gps?nopersist",
-        b"1 open rwc /radio?server",
-        b"1 mkdir /map",
-        b"1 open rwc /map/b",
-        b"1 write 5 a:b:c\\n",
-        b"1 open rwc /map/a",
-        b"1 mkdir /map/c",
-        b"1 mkdir /map/c/d",
-        b"1 open rwc /maps/c",
-        b"1 write 7 [n]a::1\\n",
-        b"1 close 1",
-    ];
-    run(alloc, &mut engine, &lines)?;
-    let wanted: &[u8] =
-        b"D/map 0\nO/map/a 0\nO/map/b 1 a:b:c\nD/map/c 0\nD/map/c/d 0\nD/maps 0\nO/maps/c 0\nO/maps/gps 2 city::Ottawa alt::9\nO/zoo 0\n";
-    assert_eq!(rt; saved(alloc, &engine)?.as_slice(), wanted);
-    Ok(())
-}
-
-#[test]
-fn what_was_restored_is_saved(rt: HostRuntime) -> Result<(), Fail> {
-    let alloc = rt.alloc();
-    let engine = restored(alloc)?;
-    let wanted: &[u8] = b"D/maps 0\nO/maps/gps 2 speed:n:65 city::Ottawa\n";
-    assert_eq!(rt; saved(alloc, &engine)?.as_slice(), wanted);
+    play(&rt, alloc, Restored, &[], &READ_AND_SAVED)?;
+    let saved = [(Saves, b"".as_slice(), SAVED_IN_ORDER)];
+    play(&rt, alloc, New, &OBJECTS_IN_DIRECTORIES, &saved)?;
     Ok(())
 }

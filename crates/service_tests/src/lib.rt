@@ -7,10 +7,6 @@ mod books;
 #[cfg(test)]
 mod calls;
 #[cfg(test)]
-mod crowds;
-#[cfg(test)]
-mod debts;
-#[cfg(test)]
 mod frames;
 #[cfg(test)]
 mod images;

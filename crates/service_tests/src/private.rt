@@ -1,9 +1,10 @@
 //! Two runs that a client can't tell apart, of which one alone has what another client does.
 
-use crate::scripts::{data, event};
+use crate::scripts::{data, events, new_engine};
 use pps_engine::{Engine, run_both};
-use pps_types::{Event, Refusal};
+use pps_types::{Outcome, Refusal};
 use std::alloc::Global;
+use std::process::Abort;
 use std::test::Fail;
 
 /// The commands of the worked script `private_traffic`: a server, and clients of connections 2 and 3.
@@ -38,32 +39,37 @@ const WITHOUT_OTHER: [&[u8]; 11] = [
     b"2 read 2 99",
 ];
 
-fn events(alloc: Global, lines: &[&[u8]]) -> Result<Vec<Event>, Refusal> {
-    let mut events = Vec::new(alloc);
-    for line in lines {
-        events.push(event(alloc, line)?)?;
+/// Whether one of the answers is that.
+fn is_answered(answers: &[Result<Outcome, Refusal>], place: usize, wanted: &Outcome) -> bool {
+    match answers.get(place) {
+        Some(Ok(answer)) => *answer == *wanted,
+        _ => false,
     }
-    Ok(events)
+}
+
+/// Runs both lists, each on an engine of its own, and sees what connection 2 reads.
+fn assert_private(
+    rt: &impl Abort,
+    alloc: Global,
+    first: &mut Engine,
+    second: &mut Engine,
+) -> Result<(), Refusal> {
+    let with_other = events(alloc, &WITH_OTHER)?;
+    let without_other = events(alloc, &WITHOUT_OTHER)?;
+    let its_own = data(alloc, b"@s\nr::2\n")?;
+    let to_all = data(alloc, b"@s\nall::3\n")?;
+    let answers = run_both(first, &with_other, second, &without_other)?;
+    assert!(rt; is_answered(&answers.first, 9, &its_own));
+    assert!(rt; is_answered(&answers.second, 8, &its_own));
+    assert!(rt; is_answered(&answers.first, 12, &to_all));
+    assert!(rt; is_answered(&answers.second, 10, &to_all));
+    Ok(())
 }
 
 #[test]
 fn another_clients_traffic_is_not_seen(rt: HostRuntime) -> Result<(), Fail> {
-    let alloc = rt.alloc();
-    let with_other = events(alloc, &WITH_OTHER)?;
-    let without_other = events(alloc, &WITHOUT_OTHER)?;
-    let mut first = Engine::new(alloc)?;
-    let mut second = Engine::new(alloc)?;
-    let answers = run_both(
-        &mut first,
-        with_other.as_slice(),
-        &mut second,
-        without_other.as_slice(),
-    )?;
-    let told = Ok(data(alloc, b"@s\nr::2\n")?);
-    let told_all = Ok(data(alloc, b"@s\nall::3\n")?);
-    assert_eq!(rt; answers.first.get(9), Some(&told));
-    assert_eq!(rt; answers.second.get(8), Some(&told));
-    assert_eq!(rt; answers.first.get(12), Some(&told_all));
-    assert_eq!(rt; answers.second.get(10), Some(&told_all));
+    let mut first = new_engine(rt.alloc())?;
+    let mut second = new_engine(rt.alloc())?;
+    assert_private(&rt, rt.alloc(), &mut first, &mut second)?;
     Ok(())
 }

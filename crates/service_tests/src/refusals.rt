@@ -1,42 +1,8 @@
 //! Scripts in which a request for memory may be refused: run with each refused in turn
 //! (`tools/refuse_in_tests service_tests::refusals`), their answers stay the same.
 
-use crate::scripts::event;
-use pps_engine::Engine;
-use pps_types::{Event, Outcome, Refusal};
-use script_lines::print_answer;
-use std::alloc::Global;
-use std::process::Abort;
+use crate::scripts::play_script;
 use std::test::Fail;
-
-/// The answer to an event. Where memory is wanting nothing has changed, and the event is given once more.
-fn answer(
-    rt: &impl Abort,
-    engine: &mut Engine,
-    event: &Event,
-) -> Result<Result<Outcome, Refusal>, Refusal> {
-    let before = engine.copy()?;
-    let answer = engine.step(event);
-    if answer != Err(Refusal::OutOfMemory) {
-        return Ok(answer);
-    }
-    assert!(rt; engine.same(&before));
-    Ok(engine.step(event))
-}
-
-/// The commands of a script, each with its answer.
-fn assert_answers(rt: &impl Abort, alloc: Global, script: &[[&[u8]; 2]]) -> Result<(), Refusal> {
-    let mut engine = Engine::new(alloc)?;
-    for [line, wanted] in script {
-        let event = event(alloc, line)?;
-        let answer = answer(rt, &mut engine, &event)?;
-        let mut printed = Vec::new(alloc);
-        print_answer(&mut printed, event.conn, &answer)?;
-        assert_eq!(rt; printed.pop(), Some(b'\n'));
-        assert_eq!(rt; printed.as_slice(), *wanted, "{line:?}");
-    }
-    Ok(())
-}
 
 /// The worked script `server_and_clients`.
 const SERVER_AND_CLIENTS: [[&[u8]; 2]; 18] = [
@@ -165,43 +131,14 @@ const DIRECTORIES: [[&[u8]; 2]; 12] = [
 ];
 
 #[test]
-fn a_server_and_its_clients_are_answered(rt: HostRuntime) -> Result<(), Fail> {
-    assert_answers(&rt, rt.alloc(), &SERVER_AND_CLIENTS)?;
-    Ok(())
-}
-
-#[test]
-fn reads_that_wait_are_answered(rt: HostRuntime) -> Result<(), Fail> {
-    assert_answers(&rt, rt.alloc(), &WAITING)?;
-    Ok(())
-}
-
-#[test]
-fn a_critical_publisher_detaches(rt: HostRuntime) -> Result<(), Fail> {
-    assert_answers(&rt, rt.alloc(), &CRITICAL_PUBLISHER)?;
-    Ok(())
-}
-
-#[test]
-fn a_parked_read_is_closed(rt: HostRuntime) -> Result<(), Fail> {
-    assert_answers(&rt, rt.alloc(), &CLOSING_A_PARKED_READ)?;
-    Ok(())
-}
-
-#[test]
-fn changes_in_a_directory_are_told(rt: HostRuntime) -> Result<(), Fail> {
-    assert_answers(&rt, rt.alloc(), &DIRECTORY_DELTAS)?;
-    Ok(())
-}
-
-#[test]
-fn a_server_replaces_an_object(rt: HostRuntime) -> Result<(), Fail> {
-    assert_answers(&rt, rt.alloc(), &SERVER_REPLACES_AN_OBJECT)?;
-    Ok(())
-}
-
-#[test]
-fn directories_are_made_and_listed(rt: HostRuntime) -> Result<(), Fail> {
-    assert_answers(&rt, rt.alloc(), &DIRECTORIES)?;
+fn worked_scripts_are_answered(rt: HostRuntime) -> Result<(), Fail> {
+    let alloc = rt.alloc();
+    play_script(&rt, alloc, &SERVER_AND_CLIENTS)?;
+    play_script(&rt, alloc, &WAITING)?;
+    play_script(&rt, alloc, &CRITICAL_PUBLISHER)?;
+    play_script(&rt, alloc, &CLOSING_A_PARKED_READ)?;
+    play_script(&rt, alloc, &DIRECTORY_DELTAS)?;
+    play_script(&rt, alloc, &SERVER_REPLACES_AN_OBJECT)?;
+    play_script(&rt, alloc, &DIRECTORIES)?;
     Ok(())
 }

@@ -35,43 +35,39 @@ fn answer(alloc: Global, number: usize) -> Result<Result<Outcome, Refusal>, Allo
         })),
         10 => Ok(Outcome::Empty),
         11 => Err(Refusal::TooSmall { need: 16 }),
-        _ => Err(Refusal::NotFound),
+        12 => Err(Refusal::NotFound),
+        _ => Err(Refusal::BadFrame),
     })
 }
 
-/// The frames of these answers, to connection 7.
-const FRAMES: [&[u8]; 13] = [
-    b"\0\0\0\x03\0\x07\x01",
-    b"\0\0\0\x07\0\x07\x02\0\0\0\x01",
-    b"\0\0\0\x13\0\x07\x03@lamp\non:b:true\n",
-    b"\0\0\0\x07\0\x07\x04\0\0\0\x0a",
-    b"\0\0\0\x03\0\x07\x05",
-    b"\0\0\0\x04\0\x07\x06\x01",
-    b"\0\0\0\x04\0\x07\x06\0",
-    b"\0\0\0\x08\0\x07\x07\x05\0\0\x01\x2c",
-    b"\0\0\0\x08\0\x07\x08\0\0\0\x01a",
-    b"\0\0\0\x0c\0\x07\x09\0\0\0\x01\x0d\0\0\0\0",
-    b"\0\0\0\x03\0\x07\x0a",
-    b"\0\0\0\x08\0\x07\0\x13\0\0\0\x10",
-    b"\0\0\0\x08\0\x07\0\x07\0\0\0\0",
+/// The connections that these answers are for, and their frames. A malformed frame is answered by no connection.
+const FRAMES: [(u16, &[u8]); 14] = [
+    (7, b"\0\0\0\x03\0\x07\x01"),
+    (7, b"\0\0\0\x07\0\x07\x02\0\0\0\x01"),
+    (7, b"\0\0\0\x13\0\x07\x03@lamp\non:b:true\n"),
+    (7, b"\0\0\0\x07\0\x07\x04\0\0\0\x0a"),
+    (7, b"\0\0\0\x03\0\x07\x05"),
+    (7, b"\0\0\0\x04\0\x07\x06\x01"),
+    (7, b"\0\0\0\x04\0\x07\x06\0"),
+    (7, b"\0\0\0\x08\0\x07\x07\x05\0\0\x01\x2c"),
+    (7, b"\0\0\0\x08\0\x07\x08\0\0\0\x01a"),
+    (7, b"\0\0\0\x0c\0\x07\x09\0\0\0\x01\x0d\0\0\0\0"),
+    (7, b"\0\0\0\x03\0\x07\x0a"),
+    (7, b"\0\0\0\x08\0\x07\0\x13\0\0\0\x10"),
+    (7, b"\0\0\0\x08\0\x07\0\x07\0\0\0\0"),
+    (0, b"\0\0\0\x08\0\0\0\x02\0\0\0\0"),
 ];
 
-#[test]
-fn each_answer_has_its_frame(rt: HostRuntime) -> Result<(), Fail> {
-    let alloc = rt.alloc();
-    for (number, frame) in FRAMES.iter().enumerate() {
-        let encoded = encode_outcome(alloc, Conn::new(7), &answer(alloc, number)?)?;
-        assert_eq!(rt; encoded.as_slice(), *frame, "{number}");
-    }
-    Ok(())
+/// The frame of the answer of that number.
+fn encoded(alloc: Global, conn: u16, number: usize) -> Result<Vec<u8>, Refusal> {
+    encode_outcome(alloc, Conn::new(conn), &answer(alloc, number)?)
 }
 
 #[test]
-fn a_malformed_frame_is_answered_by_no_connection(rt: HostRuntime) -> Result<(), Fail> {
-    let encoded = encode_outcome(rt.alloc(), Conn::new(0), &Err(Refusal::BadFrame))?;
-    assert_eq!(rt;
-        encoded.as_slice(),
-        b"\0\0\0\x08\0\0\0\x02\0\0\0\0".as_slice()
-    );
+fn each_answer_has_its_frame(rt: HostRuntime) -> Result<(), Fail> {
+    for (number, (conn, frame)) in FRAMES.iter().enumerate() {
+        let encoded = encoded(rt.alloc(), *conn, number)?;
+        assert_eq!(rt; encoded.as_slice(), *frame, "{number}");
+    }
     Ok(())
 }

@@ -1,10 +1,13 @@
 //! Streams that are served.
 
+use crate::scripts::new_engine;
 use pps_engine::Engine;
 use pps_frame::{Ended, RunError, run};
 use pps_types::Device;
+use std::alloc::{AllocError, Global};
 use std::io;
 use std::io::{ErrorKind, Read, Write};
+use std::process::Abort;
 use std::test::Fail;
 
 /// The first path: one connection writes an object, and another reads it.
@@ -71,73 +74,104 @@ impl Write for Narrow {
     }
 }
 
-/// What a run over a stream answers and writes, with a reader of pieces of that size which may be read so often, and a
-/// writer that takes one byte a call and has room for so many.
+/// Serves a stream to an engine, with a reader that gives so many bytes a read and fails after so many reads, and a writer
+/// that takes one byte a call and has room for so many. Gives how that ended, and what was written.
 fn served(
-    rt: &HostRuntime,
+    alloc: Global,
+    engine: &mut Engine,
     bytes: &[u8],
     size: usize,
     reads: usize,
     room: usize,
-) -> Result<(Result<Ended, RunError>, Vec<u8>), Fail> {
-    let mut engine = Engine::new(rt.alloc())?;
+) -> (Result<Ended, RunError>, Vec<u8>) {
     let mut reader = Device::new(Slow { bytes, size, reads });
     let mut writer = Device::new(Narrow {
-        taken: Vec::new(rt.alloc()),
+        taken: Vec::new(alloc),
         room,
     });
-    let ended = run(rt.alloc(), &mut engine, &mut reader, &mut writer);
+    let ended = run(alloc, engine, &mut reader, &mut writer);
     let Narrow { taken, .. } = writer.into_inner();
-    Ok((ended, taken))
+    (ended, taken)
+}
+
+/// How a run has to end, and whether it has to write all of these answers.
+#[derive(Clone, Copy)]
+struct Wanted {
+    ended: Result<Ended, RunError>,
+    is_whole: bool,
+}
+
+/// Serves that to a new engine, and compares how it ends and what it writes.
+fn assert_served(
+    rt: &impl Abort,
+    alloc: Global,
+    bytes: &[u8],
+    devices: [usize; 3],
+    wanted: Wanted,
+    answers: &[u8],
+) -> Result<(), AllocError> {
+    let [size, reads, room] = devices;
+    let mut engine = new_engine(alloc)?;
+    let (ended, written) = served(alloc, &mut engine, bytes, size, reads, room);
+    assert_eq!(rt; ended, wanted.ended);
+    assert!(rt; answers.starts_with(written.as_slice()));
+    assert!(rt; !wanted.is_whole || written.len() == answers.len());
+    Ok(())
+}
+
+/// A run that ends so and writes all answers.
+fn whole(ended: Result<Ended, RunError>) -> Wanted {
+    Wanted {
+        ended,
+        is_whole: true,
+    }
 }
 
 #[test]
 fn each_frame_is_answered_by_one(rt: HostRuntime) -> Result<(), Fail> {
+    let wanted = whole(Ok(Ended::Clean));
     for size in [1, 7, 64, 1_000] {
-        let (ended, written) = served(&rt, REQUESTS, size, 1_000, 1_000)?;
-        assert_eq!(rt; ended, Ok(Ended::Clean));
-        assert_eq!(rt; written.as_slice(), ANSWERS);
+        let devices = [size, 1_000, 1_000];
+        assert_served(&rt, rt.alloc(), REQUESTS, devices, wanted, ANSWERS)?;
     }
     Ok(())
 }
 
 #[test]
 fn a_rest_and_a_malformed_frame_are_told(rt: HostRuntime) -> Result<(), Fail> {
-    let ends: [(&[u8], Ended); 4] = [
-        (b"", Ended::Clean),
-        (b"\0\0\0\x03\x01\0", Ended::Truncated),
-        (b"\0", Ended::Truncated),
-        (b"\0\0\0\0", Ended::Malformed),
+    let ends: [(&[u8], Ended, &[u8]); 4] = [
+        (b"", Ended::Clean, b""),
+        (b"\0\0\0\x03\x01\0", Ended::Truncated, BAD_FRAME),
+        (b"\0", Ended::Truncated, BAD_FRAME),
+        (b"\0\0\0\0", Ended::Malformed, BAD_FRAME),
     ];
-    for (bytes, wanted) in ends {
-        let (ended, written) = served(&rt, bytes, 1, 1_000, 1_000)?;
-        assert_eq!(rt; ended, Ok(wanted));
-        let told = if wanted == Ended::Clean {
-            b"".as_slice()
-        } else {
-            BAD_FRAME
-        };
-        assert_eq!(rt; written.as_slice(), told);
+    for (bytes, ended, told) in ends {
+        let wanted = whole(Ok(ended));
+        assert_served(&rt, rt.alloc(), bytes, [1, 1_000, 1_000], wanted, told)?;
     }
     Ok(())
 }
 
 #[test]
-fn a_writer_that_fails_has_a_part_of_the_answers(rt: HostRuntime) -> Result<(), Fail> {
+fn devices_that_fail_leave_the_first_answers(rt: HostRuntime) -> Result<(), Fail> {
+    let wanted = whole(Err(RunError::WriteFault));
     for room in 0..ANSWERS.len() {
-        let (ended, written) = served(&rt, REQUESTS, 1_000, 1_000, room)?;
-        assert_eq!(rt; ended, Err(RunError::WriteFault));
-        assert_eq!(rt; written.as_slice(), &ANSWERS[..room]);
+        let devices = [1_000, 1_000, room];
+        assert_served(&rt, rt.alloc(), REQUESTS, devices, wanted, &ANSWERS[..room])?;
     }
-    Ok(())
-}
-
-#[test]
-fn a_reader_that_fails_leaves_the_first_answers(rt: HostRuntime) -> Result<(), Fail> {
+    let wanted = Wanted {
+        ended: Err(RunError::ReadFault),
+        is_whole: false,
+    };
     for reads in 0..=REQUESTS.len() {
-        let (ended, written) = served(&rt, REQUESTS, 1, reads, 1_000)?;
-        assert_eq!(rt; ended, Err(RunError::ReadFault));
-        assert!(rt; ANSWERS.starts_with(written.as_slice()), "{reads}");
+        assert_served(
+            &rt,
+            rt.alloc(),
+            REQUESTS,
+            [1, reads, 1_000],
+            wanted,
+            ANSWERS,
+        )?;
     }
     Ok(())
 }
