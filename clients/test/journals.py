@@ -139,14 +139,16 @@ def crashes(folder, options):
             def end():
                 time.sleep(chance.random() * 0.2)
                 how = chance.random()
+                service = daemon_service(daemon)
                 if how < 0.1:
                     same(daemon.end(), 0)
-                elif how < 0.2:
-                    os.kill(daemon.service(), signal.SIGKILL)
-                    same(daemon.process.wait(PATIENCE), 137)
-                else:
-                    daemon.process.kill()
-                    daemon.process.wait()
+                    return
+                if how < 0.2:
+                    end_service(service)
+                    # (unless it was about to be replaced by another one, the daemon ends too)
+                    time.sleep(0.02)
+                daemon.process.kill()
+                daemon.process.wait()
 
             under_load(daemon, writers, end)
         if chance.random() < 0.3:
@@ -169,16 +171,9 @@ class Disk:
         self.put(dict(files))
         self.environment = {"LD_PRELOAD": OUT / "synced.so", "SYNCED": self.synced, "SYNCED_OF": self.files}
 
-    def await_end(self):
-        """Waits for the service of a daemon that was killed, which has the journal's lock until it has ended."""
-        lock = self.files / "journal.lock"
-        if lock.exists():
-            with open(lock, "rb") as held:
-                fcntl.flock(held, fcntl.LOCK_EX)
-
     def lose_power(self, chance):
         """What was written after is lost, or a part of it is, or is there as zeros."""
-        self.await_end()
+        wait_for_lock(self.files)
         names = self.synced / "names"
         left = {}
         for line in names.read_text().splitlines() if names.exists() else []:
@@ -256,15 +251,20 @@ def daemon_service(daemon):
 
 
 def end_service(number):
-    """Kills the service of a killed daemon, and waits until it is gone."""
-    if number is None:
-        return
-    files = Path(f"/proc/{number}/fd")
+    """Kills the service of a killed daemon."""
     try:
-        os.kill(number, signal.SIGKILL)
-        until(lambda: not os.listdir(files), "a killed process is still there")
-    except (ProcessLookupError, FileNotFoundError):
+        if number is not None:
+            os.kill(number, signal.SIGKILL)
+    except ProcessLookupError:
         pass
+
+
+def wait_for_lock(folder):
+    """Waits until no service of a killed daemon is left."""
+    lock = folder / "journal.lock"
+    if lock.exists():
+        with open(lock, "rb") as file:
+            fcntl.flock(file, fcntl.LOCK_EX)
 
 
 def small_journal(folder):
@@ -278,6 +278,7 @@ def small_journal(folder):
         daemon.process.kill()
         daemon.process.wait()
         end_service(service)
+    wait_for_lock(folder)
     texts = [None, None]
     texts += [b"@gps\n" + b"".join(b"a%d:n:%d\n" % (each, each) for each in range(count)) for count in range(7)]
     return (folder / "journal").read_bytes(), (folder / "image").read_bytes(), texts

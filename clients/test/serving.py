@@ -487,6 +487,7 @@ def images(folder, _):
     same(image.read_text(), "PPSIMAGE 2 256\nO /gps 1\nspeed:n:70\nE 1\n")
     # (a socket that was left is replaced, and a killed daemon's service saves)
     with Daemon(folder, "--limit", "3", "--save", image) as daemon:
+        daemon.attached()
         daemon.process.kill()
         daemon.process.wait()
     until(lambda: image.read_text() == "PPSIMAGE 2 3\nE 0\n", "a killed daemon's service does not save")

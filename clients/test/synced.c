@@ -34,13 +34,11 @@ static void name_in(char *path, const char *folder, const char *name) {
     snprintf(path, PATH_ROOM, "%s/%s", folder, name);
 }
 
+/* Where a process puts what takes the place of a file of $SYNCED. */
+static void name_made(char *path) { snprintf(path, PATH_ROOM, "%s/made.%ld", getenv("SYNCED"), (long)getpid()); }
+
 static void name_of_inode(char *path, ino_t number) {
     snprintf(path, PATH_ROOM, "%s/%llu", getenv("SYNCED"), (unsigned long long)number);
-}
-
-/* What is being made in $SYNCED by this process; others may be at it too. */
-static void name_of_made(char *path) {
-    snprintf(path, PATH_ROOM, "%s/made.%ld", getenv("SYNCED"), (long)getpid());
 }
 
 /* A file of $SYNCED is replaced as a whole, so that it is never half of something. */
@@ -54,7 +52,7 @@ static void copy_file(int from, ino_t number) {
     ssize_t got;
     name_of_inode(path, number);
     snprintf(own, sizeof own, "/proc/self/fd/%d", from);
-    name_of_made(made);
+    name_made(made);
     int source = next_open(own, O_RDONLY | O_CLOEXEC, 0);
     int copy = next_open(made, O_WRONLY | O_CREAT | O_TRUNC | O_CLOEXEC, 0600);
     if (source < 0 || copy < 0) fail("open");
@@ -71,7 +69,7 @@ static void copy_names(const char *folder) {
     char path[PATH_ROOM], made[PATH_ROOM];
     struct stat found;
     name_in(path, getenv("SYNCED"), "names");
-    name_of_made(made);
+    name_made(made);
     DIR *names = opendir(folder);
     FILE *list = fopen(made, "we");
     if (!names || !list) fail("open");

@@ -1,7 +1,8 @@
 //! The works of `pps_bench`, written by hand in plain Rust. The first word names the work, the second how often. The work
-//! `image` takes two files in its place: it loads the image in the first, and saves it to the second.
+//! `image` takes two files in its place: it loads the image in the first, and saves it to the second. The work `service` runs a script.
 mod images;
 mod objects;
+mod service;
 mod trees;
 
 use std::env::args;
@@ -210,6 +211,10 @@ fn match_often(rounds: u32) -> Option<u64> {
 
 fn main() {
     let words: Vec<String> = args().collect();
+    if words[1..] == ["service"] {
+        service::run().expect("a script, and an output that takes the answers");
+        return;
+    }
     if let [_, work, from, to] = words.as_slice() {
         assert_eq!(work, "image");
         images::load_and_save(from, to).expect("an image, and a place for another");
