@@ -256,7 +256,7 @@ static void write_answers(struct server *server) {
         struct client *client = server->dirty[i];
         client->is_dirty = false;
         client_flush(client);
-        if (client->is_paused) server_make_ready(server, client);
+        if (client->is_paused && !client->is_leaving) server_make_ready(server, client);
         if (!client->has_left || client->is_ready || bytes_length(&client->out) > 0) continue;
         server->clients[client->number] = NULL;
         client_free(client);

@@ -67,6 +67,17 @@ class Daemon:
         self.process.terminate()
         return self.process.wait(PATIENCE)
 
+    def check_idle(self):
+        """Whether it does nothing while nothing happens."""
+
+        def ticks():
+            return sum(int(word) for word in Path(f"/proc/{self.process.pid}/stat").read_text().split()[13:15])
+
+        time.sleep(0.1)
+        before = ticks()
+        time.sleep(0.2)
+        assert ticks() - before < 5, "the daemon is busy although nothing happens"
+
     def service(self):
         """The process of the service."""
         number = self.process.pid

@@ -523,6 +523,7 @@ def shortened(folder, _):
             assert journal.stat().st_size > HEADER
             client.close()
             until(lambda: journal.stat().st_size == HEADER, "the journal is not made short")
+        daemon.check_idle()
         same(observer.ask(LIST, b"/"), refusal(NOT_ATTACHED))
         same(observer.ask(ATTACH), (DONE, b""))
         same(observer.ask(LIST, b"/"), (DATA, b"o0\no1\no2\n"))

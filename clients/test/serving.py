@@ -104,6 +104,7 @@ def waits(folder, _):
         cancelled_waits(daemon)
         woken_waits(daemon)
         reattached_waits(daemon)
+        daemon.check_idle()
         same(daemon.end(), 0)
     return "given, refused, cancelled, woken by each kind"
 
@@ -359,6 +360,7 @@ def malformed(folder, _):
             client.rest()
             same(other.ask(LIST, b"/"), (DATA, b""))
             count += 1
+        daemon.check_idle()
         same(daemon.end(), 0)
     return f"{count} streams"
 
@@ -393,6 +395,7 @@ def slow(folder, _):
         assert not left, "a client that does not read is kept"
         until(lambda: other.ask(LIST, b"/") == (DATA, b"large\n"), "handles of detached clients are left")
         same(daemon.errors.read_text().count("does not read, and is detached"), len(stuck))
+        daemon.check_idle()
         read_slowly(daemon, text)
         # (a client that reads gets an answer that is far longer than the buffer)
         other.ask(MKDIR, b"/d")
