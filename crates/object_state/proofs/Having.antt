@@ -1,5 +1,5 @@
 -- Whether an attribute of a name is there.
-use Rattle.std.proofs.Common.{◌≡◌, Bool, true, false, cond, ◌||◌, List, [], ◌∷◌, ℕ, refl, sym, ap, ◌∙◌, nat_eq}
+use Rattle.std.proofs.Common.{◌≡◌, Bool, true, false, cond, ◌||◌, List, [], ◌∷◌, ℕ, refl, nat_eq}
 use Rattle.std.specs.Prelude.{is_some, Some}
 use Rattle.std.specs.Map.{lookup}
 use Rattle.std.specs.List.{list_any}
@@ -8,7 +8,7 @@ use Rattle.pps_types.specs.Bytes.{same}
 use Rattle.pps_types.specs.History.{Attribute}
 use Rattle.text_parts.proofs.Same.{same-sym}
 use Rattle.object_state.specs.declared.content.Content.{Content}
-use Rattle.object_state.specs.Entries.{attribute_of, attributes_of}
+use Rattle.object_state.specs.Entries.{attributes_of}
 
 pub has-key : (k : List ℕ) (es : List (List ℕ × Content)) → is_some (lookup (pointwise nat_eq k) es) ≡ list_any (λ (a : Attribute). same a.name k) (attributes_of es)
 has-key k [] = refl

@@ -5,3 +5,4 @@ pub mod Entries
 pub mod Foretold
 pub mod Dropping
 pub mod Having
+pub mod ByOrder

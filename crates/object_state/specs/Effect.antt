@@ -1,5 +1,6 @@
 -- What lines make of attributes, told of each name.
 use Rattle.std.specs.Prelude.{ℕ, ◌≡◌, List, [], ◌∷◌, Bool, if◌then◌else◌, Option, Some, None, unwrap_or, length}
+use Rattle.std.specs.Map.{lookup}
 use Rattle.pps_types.specs.Bytes.{same}
 use Rattle.pps_types.specs.History.{Attribute, line_of, is_marked, text_length}
 use Rattle.pps_types.specs.Text.{print_line}
@@ -21,6 +22,10 @@ length_at = of_named printed_length
 abbrev pub AreDistinct : List Attribute → Type 0
 AreDistinct [] = Unit {0}
 AreDistinct (a ∷ rest) = (length_at a.name rest ≡ None) × AreDistinct rest
+
+-- what was noted of that name
+abbrev pub noted_in : {X : Type 0} → List (List ℕ × X) → List ℕ → Option X
+noted_in notes name = lookup (same name) notes
 
 -- what stands now: what was noted, or else what stood before
 abbrev pub noted_or : {X : Type 0} → Option X → X → X

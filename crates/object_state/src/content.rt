@@ -8,7 +8,8 @@ use std::alloc::AllocError;
 
 /// The attributes of an object by their names, in order.
 ///
-/// The hasher's seed is fixed: an object has at most 1,024 names.
+/// The hasher's seed is fixed. Names that are chosen to collide make a look-up look at each attribute: at most 1,024
+/// between two writes, and while lines are applied as many more as they have made by then.
 pub(crate) type Attributes = IndexMap<Name, Content>;
 
 /// The encoding and the value of an attribute. Where `n` is true it is nonpersistent.

@@ -1,17 +1,15 @@
 //! What lines would make of attributes, told without changing them.
-ghost use Rattle.std.specs.Prelude.{◌≡◌, ℕ, ◌+◌, ◌-◌, ◌≤◌, ◌<◌, ◌^◌, List, IfOk, OnOk, Some, if◌then◌else◌, fold, length, nat_eq};
-ghost use lib.Pointwise.{pointwise};
-ghost use Rattle.indexmap.specs.IndexMap.{get};
+ghost use Rattle.std.specs.Prelude.{◌≡◌, ℕ, ◌+◌, ◌-◌, ◌≤◌, ◌<◌, ◌^◌, List, IfOk, OnOk, Some, if◌then◌else◌, fold, length};
 ghost use Rattle.pps_types.specs.Bytes.{same};
 ghost use Rattle.pps_types.specs.History as history;
 ghost use Rattle.pps_types.specs.Text as text;
-ghost use Rattle.object_state.specs.Effect.{length_at, noted_or, count_of as counted, bytes_of, Foretells};
+ghost use Rattle.object_state.specs.Effect.{length_at, noted_in, noted_or, count_of as counted, bytes_of, Foretells};
 ghost use Rattle.object_state.specs.Entries.{attributes_of};
 ghost use Rattle.object_state.specs.Limits.{is_past_limits};
 
 use crate::content::Attributes;
+use crate::noted::{Noted, OrderedName};
 use attr_text::{line_len, passes_limits};
-use indexmap::IndexMap;
 use pps_filter::Name;
 use pps_types::Line;
 use std::alloc::{AllocError, Global};
@@ -20,7 +18,7 @@ use std::alloc::{AllocError, Global};
 /// named, how long its own would be.
 #[derive(Drop)]
 struct Effect {
-    noted: IndexMap<Name, Option<usize>>,
+    noted: Noted<Option<usize>>,
     count: usize,
     text_len: usize,
 }
@@ -46,32 +44,26 @@ fn len_before(map: &Attributes, name: &Name) -> Option<usize>
     }
 }
 
-// How long it would be.
-fn len_of(noted: &IndexMap<Name, Option<usize>>, map: &Attributes, name: &Name) -> Option<usize>
-    requires { history.text_length (attributes_of map.now.entries) < 2 ^ 64 }
-    ensures { result ≡ noted_or (get (pointwise nat_eq) noted.now name.now) (length_at name.now (attributes_of map.now.entries)) }
-{
-    match noted.get(name) {
-        None => len_before(map, name),
-        Some(len) => *len,
-    }
-}
-
 impl Effect {
     // Notes how long the printed line of the attribute of that name would be.
-    fn note(&mut self, map: &Attributes, name: Name, len: Option<usize>) -> Result<(), AllocError>
+    fn note(
+        &mut self,
+        map: &Attributes,
+        name: OrderedName,
+        len: Option<usize>,
+    ) -> Result<(), AllocError>
         requires text { history.text_length (attributes_of map.now.entries) < 2 ^ 64 }
         requires counts { self.old.count + 1 < 2 ^ 64 }
         requires fits { self.old.text_len + bytes_of len < 2 ^ 64 }
-        ensures noted { OnOk result ((q : List ℕ) → get (pointwise nat_eq) self.new.noted q
-            ≡ (if same name q then Some len else get (pointwise nat_eq) self.old.noted q)) }
+        ensures noted { OnOk result ((q : List ℕ) → noted_in self.new.noted q
+            ≡ (if same name q then Some len else noted_in self.old.noted q)) }
         ensures count { OnOk result (self.new.count
-            ≡ self.old.count + counted len - counted (noted_or (get (pointwise nat_eq) self.old.noted name) (length_at name (attributes_of map.now.entries)))) }
+            ≡ self.old.count + counted len - counted (noted_or (noted_in self.old.noted name) (length_at name (attributes_of map.now.entries)))) }
         ensures text_len { OnOk result (self.new.text_len
-            ≡ self.old.text_len + bytes_of len - bytes_of (noted_or (get (pointwise nat_eq) self.old.noted name) (length_at name (attributes_of map.now.entries)))) }
+            ≡ self.old.text_len + bytes_of len - bytes_of (noted_or (noted_in self.old.noted name) (length_at name (attributes_of map.now.entries)))) }
     {
-        let before = len_of(&self.noted, map, &name);
-        self.noted.insert(name, len)?;
+        let at_first = len_before(map, name.as_name());
+        let before = self.noted.insert(name, len)?.unwrap_or(at_first);
         self.count = (self.count + count_of(len)).saturating_sub(count_of(before));
         self.text_len = (self.text_len + len.unwrap_or(0)).saturating_sub(before.unwrap_or(0));
         Ok(())
@@ -82,17 +74,17 @@ impl Effect {
         requires counts { self.old.count + 1 < 2 ^ 64 }
         requires fits { self.old.text_len + length (text.print_line line.now) < 2 ^ 64 }
         ensures { OnOk result ((after : List history.Attribute)
-            → Foretells (get (pointwise nat_eq) self.old.noted) self.old.count self.old.text_len (attributes_of map.now.entries) after
-            → Foretells (get (pointwise nat_eq) self.new.noted) self.new.count self.new.text_len (attributes_of map.now.entries) (history.apply_line after line.now)) }
+            → Foretells (noted_in self.old.noted) self.old.count self.old.text_len (attributes_of map.now.entries) after
+            → Foretells (noted_in self.new.noted) self.new.count self.new.text_len (attributes_of map.now.entries) (history.apply_line after line.now)) }
     {
         match line {
             Line::Set { name, .. } => {
-                let name = Name::new(name.copy()?);
+                let name = OrderedName::new(name.copy()?);
                 self.note(map, name, line_len(line))?;
                 Ok(())
             }
             Line::Del { name } => {
-                let name = Name::new(name.copy()?);
+                let name = OrderedName::new(name.copy()?);
                 self.note(map, name, None)?;
                 Ok(())
             }
@@ -113,7 +105,7 @@ pub(crate) fn would_pass_limits(
     ensures { IfOk result (λ passes. passes ≡ is_past_limits (fold history.apply_line (attributes_of map.now.entries) lines.now)) }
 {
     let mut effect = Effect {
-        noted: IndexMap::new(alloc),
+        noted: Noted::new(alloc),
         count: map.len(),
         text_len,
     };

@@ -7,6 +7,7 @@ mod effect;
 mod lent;
 mod lines;
 mod marks;
+mod noted;
 mod object;
 mod places;
 mod print;

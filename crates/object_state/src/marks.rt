@@ -1,15 +1,13 @@
 //! What the lines of a write come to: their marks, resolved.
-ghost use Rattle.std.specs.Prelude.{◌≡◌, ℕ, List, true, false, IfOk, OnOk, nat_eq};
-ghost use lib.Pointwise.{pointwise};
-ghost use Rattle.indexmap.specs.IndexMap.{get};
+ghost use Rattle.std.specs.Prelude.{◌≡◌, ℕ, List, true, false, IfOk, OnOk};
 ghost use Rattle.pps_types.specs.History as history;
-ghost use Rattle.object_state.specs.Effect.{noted_or, ForetellsMarks};
+ghost use Rattle.object_state.specs.Effect.{noted_in, noted_or, ForetellsMarks};
 ghost use Rattle.object_state.specs.Entries.{attributes_of};
 
 use crate::content::Attributes;
-use indexmap::IndexMap;
+use crate::noted::{Noted, OrderedName};
 use pps_filter::Name;
-use pps_types::{Line, WriteLine};
+use pps_types::{Bytes, Line, WriteLine};
 use std::alloc::{AllocError, Global};
 
 // Whether an attribute of that name is there and nonpersistent.
@@ -22,29 +20,35 @@ fn was_marked(map: &Attributes, name: &Name) -> bool
     }
 }
 
-// Whether one is by then, by the notes or else by the map. Where there are no notes, they are not asked.
-fn is_marked(noted: &IndexMap<Name, bool>, map: &Attributes, name: &Name) -> bool
-    ensures { result ≡ noted_or (get (pointwise nat_eq) noted.now name.now) (history.is_marked name.now (attributes_of map.now.entries)) }
-{
-    if noted.is_empty() {
-        return was_marked(map, name);
-    }
-    match noted.get(name) {
-        None => was_marked(map, name),
-        Some(n) => *n,
-    }
+/// A name, and whether an attribute of it is by then there and nonpersistent.
+#[derive(Drop)]
+struct Marked {
+    name: Bytes,
+    n: bool,
 }
 
-// Whether a line that deletes changes the mark of its name. Behind the last line nobody needs to know, and it is not asked.
-fn deletion_changes(
-    noted: &IndexMap<Name, bool>,
-    map: &Attributes,
-    name: &Name,
-    is_last: bool,
-) -> bool
-    ensures { is_last ≡ false → result ≡ noted_or (get (pointwise nat_eq) noted.now name.now) (history.is_marked name.now (attributes_of map.now.entries)) }
+// Tells it by the notes or else by the map. Where there are no notes, they are not asked.
+fn with_mark(noted: &Noted<bool>, map: &Attributes, name: Bytes) -> Marked
+    ensures name { result.name ≡ name }
+    ensures mark { result.n ≡ noted_or (noted_in noted.now name) (history.is_marked name (attributes_of map.now.entries)) }
 {
-    !is_last && is_marked(noted, map, name)
+    if noted.is_empty() {
+        let name = Name::new(name);
+        let n = was_marked(map, &name);
+        return Marked {
+            name: name.into_bytes(),
+            n,
+        };
+    }
+    let name = OrderedName::new(name);
+    let n = match noted.get(&name) {
+        None => was_marked(map, name.as_name()),
+        Some(n) => *n,
+    };
+    Marked {
+        name: name.into_bytes(),
+        n,
+    }
 }
 
 /// What a line of a write comes to, and whether it changes the mark of its name, where another line follows.
@@ -55,16 +59,11 @@ struct Resolved {
 }
 
 // The line that a line of a write comes to.
-fn resolve_line(
-    noted: &IndexMap<Name, bool>,
-    map: &Attributes,
-    line: WriteLine,
-    is_last: bool,
-) -> Resolved
+fn resolve_line(noted: &Noted<bool>, map: &Attributes, line: WriteLine, is_last: bool) -> Resolved
     ensures line { (after : List history.Attribute)
-        → ForetellsMarks (get (pointwise nat_eq) noted.now) (attributes_of map.now.entries) after → result.line ≡ history.resolved after line }
+        → ForetellsMarks (noted_in noted.now) (attributes_of map.now.entries) after → result.line ≡ history.resolved after line }
     ensures stays { (after : List history.Attribute) → is_last ≡ false → result.changes ≡ false
-        → ForetellsMarks (get (pointwise nat_eq) noted.now) (attributes_of map.now.entries) after → ForetellsMarks (get (pointwise nat_eq) noted.now) (attributes_of map.now.entries) (history.apply_line after result.line) }
+        → ForetellsMarks (noted_in noted.now) (attributes_of map.now.entries) after → ForetellsMarks (noted_in noted.now) (attributes_of map.now.entries) (history.apply_line after result.line) }
 {
     match line {
         WriteLine::Set {
@@ -73,12 +72,11 @@ fn resolve_line(
             value,
             mark,
         } => {
-            let name = Name::new(name);
-            let before = is_marked(noted, map, &name);
+            let Marked { name, n: before } = with_mark(noted, map, name);
             let n = mark.applied_to(before);
             Resolved {
                 line: Line::Set {
-                    name: name.into_bytes(),
+                    name,
                     enc,
                     value,
                     n,
@@ -86,13 +84,15 @@ fn resolve_line(
                 changes: n != before,
             }
         }
+        // After the last line nobody needs the mark, and it is not asked for.
+        WriteLine::Del { name } if is_last => Resolved {
+            line: Line::Del { name },
+            changes: false,
+        },
         WriteLine::Del { name } => {
-            let name = Name::new(name);
-            let changes = deletion_changes(noted, map, &name, is_last);
+            let Marked { name, n: changes } = with_mark(noted, map, name);
             Resolved {
-                line: Line::Del {
-                    name: name.into_bytes(),
-                },
+                line: Line::Del { name },
                 changes,
             }
         }
@@ -100,30 +100,26 @@ fn resolve_line(
 }
 
 // Notes what a line makes of the mark of its name.
-fn note(noted: &mut IndexMap<Name, bool>, line: &Line) -> Result<(), AllocError>
+fn note(noted: &mut Noted<bool>, line: &Line) -> Result<(), AllocError>
     ensures { OnOk result ((before after : List history.Attribute)
-        → ForetellsMarks (get (pointwise nat_eq) noted.old) before after → ForetellsMarks (get (pointwise nat_eq) noted.new) before (history.apply_line after line.now)) }
+        → ForetellsMarks (noted_in noted.old) before after → ForetellsMarks (noted_in noted.new) before (history.apply_line after line.now)) }
 {
     match line {
         Line::Set { name, n, .. } => {
-            noted.insert(Name::new(name.copy()?), *n)?;
+            noted.insert(OrderedName::new(name.copy()?), *n)?;
             Ok(())
         }
         Line::Del { name } => {
-            noted.insert(Name::new(name.copy()?), false)?;
+            noted.insert(OrderedName::new(name.copy()?), false)?;
             Ok(())
         }
     }
 }
 
 // The same, where it has to be noted.
-fn note_where(
-    changes: bool,
-    noted: &mut IndexMap<Name, bool>,
-    line: &Line,
-) -> Result<(), AllocError>
+fn note_where(changes: bool, noted: &mut Noted<bool>, line: &Line) -> Result<(), AllocError>
     ensures noted { OnOk result (changes ≡ true → (before after : List history.Attribute)
-        → ForetellsMarks (get (pointwise nat_eq) noted.old) before after → ForetellsMarks (get (pointwise nat_eq) noted.new) before (history.apply_line after line.now)) }
+        → ForetellsMarks (noted_in noted.old) before after → ForetellsMarks (noted_in noted.new) before (history.apply_line after line.now)) }
     ensures unchanged { changes ≡ false → noted.new ≡ noted.old }
 {
     if !changes {
@@ -143,7 +139,7 @@ pub(crate) fn resolve(
     ensures { IfOk result (λ made. made.items ≡ history.resolve (attributes_of map.now.entries) lines.items) }
 {
     let count = lines.len();
-    let mut noted = IndexMap::new(alloc);
+    let mut noted = Noted::new(alloc);
     let mut made = Vec::with_capacity(alloc, count)?;
     'lines: for line in lines {
         let is_last = made.len() + 1 == count;

@@ -3,6 +3,7 @@
 #![tactic(auto)]
 
 mod objects;
+mod texts;
 mod trees;
 
 use attr_text::{print_line, read_write};
@@ -11,6 +12,7 @@ use pps_filter::read_filter;
 use pps_types::{Bytes, Line, Refusal};
 use std::alloc::{AllocError, Global};
 use std::{env, io};
+use texts::{Choice, write_names_often, write_text_often};
 use trees::{change_often, find_often};
 
 /// That line so many times.
@@ -100,6 +102,10 @@ fn done(alloc: Global, work: &str, rounds: u32) -> Result<u64, Refusal> {
         "write_1_of_1000" => write_often(alloc, 1_000, 1, rounds),
         "write_8_of_1000" => write_often(alloc, 1_000, 8, rounds),
         "write_64_of_1000" => write_often(alloc, 1_000, 64, rounds),
+        "write_line" => write_text_often(alloc, b"speed:n:123\n", rounds),
+        "write_marks" => write_text_often(alloc, b"[n]a::1\n[-n]a::2\n[n]a::3\n-a\n", rounds),
+        "write_colliding" => write_names_often(alloc, Choice::Colliding, rounds),
+        "write_others" => write_names_often(alloc, Choice::Any, rounds),
         "print_10" => print_object_often(alloc, 10, rounds),
         "print_1000" => print_object_often(alloc, 1_000, rounds),
         "print_3_of_1000" => print_some_often(alloc, 1_000, rounds),

@@ -1,10 +1,7 @@
 use Rattle.std.proofs.Common.{◌≡◌, ◌∙◌, Bool, true, false, not, refl, sym, ap}
-use lib.Pointwise.{pointwise}
-use Rattle.std.specs.Prelude.{nat_eq}
 use mathlib.Core.Bool.{beq}
-use Rattle.indexmap.specs.IndexMap.{get}
 use Rattle.pps_types.specs.History.{Attribute, is_marked}
-use Rattle.object_state.specs.Effect.{noted_or}
+use Rattle.object_state.specs.Effect.{noted_in, noted_or}
 use Rattle.object_state.specs.Entries.{attributes_of}
 use Rattle.object_state.proofs.Foretold.{stays-put, stays-cut}
 use Rattle.object_state.proofs.marks.resolve_line.Goals as goal
@@ -17,15 +14,15 @@ unchanged false true e = absurd (let bad = e in cc)
 
 pub returns-in-Set-clause-stays : goal.returns-in-Set-clause-stays
 returns-in-Set-clause-stays c = λ after follows same told.
-    let noted = get (pointwise nat_eq) c.args.noted.now in
+    let noted = noted_in c.args.noted.now in
     let before = attributes_of c.args.map.now.entries in
-    let a : Attribute = record { name = c.into_bytes.result; enc = c.in-Set.enc; value = c.in-Set.value; n = c.applied_to-n.result } in
+    let a : Attribute = record { name = c.with_mark-name.result.name; enc = c.in-Set.enc; value = c.in-Set.value; n = c.applied_to-n.result } in
     stays-put noted before after told a
-    (unchanged c.applied_to-n.result c.is_marked-before.result same ∙ c.is_marked-before.ensures ∙ ap (λ m. noted_or (noted m) (is_marked m before)) (sym c.into_bytes.ensures))
+    (unchanged c.applied_to-n.result c.with_mark-name.result.n same ∙ c.with_mark-name.ensures.mark ∙ ap (λ m. noted_or (noted m) (is_marked m before)) (sym c.with_mark-name.ensures.name))
 
-pub returns-in-Del-clause-stays : goal.returns-in-Del-clause-stays
-returns-in-Del-clause-stays c = λ after follows same told.
-    let noted = get (pointwise nat_eq) c.args.noted.now in
+pub returns-in-Del-2-clause-stays : goal.returns-in-Del-2-clause-stays
+returns-in-Del-2-clause-stays c = λ after follows same told.
+    let noted = noted_in c.args.noted.now in
     let before = attributes_of c.args.map.now.entries in
-    stays-cut noted before after told c.into_bytes-in-Del.result
-    (ap (λ m. noted_or (noted m) (is_marked m before)) c.into_bytes-in-Del.ensures ∙ sym (c.deletion_changes-changes.ensures follows) ∙ same)
+    stays-cut noted before after told c.with_mark-name-in-Del-2.result.name
+    (ap (λ m. noted_or (noted m) (is_marked m before)) c.with_mark-name-in-Del-2.ensures.name ∙ sym c.with_mark-name-in-Del-2.ensures.mark ∙ same)

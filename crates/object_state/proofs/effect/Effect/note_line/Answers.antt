@@ -1,10 +1,8 @@
-use Rattle.std.proofs.Common.{◌∙◌, sym, ap, subst, refl, nat_eq, length, Some, arith}
-use lib.Pointwise.{pointwise}
-use Rattle.indexmap.specs.IndexMap.{get}
+use Rattle.std.proofs.Common.{◌∙◌, sym, ap, subst, refl, length, Some, arith}
 use Rattle.pps_types.specs.declared.line.Line.{Line}
 use Rattle.pps_types.specs.History.{Attribute, apply_line}
 use Rattle.pps_types.specs.Text.{print_line}
-use Rattle.object_state.specs.Effect.{Foretells}
+use Rattle.object_state.specs.Effect.{noted_in, Foretells}
 use Rattle.object_state.specs.Entries.{attributes_of}
 use Rattle.object_state.proofs.Foretold.{Foretells-set, Foretells-del, printed-some}
 use Rattle.object_state.proofs.effect.Effect.note_line.Goals as goal
@@ -13,8 +11,8 @@ pub returns-in_ok-note-in-Set : goal.returns-in_ok-note-in-Set
 returns-in_ok-note-in-Set c = λ after told.
     let a : Attribute = record { name = c.in-Set.name; enc = c.in-Set.enc; value = c.in-Set.value; n = c.in-Set.n } in
     let before = attributes_of c.args.map.now.entries in
-    subst (λ (l : Line). Foretells (get (pointwise nat_eq) c.note.new.self.noted) c.note.new.self.count c.note.new.self.text_len before (apply_line after l)) (sym c.in-Set.is)
-    (Foretells-set (get (pointwise nat_eq) c.args.self.now.noted) (get (pointwise nat_eq) c.note.new.self.noted) c.args.self.now.count c.args.self.now.text_len c.note.new.self.count c.note.new.self.text_len
+    subst (λ (l : Line). Foretells (noted_in c.note.new.self.noted) c.note.new.self.count c.note.new.self.text_len before (apply_line after l)) (sym c.in-Set.is)
+    (Foretells-set (noted_in c.args.self.now.noted) (noted_in c.note.new.self.noted) c.args.self.now.count c.args.self.now.text_len c.note.new.self.count c.note.new.self.text_len
     before after c.new-name.result c.line_len.result c.in_ok-note-in-Set.ensures.noted c.in_ok-note-in-Set.ensures.count c.in_ok-note-in-Set.ensures.text_len told a
     (c.new-name.ensures ∙ c.in_ok-copy-in-Set.ensures)
     (printed-some c.line_len.result c.args.line.now c.line_len.ensures.some c.line_len.ensures.none (omega arith) ∙ ap (λ l. Some (length (print_line l))) c.in-Set.is))
@@ -22,7 +20,7 @@ returns-in_ok-note-in-Set c = λ after told.
 pub returns-in_ok-note-in-Del : goal.returns-in_ok-note-in-Del
 returns-in_ok-note-in-Del c = λ after told.
     let before = attributes_of c.args.map.now.entries in
-    subst (λ (l : Line). Foretells (get (pointwise nat_eq) c.note-in-Del.new.self.noted) c.note-in-Del.new.self.count c.note-in-Del.new.self.text_len before (apply_line after l)) (sym c.in-Del.is)
-    (Foretells-del (get (pointwise nat_eq) c.args.self.now.noted) (get (pointwise nat_eq) c.note-in-Del.new.self.noted) c.args.self.now.count c.args.self.now.text_len c.note-in-Del.new.self.count c.note-in-Del.new.self.text_len
+    subst (λ (l : Line). Foretells (noted_in c.note-in-Del.new.self.noted) c.note-in-Del.new.self.count c.note-in-Del.new.self.text_len before (apply_line after l)) (sym c.in-Del.is)
+    (Foretells-del (noted_in c.args.self.now.noted) (noted_in c.note-in-Del.new.self.noted) c.args.self.now.count c.args.self.now.text_len c.note-in-Del.new.self.count c.note-in-Del.new.self.text_len
     before after c.new-name-in-Del.result _ c.in_ok-note-in-Del.ensures.noted c.in_ok-note-in-Del.ensures.count c.in_ok-note-in-Del.ensures.text_len told c.in-Del.name
     (c.new-name-in-Del.ensures ∙ c.in_ok-copy-in-Del.ensures) refl)
