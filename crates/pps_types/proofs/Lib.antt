@@ -25,6 +25,7 @@ pub mod FrameEvents
 pub mod FrameStreams
 pub mod ImageStarts
 pub mod KnownBytes
+pub mod Writing
 pub mod TextLaws
 pub mod Views
 pub mod Settlings

@@ -1,6 +1,8 @@
 pub mod Refusal
 pub mod Outcome
 pub mod Device
+pub mod Writing
+pub mod Exchange
 pub mod Bytes
 pub mod HeldBytes
 pub mod Text

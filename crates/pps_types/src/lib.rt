@@ -5,6 +5,7 @@
 mod bytes;
 mod device;
 mod event;
+mod exchange;
 mod found;
 mod handle_kind;
 mod laws;
@@ -21,8 +22,9 @@ mod shared;
 mod shown;
 
 pub use bytes::Bytes;
-pub use device::Device;
+pub use device::{Device, WriteFault};
 pub use event::{Action, Event, Mode, Request};
+pub use exchange::{AnswerFault, Exchange};
 pub use found::Found;
 pub use handle_kind::HandleKind;
 pub use laws::{

@@ -1,0 +1,135 @@
+-- What became of a script, once all that was held is sent.
+use Rattle.std.proofs.Common.{◌≡◌, ◌+◌, ℕ, length, min, take, Bool, true, false, List, [], ◌∷◌, ◌++◌, Option, Some, None, Result, Ok, Err, append-nil, refl, sym, ap, subst, ◌∙◌, arith}
+use Rattle.std.proofs.Math.Seq.{take-length}
+use Rattle.std.specs.Io.KnownBytes.{Appends, Consumes}
+use Rattle.pps_types.specs.Content.{Content}
+use Rattle.pps_types.specs.Text.{lines_of}
+use Rattle.pps_types.specs.Writing.{SendsPart, Holds}
+use Rattle.pps_types.specs.Runs.{Answered, events_of}
+use Rattle.pps_types.specs.Stands.{RunsSeen}
+use Rattle.pps_types.proofs.KnownBytes.{Appends-same, Consumes-none, keeps_itself}
+use Rattle.pps_types.proofs.StandsLaw.{runs-stand}
+use Rattle.pps_types.proofs.Writing.{holds-part, holds-sent, part-more}
+use Rattle.pps_script.specs.declared.fault.ScriptFault.{ScriptFault}
+use Rattle.pps_script.specs.declared.fault.ScriptFault.TheVariants.{BadLine, OutOfMemory, ReadFault, WriteFault}
+use Rattle.pps_script.specs.Script.{Script, script_of, answers_of}
+use Rattle.pps_script.specs.Served.{Serves, AnswersAll, AnswersUntil, AnswersWhole, AnswersFirst, Ran}
+use Rattle.pps_script.specs.Lines.{ServesLines, HoldsFirst, SendsFirst, ServesInput, ServesWhole, EndsInput, RunsInput, ends_cut_off}
+
+serves-of : (from to : Option (List ℕ)) (old new : Content) (text : List ℕ) (answered : List Answered) → Consumes from to text → RunsSeen old answered new
+    → Serves from to old new text answered
+serves-of from to old new text answered read seen = record { read = read; runs = runs-stand answered old new seen; seen = seen }
+
+-- nothing was read
+pub first-none : (show : Bool) (from before : Option (List ℕ)) (c : Content) → AnswersFirst show from from before before c c
+first-none show from before c = record {
+  text = [];
+  answered = [];
+  more = [];
+  served = serves-of from from c c [] [] (Consumes-none from from (keeps_itself from)) refl;
+  script = refl;
+  sent = 0;
+  written = Appends-nothing before;
+}
+  where
+    Appends-nothing : (a : Option (List ℕ)) → Appends a a []
+    Appends-nothing None = tt
+    Appends-nothing (Some xs) = sym (append-nil xs)
+
+-- ---- where reading or writing failed
+
+pub ran-unread : (show : Bool) (from to before after : Option (List ℕ)) (left : List ℕ) (old new : Content)
+    → ServesWhole show from to before after left old new → AnswersWhole show from to before after old new
+ran-unread show from to before after left old new s = record {
+  text = s.text;
+  answered = s.serves.answered;
+  served = serves-of from to old new s.text s.serves.answered s.read s.serves.seen;
+  script = s.serves.said;
+  written = Appends-same before after _ _ (sym (s.serves.written.parts ∙ ap (λ t. s.serves.written.sent ++ t) s.sent ∙ append-nil s.serves.written.sent)) s.serves.written.written;
+}
+
+pub ran-unwritten : (show : Bool) (from to before after : Option (List ℕ)) (left : List ℕ) (old new : Content)
+    → EndsInput show from to before after left old new WriteFault → AnswersFirst show from to before after old new
+ran-unwritten show from to before after left old new s = record {
+  text = s.text;
+  answered = s.ends.answered;
+  more = s.ends.more;
+  served = serves-of from to old new s.text s.ends.answered s.read s.ends.seen;
+  script = s.ends.said;
+  sent = s.ends.written.sent;
+  written = s.ends.written.written;
+}
+
+-- ---- else all that is held is sent, or a part of it
+
+-- what was held of the answers to all
+module _ (show : Bool) (from to before middle after : Option (List ℕ)) (left : List ℕ) (old new : Content) where
+  all-part : (text : List ℕ) (read : Consumes from to text) (bad : Option ℕ) → ServesLines show before [] middle left old new (lines_of text) bad → SendsPart middle after left
+      → AnswersFirst show from to before after old new
+  all-part text read bad s sends =
+      let part = holds-part before middle after left _ [] s.written (subst (λ t. SendsPart middle after t) (sym (append-nil left)) sends) in
+      record {
+        text = text;
+        answered = s.answered;
+        more = [];
+        served = serves-of from to old new text s.answered read s.seen;
+        script = ap (λ s. s.events) s.said ∙ sym (append-nil (events_of s.answered));
+        sent = part.sent;
+        written = Appends-same before after _ _ (ap (take part.sent) (append-nil (answers_of show s.answered))) part.written;
+      }
+
+  first-part : (s : EndsInput show from to before middle left old new OutOfMemory) → SendsPart before after s.ends.told → AnswersFirst show from to before after old new
+  first-part s sends =
+      let part = part-more before after s.ends.told s.ends.untold sends in
+      record {
+        text = s.text;
+        answered = s.ends.answered;
+        more = s.ends.more;
+        served = serves-of from to old new s.text s.ends.answered s.read s.ends.seen;
+        script = s.ends.said;
+        sent = part.sent;
+        written = Appends-same before after _ _ (ap (take part.sent) (sym s.ends.parts)) part.written;
+      }
+
+  pub ran-sent : (X : Type 0) (r : Result X ScriptFault) → ends_cut_off r ≡ false → RunsInput show from to before middle left old new r → Appends middle after left
+      → Ran show from to before after old new r
+  ran-sent X (Ok x) whole s sends = record {
+    text = s.text;
+    answered = s.serves.answered;
+    served = serves-of from to old new s.text s.serves.answered s.read s.serves.seen;
+    whole = s.whole;
+    script = s.serves.said;
+    written = holds-sent before middle after left _ s.serves.written sends;
+  }
+  ran-sent X (Err (BadLine line)) whole s sends = record {
+    text = s.text;
+    answered = s.ends.serves.answered;
+    number = s.ends.number;
+    served = serves-of from to old new s.text s.ends.serves.answered s.read s.ends.serves.seen;
+    script = s.ends.serves.said;
+    told = omega (arith, s.ends.told);
+    written = holds-sent before middle after left _ s.ends.serves.written sends;
+  }
+  ran-sent X (Err OutOfMemory) whole s sends =
+      first-part s record { sent = length s.ends.told; written = Appends-same before after _ _ (sym (take-length s.ends.told)) (holds-sent before middle after left _ s.ends.written sends) }
+  ran-sent X (Err ReadFault) whole s sends = absurd (let h = whole in cc)
+  ran-sent X (Err WriteFault) whole s sends = absurd (let h = whole in cc)
+
+  pub ran-unsent : (X : Type 0) (r : Result X ScriptFault) → ends_cut_off r ≡ false → RunsInput show from to before middle left old new r → SendsPart middle after left
+      → AnswersFirst show from to before after old new
+  ran-unsent X (Ok x) whole s sends = all-part s.text s.read None s.serves sends
+  ran-unsent X (Err (BadLine line)) whole s sends = all-part s.text s.read (Some s.ends.number) s.ends.serves sends
+  ran-unsent X (Err OutOfMemory) whole s sends =
+      first-part s (subst (λ t. SendsPart before after t) (append-nil s.ends.told)
+      (holds-part before middle after left _ [] s.ends.written (subst (λ t. SendsPart middle after t) (sym (append-nil left)) sends)))
+  ran-unsent X (Err ReadFault) whole s sends = absurd (let h = whole in cc)
+  ran-unsent X (Err WriteFault) whole s sends = absurd (let h = whole in cc)
+
+-- where reading or writing failed, nothing more is sent
+pub ran-cut_off : (X : Type 0) (show : Bool) (from to before after : Option (List ℕ)) (left : List ℕ) (old new : Content) (r : Result X ScriptFault) → ends_cut_off r ≡ true
+    → RunsInput show from to before after left old new r → Ran show from to before after old new r
+ran-cut_off X show from to before after left old new (Err ReadFault) cut s = ran-unread show from to before after left old new s
+ran-cut_off X show from to before after left old new (Err WriteFault) cut s = ran-unwritten show from to before after left old new s
+ran-cut_off X show from to before after left old new (Ok x) cut s = absurd (let h = cut in cc)
+ran-cut_off X show from to before after left old new (Err (BadLine line)) cut s = absurd (let h = cut in cc)
+ran-cut_off X show from to before after left old new (Err OutOfMemory) cut s = absurd (let h = cut in cc)

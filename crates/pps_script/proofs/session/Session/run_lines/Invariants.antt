@@ -1,0 +1,20 @@
+use Rattle.std.proofs.Common.{◌≡◌, ◌≤◌, length}
+use Rattle.pps_types.specs.Device.{device_inner, device_failed, device_stalls}
+use Rattle.pps_types.specs.Exchange.{input_of, output_of, held_in}
+use Rattle.pps_script.specs.Lines.{count_of}
+use Rattle.pps_script.proofs.Texts.{RunsOn}
+use Rattle.pps_script.proofs.session.Session.run_lines.Given as goal
+
+abbrev pub invariant-lines : goal.invariant-lines
+invariant-lines g l = record {
+  shorter : length l.rest ≤ length l.text;
+  show : l.self.show ≡ l.fn.self.show;
+  on : RunsOn l.fn.self.show (count_of l.fn.self) (count_of l.self) (g.W.Write.contents (device_inner (output_of l.fn.exchange))) (held_in l.fn.exchange)
+      (g.W.Write.contents (device_inner (output_of l.exchange))) (held_in l.exchange) l.fn.engine.content l.engine.content l.text l.rest;
+  failed : device_failed (output_of l.exchange) ≡ device_failed (output_of l.fn.exchange);
+  stalls : device_stalls (output_of l.exchange) ≡ device_stalls (output_of l.fn.exchange);
+  input : input_of l.exchange ≡ input_of l.fn.exchange;
+}
+
+abbrev pub decreases-lines : goal.decreases-lines
+decreases-lines g l = length l.rest

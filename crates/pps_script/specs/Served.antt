@@ -1,0 +1,78 @@
+-- What a service does with a script: what it reads, what it answers, and where it ends. Own.
+use Rattle.std.specs.Prelude.{◌≡◌, ◌⊎◌, ℕ, ◌+◌, min, Bool, true, false, List, ◌++◌, take, Option, Some, None, Result, Ok, Err}
+use Rattle.std.specs.Io.KnownBytes.{Appends, Consumes, IsAtEnd}
+use Rattle.pps_types.specs.declared.event.Event.{Event}
+use Rattle.pps_types.specs.Content.{Content}
+use Rattle.pps_types.specs.Device.{counted_once_more, last_count}
+use Rattle.pps_types.specs.Runs.{Answered, events_of}
+use Rattle.pps_types.specs.Stands.{Runs, RunsSeen}
+use Rattle.pps_script.specs.declared.fault.ScriptFault.{ScriptFault}
+use Rattle.pps_script.specs.declared.fault.ScriptFault.TheVariants.{BadLine, OutOfMemory, ReadFault, WriteFault}
+use Rattle.pps_script.specs.Script.{Script, script, script_of, whole_lines, answers_of}
+
+-- This text was read, and these events were served: the answers are those of every machine that the service was.
+pub record Serves (from to : Option (List ℕ)) (old new : Content) (text : List ℕ) (answered : List Answered) : Type 0 where
+  pub read : Consumes from to text
+  pub runs : Runs old answered new
+  pub seen : RunsSeen old answered new
+
+-- The input was read to its end, has no bad line, and each event is answered; nothing else is written.
+pub record AnswersAll (show : Bool) (from to before after : Option (List ℕ)) (old new : Content) : Type 0 where
+  pub text : List ℕ
+  pub answered : List Answered
+  pub served : Serves from to old new text answered
+  pub whole : IsAtEnd to
+  pub script : script_of text ≡ record { events = events_of answered; bad = None }
+  pub written : Appends before after (answers_of show answered)
+
+-- Each event before the first bad line is answered, and its number is this one, as far as numbers go.
+pub record AnswersUntil (show : Bool) (line : ℕ) (from to before after : Option (List ℕ)) (old new : Content) : Type 0 where
+  pub text : List ℕ
+  pub answered : List Answered
+  pub number : ℕ
+  pub served : Serves from to old new text answered
+  pub script : script_of text ≡ record { events = events_of answered; bad = Some number }
+  pub told : line ≡ min number last_count
+  pub written : Appends before after (answers_of show answered)
+
+-- Each event of the lines that came whole is answered, and none of them is bad.
+pub record AnswersWhole (show : Bool) (from to before after : Option (List ℕ)) (old new : Content) : Type 0 where
+  pub text : List ℕ
+  pub answered : List Answered
+  pub served : Serves from to old new text answered
+  pub script : script (whole_lines text) ≡ record { events = events_of answered; bad = None }
+  pub written : Appends before after (answers_of show answered)
+
+-- The first events were served, and a part of their answers is written.
+pub record AnswersFirst (show : Bool) (from to before after : Option (List ℕ)) (old new : Content) : Type 0 where
+  pub text : List ℕ
+  pub answered : List Answered
+  pub more : List Event
+  pub served : Serves from to old new text answered
+  pub script : (script_of text).events ≡ events_of answered ++ more
+  pub sent : ℕ
+  pub written : Appends before after (take sent (answers_of show answered))
+
+-- what became of a script
+abbrev pub Ran : {X : Type 0} → Bool → (from to before after : Option (List ℕ)) → Content → Content → Result X ScriptFault → Type 0
+Ran show from to before after old new (Ok done) = AnswersAll show from to before after old new
+Ran show from to before after old new (Err (BadLine line)) = AnswersUntil show line from to before after old new
+Ran show from to before after old new (Err ReadFault) = AnswersWhole show from to before after old new
+Ran show from to before after old new (Err OutOfMemory) = AnswersFirst show from to before after old new
+Ran show from to before after old new (Err WriteFault) = AnswersFirst show from to before after old new
+
+-- after how many reads an input counts as one that can't be read
+abbrev pub most_reads : ℕ
+most_reads = 4294967295
+
+-- so many reads after others, as far as they are counted
+abbrev pub reads_from : ℕ → ℕ → ℕ
+reads_from n more = min (n + more) last_count
+
+-- a fault of a device is told where the device failed, after the last read, or where a write took nothing
+abbrev pub FaultsAre : {X : Type 0} → Result X ScriptFault → (read_failed write_failed : Bool) → (reads_old reads_new stalls_old stalls_new : ℕ) → Type 0
+FaultsAre (Ok done) r w reads_old reads_new stalls_old stalls_new = (r ≡ false) × (w ≡ false)
+FaultsAre (Err (BadLine line)) r w reads_old reads_new stalls_old stalls_new = (r ≡ false) × (w ≡ false)
+FaultsAre (Err OutOfMemory) r w reads_old reads_new stalls_old stalls_new = (r ≡ false) × (w ≡ false)
+FaultsAre (Err ReadFault) r w reads_old reads_new stalls_old stalls_new = ((r ≡ true) ⊎ (reads_new ≡ reads_from reads_old most_reads)) × (w ≡ false)
+FaultsAre (Err WriteFault) r w reads_old reads_new stalls_old stalls_new = (r ≡ false) × ((w ≡ true) ⊎ (stalls_new ≡ counted_once_more stalls_old))

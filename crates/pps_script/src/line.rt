@@ -1,0 +1,86 @@
+//! One line of a script, served.
+ghost use Rattle.std.specs.Prelude.{◌≡◌, ◌++◌, IfErr, OnOk};
+ghost use Rattle.script_lines.specs.Script.{line_of};
+ghost use Rattle.pps_script.specs.Script.{shown_for, printed};
+ghost use Rattle.pps_script.specs.Lines.{ServesLine, FailsLine};
+ghost use Rattle.pps_script.specs.declared.line.LineFault.TheVariants.{OutOfMemory};
+
+use pps_engine::Engine;
+use pps_types::{Event, Outcome, Refusal, Request};
+use script_lines::{ScriptLine, print_answer, print_shown, read_line};
+use std::alloc::{AllocError, Global};
+
+/// Why a line is not served.
+#[derive(Clone, Copy, Debug, PartialEq, Eq)]
+pub(crate) enum LineFault {
+    BadLine,
+    OutOfMemory,
+}
+
+impl From<AllocError> for LineFault {
+    ghost from_gives = { λ _ fault. fault ≡ OutOfMemory };
+
+    fn from(_refused: AllocError) -> LineFault {
+        LineFault::OutOfMemory
+    }
+}
+
+// Pushes what is shown of the values in an answer.
+fn push_shown(
+    alloc: Global,
+    out: &mut Vec<u8>,
+    request: &Request,
+    answer: &Result<Outcome, Refusal>,
+) -> Result<(), AllocError>
+    ensures { OnOk result (out.new.items ≡ out.old.items ++ shown_for request.now answer.now) }
+{
+    let Request::Read { .. } = request else {
+        return Ok(());
+    };
+    let Ok(Outcome::Data(bytes)) = answer else {
+        return Ok(());
+    };
+    let shown = print_shown(alloc, bytes.as_slice())?;
+    out.extend_from_slice(shown.as_slice())
+}
+
+// Prints what is printed for an event that is answered so.
+fn print_served(
+    alloc: Global,
+    out: &mut Vec<u8>,
+    show: bool,
+    event: &Event,
+    answer: &Result<Outcome, Refusal>,
+) -> Result<(), AllocError>
+    ensures { OnOk result (out.new.items ≡ out.old.items ++ printed show event.now answer.now) }
+{
+    print_answer(out, event.conn, answer)?;
+    if show {
+        push_shown(alloc, out, &event.request, answer)?;
+    }
+    Ok(())
+}
+
+/// Serves a line of a script, without its line feed. The text is then what is to be printed for it, in place of what it
+/// was.
+pub(crate) fn serve_line(
+    alloc: Global,
+    engine: &mut Engine,
+    show: bool,
+    line: &[u8],
+    text: &mut Vec<u8>,
+) -> Result<(), LineFault>
+    ensures served { OnOk result (ServesLine show engine.old.content (line_of line.now) text.new.items engine.new.content) }
+    ensures fault { IfErr result (λ fault. FailsLine engine.old.content (line_of line.now) engine.new.content fault) }
+{
+    text.clear();
+    match read_line(alloc, line)? {
+        None => Err(LineFault::BadLine),
+        Some(ScriptLine::Nothing) => Ok(()),
+        Some(ScriptLine::Command(event)) => {
+            let answer = engine.step(&event);
+            print_served(alloc, text, show, &event, &answer)?;
+            Ok(())
+        }
+    }
+}
