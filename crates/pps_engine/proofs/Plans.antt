@@ -1,6 +1,6 @@
 -- Plans that are ready, and what is held.
 use Rattle.std.proofs.Common.{subst, ap, sym, ◌∙◌, append-nil, arith, eqb, eqb-true, ne_eqb}
-use Rattle.std.specs.Prelude.{◌≡◌, ◌<◌, ◌+◌, ℕ, List, [], ◌∷◌, ◌++◌, Bool, true, false, cond, map, find, length, nat_lt, option_map, Option, Some, None, IsSome, Ok, refl}
+use Rattle.std.specs.Prelude.{◌≡◌, ◌<◌, ◌+◌, ℕ, List, [], ◌∷◌, ◌++◌, Bool, true, false, cond, map, find, length, nat_lt, option_map, Option, Some, Ok, refl}
 use Rattle.std.proofs.lemmas.Bool.Decides.{nat_tests}
 use Rattle.std.specs.Option.{option_map_or}
 use Rattle.pps_types.specs.declared.event.Event.{Event}
@@ -29,17 +29,28 @@ use Rattle.open_handles.specs.Whole.{kept_at}
 use Rattle.engine_tables.specs.Tables.{Tabled, content_in}
 use Rattle.engine_events.specs.declared.planned.Pending.{Pending}
 use Rattle.engine_events.specs.Events.{moves_pending, CanCarry}
-use Rattle.pps_engine.specs.Serving.{Chained, Prepares, held_records}
-use Rattle.pps_engine.specs.Standing.{IsSound, IsPending, chain_of, HoldsJust}
-
-pub prepared-ready : (old : Content) (e : Event) (reply : Outcome) (next : Option Content) → Prepares old e reply next → IsSome next
-prepared-ready old e reply None p = absurd p
-prepared-ready old e reply (Some c) p = refl
-
-pub carried-out : (old new : Content) (e : Event) (reply : Outcome) (next : Option Content) → next ≡ Some new → Prepares old e reply next → StepsSeen old e (Ok reply) new
-carried-out old new e reply next is p = subst (λ (o : Option Content). Prepares old e reply o) is p
+use Rattle.pps_engine.specs.declared.engine.Ready.{Ready}
+use Rattle.pps_engine.specs.Serving.{Chained, Upcoming, held_records}
+use Rattle.pps_engine.specs.Standing.{IsSound, IsPending, after, coming, chain_of, HoldsJust}
 
 -- ---- what a plan promises
+
+-- a plan of what stands in other tables is one of what stands in these
+pub planned-here : (t u : Tabled) (e : Event) (reply : Outcome) (p : Pending) → content_in u ≡ content_in t
+    → StepsSeen (content_in t) e (Ok reply) (apply_all_seen (moves_pending p u) (content_in t)) → StepsSeen (content_in t) e (Ok reply) (after u p)
+planned-here t u e reply p same steps =
+    subst (λ c. StepsSeen (content_in t) e (Ok reply) (apply_all_seen (moves_pending p u) c)) (sym same) steps
+
+-- what is kept of it is what the plan says
+pub planned-as : (c : Content) (t u v : Tabled) (e : Event) (reply : Outcome) (p : Pending) (r : Ready) (plan : Upcoming) → content_in t ≡ c
+    → content_in u ≡ content_in t → v ≡ u → r.pending ≡ p → coming v r ≡ plan → plan.reply ≡ reply
+    → StepsSeen (content_in t) e (Ok reply) (apply_all_seen (moves_pending p u) (content_in t)) → StepsSeen c e (Ok plan.reply) plan.content
+planned-as c t u v e reply p r plan is same is_v is_p latest is_reply steps =
+    let content : plan.content ≡ after u p = sym (ap (λ (x : Upcoming). x.content) latest) ∙ ap (λ w. after w r.pending) is_v ∙ ap (after u) is_p in
+    rw (content, is_reply) (subst (λ (d : Content). StepsSeen d e (Ok reply) (after u p)) is (planned-here t u e reply p same steps))
+
+pub planned-latest : (u v : Tabled) (r : Ready) (plan : Upcoming) (o : Option Ready) → o ≡ Some r → v ≡ u → coming v r ≡ plan → option_map (coming u) o ≡ Some plan
+planned-latest u v r plan o is is_v latest = ap (option_map (coming u)) is ∙ ap Some (ap (λ w. coming w r) (sym is_v) ∙ latest)
 
 pub planned-reply : (c d : Content) (e : Event) (reply : Outcome) → StepsSeen c e (Ok reply) d → (step_seen c e).0 ≡ Ok reply
 planned-reply c d e reply s = sym (ap (λ p. p.0) s.taken)
@@ -52,13 +63,13 @@ pub planned-sends : (c d : Content) (e : Event) (reply : Outcome) → IsBound c 
 planned-sends c d e reply b s = subst IsSendable (planned-reply c d e reply s) (step-sends c b e)
 
 -- what is planned can be carried out, and leaves what is sound
-pub planned-pending : (t u : Tabled) (e : Event) (reply : Outcome) (p : Pending) (o : Option Pending) → IsSound (content_in t) → content_in u ≡ content_in t
-    → StepsSeen (content_in t) e (Ok reply) (apply_all_seen (moves_pending p u) (content_in t)) → CanCarry p u → o ≡ Some p
+pub planned-pending : (t u : Tabled) (e : Event) (reply : Outcome) (p : Pending) (r : Ready) (o : Option Ready) → IsSound (content_in t) → content_in u ≡ content_in t
+    → StepsSeen (content_in t) e (Ok reply) (apply_all_seen (moves_pending p u) (content_in t)) → CanCarry p u → r.pending ≡ p → o ≡ Some r
     → IsSound (content_in u) × IsPending u o
-planned-pending t u e reply p o sound same steps can is = (
+planned-pending t u e reply p r o sound same steps can is_p is = (
   subst IsSound (sym same) sound,
-  subst (IsPending u) (sym is)
-      (can, subst (λ c. IsSound (apply_all_seen (moves_pending p u) c)) (sym same) (planned-sound (content_in t) (apply_all_seen (moves_pending p u) (content_in t)) e reply sound steps)),
+  subst (IsPending u) (sym is) (subst (λ (q : Pending). CanCarry q u × IsSound (after u q)) (sym is_p)
+      (can, planned-sound (content_in t) (after u p) e reply sound (planned-here t u e reply p same steps))),
 )
 
 -- ---- what is held

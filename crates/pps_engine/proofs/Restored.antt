@@ -10,7 +10,7 @@ use Rattle.pps_types.specs.Restore.{restore_line}
 use Rattle.image_laws.specs.Laws.{RestoringStays}
 use Rattle.image_laws.specs.Unused.{IsUnused}
 use Rattle.engine_tables.specs.Tables.{Tabled, content_in}
-use Rattle.engine_events.specs.declared.planned.Pending.{Pending}
+use Rattle.pps_engine.specs.declared.engine.Ready.{Ready}
 use Rattle.pps_engine.specs.Standing.{IsSound, IsPending}
 
 -- nobody has a handle of it
@@ -23,7 +23,7 @@ left_unused c d call (Ok x) stays w done kept = stays d done
 left_unused c d call (Err e) stays w done kept = subst IsUnused (sym kept) w
 
 -- nothing is pending
-pub sound_alone : (t : Tabled) (o : Option Pending) → IsUnused (content_in t) → o ≡ None → IsSound (content_in t) × IsPending t o
+pub sound_alone : (t : Tabled) (o : Option Ready) → IsUnused (content_in t) → o ≡ None → IsSound (content_in t) × IsPending t o
 sound_alone t o w none = (record { formed = w.formed; bound = w.bound }, subst (IsPending t) (sym none) tt)
 
 -- a line that an image has

@@ -1,11 +1,9 @@
 -- What callers know of an engine, whatever its body.
-use Rattle.std.specs.Prelude.{◌≡◌, ℕ, List, [], ◌∷◌, Bool, ◌&&◌, ◌==◌, if◌then◌else◌, Option, Some, None, Ok}
-use Rattle.pps_types.specs.declared.event.Event.{Event}
+use Rattle.std.specs.Prelude.{◌≡◌, ℕ, List, [], ◌∷◌, Bool, ◌&&◌, ◌==◌, if◌then◌else◌, Option, Some}
 use Rattle.pps_types.specs.declared.outcome.Outcome.{Outcome}
 use Rattle.pps_types.specs.History.{Entry}
 use Rattle.pps_types.specs.Content.{Content}
 use Rattle.pps_types.specs.Owed.{same_flag, longer, kept_records_seen}
-use Rattle.pps_types.specs.Stands.{StepsSeen}
 
 -- A list of records that the body holds for the delta and names handles of an object or a directory.
 pub record Chained : Type 0 where
@@ -13,17 +11,21 @@ pub record Chained : Type 0 where
   pub target : ℕ
   pub records : List Entry
 
--- content: what stands. next: what will stand once the latest plan is carried out, where one is ready. chains: all
--- lists of records that are held for delta and names handles. Only the first is what an engine stands for.
+-- A plan, as callers see it: what will stand once it is carried out, and what its event is answered.
+pub record Upcoming : Type 0 where
+  pub content : Content
+  pub reply : Outcome
+
+-- content: what stands. next: the latest plan, where it is ready. chains: all lists of records that are held for delta and
+-- names handles. Only the first is what an engine stands for.
 pub record Serving : Type 0 where
   pub content : Content
-  pub next : Option Content
+  pub next : Option Upcoming
   pub chains : List Chained
 
--- A plan is ready, and what will stand and this answer are the event's.
-abbrev pub Prepares : Content → Event → Outcome → Option Content → Type 0
-Prepares old e reply None = ⊥
-Prepares old e reply (Some next) = StepsSeen old e (Ok reply) next
+-- The plan is ready, and it is the latest of the engine, which has not changed since.
+abbrev pub IsLatest : Upcoming → Serving → Type 0
+IsLatest plan engine = engine.next ≡ Some plan
 
 -- the longest list that is held for that directory or object
 abbrev pub held_records : Bool → ℕ → List Chained → List Entry

@@ -11,7 +11,8 @@ use Rattle.engine_seats.specs.Seated.{kept_of}
 use Rattle.engine_tables.specs.Tables.{Tabled, content_in}
 use Rattle.engine_events.specs.declared.planned.Pending.{Pending}
 use Rattle.engine_events.specs.Events.{moves_pending, CanCarry}
-use Rattle.pps_engine.specs.Serving.{Chained, held_records}
+use Rattle.pps_engine.specs.declared.engine.Ready.{Ready}
+use Rattle.pps_engine.specs.Serving.{Chained, Upcoming, held_records}
 
 -- it is well formed, and within its bounds
 pub record IsSound (c : Content) : Type 0 where
@@ -22,10 +23,14 @@ pub record IsSound (c : Content) : Type 0 where
 abbrev pub after : Tabled → Pending → Content
 after t p = apply_all_seen (moves_pending p t) (content_in t)
 
--- where a plan is pending it can be carried out, and what stands then is sound
-abbrev pub IsPending : Tabled → Option Pending → Type 0
+-- the plan that is ready
+abbrev pub coming : Tabled → Ready → Upcoming
+coming t r = record { content = after t r.pending; reply = r.reply.value }
+
+-- where a plan is ready it can be carried out, and what stands then is sound
+abbrev pub IsPending : Tabled → Option Ready → Type 0
 IsPending t None = Unit {0}
-IsPending t (Some p) = CanCarry p t × IsSound (after t p)
+IsPending t (Some r) = CanCarry r.pending t × IsSound (after t r.pending)
 
 -- ---- what is held
 

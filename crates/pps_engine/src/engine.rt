@@ -1,13 +1,13 @@
 //! The engine: what stands, kept within its bounds.
-ghost use Rattle.std.specs.Prelude.{◌≡◌, ◌≤◌, ◌↔◌, true, Ok, Err, Some, None, IfOk, IfErr, IsTrue, IsSome, OnErr, All, length, vec_len, vec_capacity, drop};
+ghost use Rattle.std.specs.Prelude.{◌≡◌, ◌≤◌, ◌↔◌, true, Ok, Err, Some, None, IfOk, IfErr, IsTrue, OnErr, All, [], length, vec_capacity};
 ghost use Rattle.pps_types.specs.Outcome.{has_bytes, IsSendable};
 ghost use Rattle.pps_types.specs.Machine.{start};
 ghost use Rattle.pps_types.specs.Owed.{kept_seen, owed_by_seen};
 ghost use Rattle.pps_types.specs.Plan.{may_lack_memory};
 ghost use Rattle.pps_types.specs.Stands.{Stands, Steps, StepsSeen, Runs, RunsSeen};
-ghost use Rattle.pps_engine.specs.Serving.{Prepares, IsExact};
+ghost use Rattle.pps_engine.specs.Serving.{IsLatest, IsExact};
 ghost use Rattle.engine_tables.specs.Tables.{content_in};
-ghost use Rattle.pps_engine.specs.Standing.{HoldsJust, IsSound};
+ghost use Rattle.pps_engine.specs.Standing.{coming, HoldsJust, IsSound};
 ghost use Rattle.pps_types.specs.Runs.{answered};
 
 use engine_events::{Pending, Planned, carry_out, plan};
@@ -17,6 +17,7 @@ use open_options::Path;
 use pps_types::{Event, Handle, Outcome, Refusal};
 use std::alloc::{AllocError, Global};
 use std::marker::Model;
+use std::snapshot::Snapshot;
 
 /// The limit of handles that name none, where the engine is made with no other.
 const DEFAULT_LIMIT: u32 = 256;
@@ -29,8 +30,16 @@ pub(crate) fn are_cut(tables: &Tables)
     tables.handles().places_rise();
 }
 
+/// What the latest plan will do.
+#[derive(Drop)]
+pub(crate) struct Ready {
+    pending: Pending,
+    // What it answers, for clauses alone.
+    reply: Snapshot<Outcome>,
+}
+
 /// Nothing is pending any more.
-pub(crate) fn forget(pending: &mut Option<Pending>)
+pub(crate) fn forget(pending: &mut Option<Ready>)
     ensures { pending.new ≡ None }
 {
     if pending.is_some() {
@@ -39,10 +48,10 @@ pub(crate) fn forget(pending: &mut Option<Pending>)
 }
 
 // This is pending from now on.
-fn keep(pending: &mut Option<Pending>, planned: Pending)
-    ensures { pending.new ≡ Some planned }
+fn keep(pending: &mut Option<Ready>, ready: Ready)
+    ensures { pending.new ≡ Some ready }
 {
-    *pending = Some(planned);
+    *pending = Some(ready);
 }
 
 // One event, planned and carried out at once.
@@ -62,15 +71,45 @@ fn take_step(tables: &mut Tables, alloc: Global, event: &Event) -> Result<Outcom
 #[derive(Drop)]
 pub struct Plan {
     reply: Outcome,
+    // What it was planned in, and what will be done to it, for clauses alone.
+    tables: Snapshot<Tables>,
+    pending: Snapshot<Pending>,
+}
+
+impl Model for Plan {
+    ghost use Rattle.pps_engine.specs.Serving.{Upcoming};
+    ghost use Rattle.pps_engine.specs.Standing.{after};
+
+    ghost Value = { Upcoming };
+
+    ghost view = { λ a. record { content = after a.tables.value a.pending.value; reply = a.reply } };
 }
 
 impl Plan {
-    /// What the event will answer.
+    /// What the event will answer: what `commit` gives.
     pub fn reply(&self) -> &Outcome
         ensures { result.now ≡ self.now.reply }
     {
         &self.reply
     }
+}
+
+// A plan, and what the engine keeps of it.
+fn planned_in(tables: &Tables, reply: Outcome, pending: Pending) -> (Plan, Ready)
+    ensures reply { result.0.reply ≡ reply }
+    ensures pending { result.1.pending ≡ pending }
+    ensures same { coming tables.now result.1 ≡ result.0 }
+{
+    let plan = Plan {
+        tables: Snapshot::of(tables),
+        pending: Snapshot::of(&pending),
+        reply,
+    };
+    let ready = Ready {
+        pending,
+        reply: Snapshot::of(&plan.reply),
+    };
+    (plan, ready)
 }
 
 /// The service. It stands for the machine that keeps every accepted change for good.
@@ -80,19 +119,19 @@ impl Plan {
 pub struct Engine {
     pub(crate) alloc: Global,
     pub(crate) tables: Box<Tables>,
-    /// What the latest plan will do, where it is ready.
-    pub(crate) pending: Box<Option<Pending>>,
+    /// The latest plan, where it is ready.
+    pub(crate) pending: Box<Option<Ready>>,
 }
 
 impl Model for Engine {
     ghost use Rattle.std.specs.Prelude.{option_map};
     ghost use Rattle.engine_tables.specs.Tables.{content_in};
     ghost use Rattle.pps_engine.specs.Serving.{Serving};
-    ghost use Rattle.pps_engine.specs.Standing.{after, chains_of, IsSound, IsPending};
+    ghost use Rattle.pps_engine.specs.Standing.{coming, chains_of, IsSound, IsPending};
 
     ghost Value = { Serving };
 
-    ghost view = { λ a. record { content = content_in a.tables.value; next = option_map (after a.tables.value) a.pending.value; chains = chains_of a.tables.value } };
+    ghost view = { λ a. record { content = content_in a.tables.value; next = option_map (coming a.tables.value) a.pending.value; chains = chains_of a.tables.value } };
 
     ghost invariant = { λ a. IsSound (content_in a.tables.value) × IsPending a.tables.value a.pending.value };
 }
@@ -143,7 +182,8 @@ impl Engine {
     /// of what stands. A plan before it is no longer ready.
     pub fn plan(&mut self, event: &Event) -> Result<Plan, Refusal>
         ensures kept { self.new.content ≡ self.old.content }
-        ensures plans { IfOk result (λ plan. Prepares self.old.content event.now plan.reply self.new.next) }
+        ensures plans { IfOk result (λ plan. StepsSeen self.old.content event.now (Ok plan.reply) plan.content) }
+        ensures latest { IfOk result (λ plan. IsLatest plan self.new) }
         ensures refuses { IfErr result (λ r. StepsSeen self.old.content event.now (Err r) self.old.content) }
         ensures ends { OnErr result (self.new.next ≡ None) }
         ensures marks { IfOk result (λ plan. has_bytes plan.reply ≡ true → may_lack_memory self.old.content event.now ≡ true) }
@@ -152,23 +192,27 @@ impl Engine {
     {
         forget(&mut self.pending);
         let planned = plan(&mut self.tables, self.alloc, event);
-        are_cut(&self.tables);
+        let tables: &Tables = &self.tables;
+        are_cut(tables);
         let Planned { reply, pending } = planned?;
-        keep(&mut self.pending, pending);
-        Ok(Plan { reply })
+        let (plan, ready) = planned_in(tables, reply, pending);
+        keep(&mut self.pending, ready);
+        Ok(plan)
     }
 
     /// Carries the latest plan out, and gives its answer. It takes no memory.
+    ///
+    /// It has to be this engine's latest plan, and the engine may not have changed since.
     pub fn commit(&mut self, plan: Plan) -> Outcome
-        requires { IsSome self.old.next }
+        requires { IsLatest plan self.old }
         ensures reply { result ≡ plan.reply }
-        ensures content { self.old.next ≡ Some self.new.content }
+        ensures content { self.new.content ≡ plan.content }
         ensures ready { self.new.next ≡ None }
         ensures cut { IsExact self.new }
     {
         match self.pending.take() {
             None => unreachable!(),
-            Some(pending) => carry_out(&mut self.tables, pending),
+            Some(ready) => carry_out(&mut self.tables, ready.pending),
         }
         are_cut(&self.tables);
         plan.reply
@@ -190,8 +234,28 @@ impl Engine {
         answer
     }
 
-    /// The events in their order, and an answer for each; an event's own OutOfMemory is its answer. It is OutOfMemory
-    /// itself, and takes no event, only where the list of answers can't be reserved.
+    /// The events in their order, with an answer for each in a list that has the room. An event's own OutOfMemory is its
+    /// answer.
+    pub fn run_reserved(&mut self, events: &[Event], replies: &mut Vec<Result<Outcome, Refusal>>)
+        requires empty { replies.old.items ≡ [] }
+        requires room { length events.now ≤ vec_capacity replies.old }
+        ensures runs { Runs self.old.content (answered events.now replies.new.items) self.new.content }
+        ensures seen { RunsSeen self.old.content (answered events.now replies.new.items) self.new.content }
+        ensures count { length replies.new.items ≡ length events.now }
+        ensures sends { All IsSendable replies.new.items }
+        ensures cut { IsExact self.new }
+    {
+        are_cut(&self.tables);
+        'events: for event in events {
+            let reply = self.step(event);
+            replies.push_reserved(reply);
+        }
+    }
+
+    /// The events in their order, and an answer for each; an event's own OutOfMemory is its answer.
+    ///
+    /// It is OutOfMemory itself, and takes no event, only where the list of answers can't be reserved; it is then run by
+    /// `run_reserved`.
     pub fn run_list(&mut self, events: &[Event]) -> Result<Vec<Result<Outcome, Refusal>>, Refusal>
         ensures runs { IfOk result (λ replies. Runs self.old.content (answered events.now replies.items) self.new.content) }
         ensures seen { IfOk result (λ replies. RunsSeen self.old.content (answered events.now replies.items) self.new.content) }
@@ -203,10 +267,7 @@ impl Engine {
     {
         are_cut(&self.tables);
         let mut replies = Vec::with_capacity(self.alloc, events.len())?;
-        'events: for event in events {
-            let reply = self.step(event);
-            replies.push_reserved(reply);
-        }
+        self.run_reserved(events, &mut replies);
         Ok(replies)
     }
 

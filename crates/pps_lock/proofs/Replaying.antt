@@ -1,5 +1,6 @@
 -- Traces that replay, from none to one entry more.
-use Rattle.std.proofs.Common.{◌≡◌, List, [], ◌∷◌, ◌++◌, true, Err, refl, sym, subst}
+use Rattle.std.proofs.Common.{◌≡◌, List, [], ◌∷◌, ◌++◌, true, Err, Some, length, refl, sym, subst, ap, ◌∙◌}
+use Rattle.std.specs.Prelude.{Result, Ok, IfOk, OnOk, slice_get}
 use Rattle.std.proofs.lemmas.List.Elements.{All-nil, All-push}
 use Rattle.pps_types.specs.declared.event.Event.{Event}
 use Rattle.pps_types.specs.declared.refusal.Refusal.TheVariants.{OutOfMemory}
@@ -9,7 +10,10 @@ use Rattle.pps_types.specs.Plan.{may_lack_memory}
 use Rattle.pps_types.specs.Runs.{Answered}
 use Rattle.pps_types.specs.Stands.{StepsSeen}
 use Rattle.pps_types.proofs.RunJoins.{runs-append}
-use Rattle.pps_lock.specs.Trace.{Replays}
+use Rattle.pps_lock.specs.declared.book.Receipt.{Receipt}
+use Rattle.pps_lock.specs.declared.book.Stepped.{Stepped}
+use Rattle.pps_lock.specs.declared.book.TraceFull.{TraceFull}
+use Rattle.pps_lock.specs.Trace.{Log, Replays, IsRecorded, answer_to, receipt, numbered}
 
 -- an event that may be marked for want of memory, and is, leaves what stands
 pub marked : (c : Content) (e : Event) → may_lack_memory c e ≡ true → StepsSeen c e (Err OutOfMemory) c
@@ -29,3 +33,25 @@ replays-longer b c d xs now x e r before steps sends is_e is_r is =
       seen = runs-append b c d xs (x ∷ []) before.seen (d, stepped, refl);
       sends = All-push (λ (y : Answered). IsSendable y.reply) xs x before.sends sent;
     })
+
+-- the last of the entries has its place
+last-entry : (xs : List Answered) (x : Answered) → slice_get (xs ++ x ∷ []) (length xs) ≡ Some x
+last-entry [] x = refl
+last-entry (y ∷ ys) x = last-entry ys x
+
+-- the entry that a book has just taken
+recorded : (old new : Log) (e : Event) (r : Reply) (place : Receipt) → Replays new.base new.trace new.engine → new.number ≡ old.number
+    → new.trace ≡ old.trace ++ answer_to e r ∷ [] → place ≡ receipt old.number (length old.trace) → IsRecorded e r place
+recorded old new e r place replays number added named = record {
+  segment = numbered new;
+  number = number ∙ sym (ap (λ (p : Receipt). p.segment) named);
+  replays = replays;
+  entry = ap (slice_get new.trace) (ap (λ (p : Receipt). p.index) named) ∙ ap (λ xs. slice_get xs (length old.trace)) added ∙ last-entry old.trace (answer_to e r);
+}
+
+-- what a book has stepped is recorded in it
+pub step-recorded : (old new : Log) (e : Event) (result : Result Stepped TraceFull) → Replays new.base new.trace new.engine
+    → IfOk result (λ s. new.trace ≡ old.trace ++ answer_to e s.reply ∷ []) → IfOk result (λ s. s.receipt ≡ receipt old.number (length old.trace))
+    → OnOk result ((new.base ≡ old.base) × (new.number ≡ old.number) × (new.limit ≡ old.limit)) → IfOk result (λ s. IsRecorded e s.reply s.receipt)
+step-recorded old new e (Ok s) replays added named same = recorded old new e s.reply s.receipt replays same.1 added named
+step-recorded old new e (Err f) replays added named same = tt

@@ -1,5 +1,5 @@
 -- A trace of events with their answers, and what it tells of what stood before it and what stands after it.
-use Rattle.std.specs.Prelude.{◌≤◌, ℕ, List, [], All, length}
+use Rattle.std.specs.Prelude.{◌≡◌, ◌≤◌, ℕ, List, [], All, Some, length, slice_get}
 use Rattle.pps_types.specs.declared.event.Event.{Event}
 use Rattle.pps_types.specs.Outcome.{Reply, IsSendable}
 use Rattle.pps_types.specs.Content.{Content}
@@ -16,7 +16,7 @@ abbrev pub receipt : ℕ → ℕ → Receipt
 receipt segment index = record { segment = segment; index = index }
 
 -- Asked the events of the trace in their order, what stood before gives just these answers and comes to what stands after.
--- This is of contents: `runs-stand` makes of it the same of each machine that the base stands for. Each answer fits a frame.
+-- This is of contents: by the law `steps_stand` it is so of each machine that the base stands for. Each answer fits a frame.
 pub record Replays (base : Content) (trace : List Answered) (engine : Content) : Type 0 where
   pub seen : RunsSeen base trace engine
   pub sends : All (λ x. IsSendable x.reply) trace
@@ -50,3 +50,10 @@ emptied c number limit = record { engine = c; base = c; trace = []; number = num
 -- the segment that a book's trace makes
 abbrev pub numbered : Log → Piece
 numbered b = record { number = b.number; base = b.base; entries = b.trace; end = b.engine }
+
+-- At the place that the receipt names, a segment that replays has the event with this answer as its entry.
+pub record IsRecorded (event : Event) (reply : Reply) (place : Receipt) : Type 0 where
+  pub segment : Piece
+  pub number : segment.number ≡ place.segment
+  pub replays : Replays segment.base segment.entries segment.end
+  pub entry : slice_get segment.entries place.index ≡ Some (answer_to event reply)

@@ -1,6 +1,8 @@
 //! A book behind a lock.
-ghost use Rattle.std.specs.Prelude.{◌≡◌, IfOk, IfErr};
+ghost use Rattle.std.specs.Prelude.{◌≡◌, ◌≤◌, ◌⊎◌, IfOk, IfErr, length};
+ghost use Rattle.std.specs.Arc.{arc_value};
 ghost use Rattle.pps_types.specs.Outcome.{IsSendable};
+ghost use Rattle.pps_lock.specs.Trace.{Replays, IsRecorded};
 
 use crate::book::{Book, Stepped, TraceFull};
 use crate::segment::Segment;
@@ -25,20 +27,36 @@ impl Shared {
     }
 
     /// `Book::step` of the book that is found. It waits for the lock.
+    ///
+    /// The answer is that of an entry, at the place that the receipt names, of a trace that replays.
     pub fn step<R: Wait>(&self, rt: &R, event: Arc<Event>) -> Result<Stepped, TraceFull>
+        ensures recorded { IfOk result (λ s. IsRecorded (arc_value event) s.reply s.receipt) }
         ensures sends { IfOk result (λ s. IsSendable s.reply) }
         ensures full { IfErr result (λ f. f.event ≡ event) }
     {
-        self.book.lock(rt).step(event)
+        let mut book = self.book.lock(rt);
+        let stepped = book.step(event);
+        book.replays();
+        stepped
     }
 
-    /// `Book::cut` of the book that is found. It waits for the lock.
-    pub fn cut<R: Wait>(&self, rt: &R) -> Result<Segment, Refusal> {
-        self.book.lock(rt).cut()
+    /// `Book::cut` of the book that is found: a segment that replays, or TableFull or OutOfMemory. It waits for the lock.
+    pub fn cut<R: Wait>(&self, rt: &R) -> Result<Segment, Refusal>
+        ensures replays { IfOk result (λ segment. Replays segment.base segment.entries segment.end) }
+        ensures err { IfErr result (λ r. (r ≡ Refusal.OutOfMemory) ⊎ (r ≡ Refusal.TableFull)) }
+    {
+        let segment = self.book.lock(rt).cut()?;
+        segment.replays();
+        Ok(segment)
     }
 
-    /// The book, once it is shared no more.
-    pub fn into_book(self) -> Book {
-        self.book.into_inner()
+    /// The book, once it is shared no more. Its trace replays.
+    pub fn into_book(self) -> Book
+        ensures replays { Replays result.base result.trace result.engine }
+        ensures within { length result.trace ≤ result.limit }
+    {
+        let book = self.book.into_inner();
+        book.replays();
+        book
     }
 }

@@ -3,7 +3,7 @@ use Rattle.std.specs.Prelude.{All, vec_len, vec_capacity}
 use Rattle.pps_types.specs.Outcome.{IsSendable}
 use Rattle.pps_engine.specs.Serving.{IsExact}
 use Rattle.pps_engine.proofs.Lists.{RunsOn}
-use Rattle.pps_engine.proofs.engine.Engine.run_list.Given as goal
+use Rattle.pps_engine.proofs.engine.Engine.run_reserved.Given as goal
 
 abbrev pub invariant-events : goal.invariant-events
 invariant-events l = record {

@@ -2,7 +2,7 @@ use Rattle.std.proofs.Common.{arith}
 use Rattle.pps_types.proofs.StandsLaw.{runs-stand}
 use Rattle.pps_types.specs.Runs.{answered}
 use Rattle.pps_engine.proofs.Lists.{runs-all}
-use Rattle.pps_engine.proofs.engine.Engine.run_list.Goals as goal
+use Rattle.pps_engine.proofs.engine.Engine.run_reserved.Goals as goal
 
 pub returns-clause-seen : goal.returns-clause-seen
 returns-clause-seen c = runs-all c.args.self.now.content c.events.self.content c.args.events.now c.events.event-index c.events.replies.items (omega (arith, c.events-test.false)) c.events.invariant.runs
