@@ -24,7 +24,7 @@ pub entry-of : (longest : ℕ) (before : List Saved) (e : Saved) → may_follow 
 entry-of longest before (SavedDirectory path) follows text = (text, follows)
 entry-of longest before (SavedObject path lines) follows text = (text.0, follows, text.1, text.2)
 
-entries-of : (longest : ℕ) (before es : List Saved) → AreFollowing before es → AllByRecursion (HasText longest) es → AreEntries longest before es
+pub entries-of : (longest : ℕ) (before es : List Saved) → AreFollowing before es → AllByRecursion (HasText longest) es → AreEntries longest before es
 entries-of longest before [] follow texts = tt
 entries-of longest before (e ∷ es) follow texts = (entry-of longest before e follow.0 texts.0, entries-of longest (before ++ e ∷ []) es follow.1 texts.1)
 
@@ -41,3 +41,13 @@ texts-of longest before (e ∷ es) h = (text-of longest before e h.0, texts-of l
 
 pub printable : (i : Image) → IsGood i → IsPrintable i
 printable i h = record { least = h.least; most = h.most; entries = texts-of 65536 [] i.entries h.entries }
+
+-- ---- parted again
+
+follows : (longest : ℕ) (before : List Saved) (e : Saved) → IsEntry longest before e → may_follow before e ≡ true
+follows longest before (SavedDirectory path) h = h.1
+follows longest before (SavedObject path lines) h = h.1
+
+pub following-of : (longest : ℕ) (before es : List Saved) → AreEntries longest before es → AreFollowing before es
+following-of longest before [] h = tt
+following-of longest before (e ∷ es) h = (follows longest before e h.0, following-of longest (before ++ e ∷ []) es h.1)

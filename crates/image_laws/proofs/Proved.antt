@@ -15,12 +15,12 @@ use Rattle.pps_types.proofs.ImageStarts.{images-start}
 use Rattle.content_bounds.specs.Bounds.{IsBound}
 use Rattle.content_bounds.proofs.Events.{bounds-stay}
 use Rattle.image_laws.specs.Images.{AreLines}
-use Rattle.image_laws.specs.Laws.{is_newer, OnlyImagesAreRead, ReadImagesArePrintable, TextsAreRead, StartsHoldTheEntries, SavedIsReadAgain, SavingStays, RunsAreReadAgain, StartsAreWithinBounds, ReadersGoLineByLine, CallsStartIt, CallsDecide}
+use Rattle.image_laws.specs.Laws.{is_newer, OnlyImagesAreRead, JustImagesAreRead, ReadImagesArePrintable, TextsAreRead, StartsHoldTheEntries, SavedIsReadAgain, SavingStays, RunsAreReadAgain, StartsAreWithinBounds, ReadersGoLineByLine, CallsStartIt, CallsDecide, ReadIsSavedAlike}
 use Rattle.image_laws.specs.Savable.{CanBeSaved}
 use Rattle.image_laws.proofs.Good.{IsEntry, AreEntries, IsGood, entry-of, texts-of, good, printable}
 use Rattle.image_laws.proofs.SavedEvents.{step-saved}
 use Rattle.image_laws.proofs.SavedRuns.{after-saved, read-later}
-use Rattle.image_laws.proofs.Printed.{image_text-read}
+use Rattle.image_laws.proofs.Printed.{image_text-read, images-read}
 use Rattle.image_laws.proofs.Only.{IsOlder, IsNewer, IsRead, read_image-only}
 use Rattle.image_laws.proofs.Started.{started-saves}
 use Rattle.image_laws.proofs.Saving.{image-read}
@@ -28,6 +28,7 @@ use Rattle.image_laws.proofs.Restoring.{started-bound}
 use Rattle.image_laws.proofs.Streams.{read-on, line-refused, line-ended, behind-end}
 use Rattle.image_laws.proofs.Calls.{calls-start}
 use Rattle.image_laws.proofs.Agree.{agree-directory, agree-object, agree-line}
+use Rattle.image_laws.proofs.Wrong.{read-image}
 use Rattle.image_laws.proofs.Lengths.{line-short, long-refused}
 
 -- ---- a longer text is allowed too
@@ -91,6 +92,9 @@ only-older bytes i h older =
 pub only-images : OnlyImagesAreRead
 only-images = record { newer = λ bytes i e. only-newer bytes i (read_image-only bytes i e); older = λ bytes i e. only-older bytes i (read_image-only bytes i e) }
 
+pub just-images : JustImagesAreRead
+just-images = record { images = images-read; nothing_else = read-image }
+
 well : (bytes : List ℕ) (i : Image) → IsRead bytes i → IsGood i
 well bytes i h =
     ⊎_elim
@@ -130,6 +134,16 @@ saving-stays = record {
   stays = λ c well bound can e. step-saved c e (basis-in c well) bound can;
   ends = λ c well bound can es. after-saved es c well bound can;
 }
+
+pub read-alike : ReadIsSavedAlike
+read-alike c again i e =
+    let is : i ≡ record { default_limit = c.default_limit; entries = saved c } = cc in
+    let follow = images-start.read (image c) i e in
+    let text = read-printable.newer (image c) i e in
+    record {
+      entries = sym (starts-hold.entries i follow text ∙ ap (λ (i : Image). i.entries) is);
+      limit = sym (starts-hold.limit i follow text ∙ ap (λ (i : Image). i.default_limit) is);
+    }
 
 pub within-bounds : StartsAreWithinBounds
 within-bounds i is text = subst IsBound (sym (images-start.stands i)) (started-bound i (good i is text)).0

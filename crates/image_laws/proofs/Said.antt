@@ -12,11 +12,11 @@ use Rattle.pps_types.specs.Text.{is_attribute_name, is_encoding, set_line, print
 use Rattle.pps_types.specs.Names.{Path}
 use Rattle.pps_types.specs.OpenText.{path_text}
 use Rattle.pps_types.specs.Image.{SavedLine, SavedDirectory, SavedObject, as_line, print_path, Loaded, Position, Between, Behind, plain_number, may_follow, with_entry, directory_line, in_object, object_of, object_line, end_line, set_of, attribute_line}
-use Rattle.image_laws.specs.Images.{is_plain, is_saved_line, is_new, IsSavedPath}
+use Rattle.image_laws.specs.Images.{is_plain, is_saved_line, IsImageLine, is_new, IsSavedPath, object_head}
 use Rattle.image_laws.proofs.Numbers.{plain_number-only}
 use Rattle.image_laws.proofs.Paths.{path_text-only, split-only, prefix-only, plain-end}
 use Rattle.image_laws.proofs.Options.{and-then-some, if-some}
-use Rattle.image_laws.proofs.Entries.{line_body, object_head, follow-parts}
+use Rattle.image_laws.proofs.Entries.{line_body, follow-parts}
 
 -- ---- a directory
 
@@ -100,6 +100,10 @@ set_line-only l w a plain e s =
         let parts = and_parts (is_attribute_name name) (is_encoding enc) t in
         let line : is_saved_line b ≡ true = rw (parts.0, parts.1, encoded.1, plain-value) refl in
         subst (IsLineOf l) same (record { text = text; line = line })
+
+-- a line that is read sets an attribute as an image has it
+pub image-line : (l : List ℕ) (a : SavedLine) → list_all is_plain l ≡ true → option_and_then set_of (set_line Keep l) ≡ Some a → IsImageLine (as_line a)
+image-line l a plain e = let two = and-then-some set_of (set_line Keep l) a e in (refl, (set_line-only l two.0 a plain two.1 two.2).line)
 
 pub record IsAttributeLine (r : Loaded) (path : Path) (lines : List SavedLine) (k : ℕ) (l : List ℕ) (q : Position) (a : SavedLine) : Type 0 where
   pub is : IsLineOf l a

@@ -175,7 +175,7 @@ write-saving c b s h bound bytes p =
 -- ---- paths
 
 -- the directory of a path's place, and its last name, are the path
-made-path : (c : Content) → Basis c → (path : Path) (k : ℕ) → is_empty path ≡ false → parent_number c path ≡ Some k → directory_path c k ++ last_name path ∷ [] ≡ path
+pub made-path : (c : Content) → Basis c → (path : Path) (k : ℕ) → is_empty path ≡ false → parent_number c path ≡ Some k → directory_path c k ++ last_name path ∷ [] ≡ path
 made-path c b [] k some e = absurd (let no = some in cc)
 made-path c b (n ∷ ns) k some e =
     let above = above-of c (n ∷ ns) k e in

@@ -4,10 +4,10 @@ use Rattle.std.specs.List.{list_all, AllByRecursion}
 use Rattle.std.specs.Ordering.{is_lt}
 use Rattle.std.specs.Result.{is_ok}
 use Rattle.pps_types.specs.declared.event.Event.{Event}
+use Rattle.pps_types.specs.declared.line.Line.{Line}
 use Rattle.pps_types.specs.Bytes.{after_prefix, is_empty, pieces}
 use Rattle.pps_types.specs.Text.{print_lines}
 use Rattle.pps_types.specs.Names.{Path, path_cmp}
-use Rattle.pps_types.specs.OpenText.{are_names}
 use Rattle.pps_types.specs.Content.{Content}
 use Rattle.pps_types.specs.WellFormed.{IsContent}
 use Rattle.pps_types.specs.Plan.{step_seen}
@@ -16,9 +16,10 @@ use Rattle.pps_types.specs.Runs.{Answered, after, after_seen, end_of}
 use Rattle.pps_types.specs.Image.{SavedLine, SavedDirectory, SavedObject, path_of, as_line, saved, text_line, image_text, image, Image, Position, First, Behind, may_follow, line_read, at_end, read_lines, read_image, IsImage, started}
 use Rattle.pps_types.specs.Restore.{restore_directory, restore_object, restore_line, restore_entries}
 use Rattle.content_bounds.specs.Bounds.{IsBound}
-use Rattle.image_laws.specs.Images.{is_plain, are_plain, joined, read_all, is_saved_line, is_new, IsSavedPath, HasText, IsPrintable}
+use Rattle.image_laws.specs.Images.{is_plain, are_plain, joined, read_all, is_saved_line, IsImageLine, is_new, IsSavedPath, HasText, IsPrintable, limit_of, IsImageText, IsFirstWrong}
 use Rattle.image_laws.specs.Savable.{CanBeSaved}
 use Rattle.image_laws.specs.Unused.{IsUnused}
+use Rattle.image_laws.specs.Restored.{with_directory, with_object, with_line, Becomes, AreSavedAlike}
 
 -- the first line is that of version 2
 abbrev pub is_newer : List ℕ → Bool
@@ -30,6 +31,16 @@ pub record OnlyImagesAreRead : Type 0 where
   pub newer : (bytes : List ℕ) (i : Image) → read_image bytes ≡ Ok i → is_newer bytes ≡ true → image (shown (started i)) ≡ bytes
   pub older : (bytes : List ℕ) (i : Image) → read_image bytes ≡ Ok i → (is_newer bytes ≡ true → ⊥)
       → (i.default_limit ≡ 256) × (rest : List ℕ) × (bytes ≡ text_line (codes "PPSIMAGE 1") ++ rest) × (image (shown (started i)) ≡ text_line (codes "PPSIMAGE 2 256") ++ rest)
+
+-- Just the texts that are images are read, and each as its entries and its default limit.
+pub record JustImagesAreRead : Type 0 where
+  pub images : (bytes : List ℕ) (is : IsImageText bytes) → read_image bytes ≡ Ok (record { default_limit = limit_of is.version; entries = is.entries })
+  pub nothing_else : (bytes : List ℕ) (i : Image) → read_image bytes ≡ Ok i → IsImageText bytes
+
+-- The line at which a text is refused is the first that is wrong; and a text that is no image is refused at that line.
+pub record TheFirstWrongLineIsNamed : Type 0 where
+  pub named : (bytes : List ℕ) (n : ℕ) → read_image bytes ≡ Err n → IsFirstWrong bytes n
+  pub no_other : (bytes : List ℕ) (n : ℕ) → IsFirstWrong bytes n → ¬ IsImageText bytes → read_image bytes ≡ Err n
 
 -- What is read has a text; the objects of version 1 have one of at most 32,768 bytes.
 pub record ReadImagesArePrintable : Type 0 where
@@ -103,6 +114,16 @@ pub record CallsDecide : Type 0 where
 
 -- What the calls leave that restore entries, of a service of which nobody has a handle, is such a service.
 pub record RestoringStays : Type 0 where
-  pub directory : (c : Content) → IsUnused c → (path : Path) → are_names path ≡ true → (d : Content) → restore_directory c path ≡ Ok d → IsUnused d
-  pub object : (c : Content) → IsUnused c → (path : Path) → are_names path ≡ true → (d : Content) → restore_object c path ≡ Ok d → IsUnused d
-  pub line : (c : Content) → IsUnused c → (path : Path) → (l : SavedLine) → (d : Content) → restore_line c path (as_line l) ≡ Ok d → IsUnused d
+  pub directory : (c : Content) → IsUnused c → (path : Path) → IsSavedPath path → (d : Content) → restore_directory c path ≡ Ok d → IsUnused d
+  pub object : (c : Content) → IsUnused c → (path : Path) → IsSavedPath path → (d : Content) → restore_object c path ≡ Ok d → IsUnused d
+  pub line : (c : Content) → IsUnused c → (path : Path) (line : Line) → IsImageLine line → (d : Content) → restore_line c path line ≡ Ok d → IsUnused d
+
+-- They lead from each machine that is represented to that machine with one directory, object or record more.
+pub record RestoringIsOfMachines : Type 0 where
+  pub directory : (c : Content) → IsUnused c → (path : Path) → IsSavedPath path → (d : Content) → restore_directory c path ≡ Ok d → Becomes (with_directory path) c d
+  pub object : (c : Content) → IsUnused c → (path : Path) → IsSavedPath path → (d : Content) → restore_object c path ≡ Ok d → Becomes (with_object path) c d
+  pub line : (c : Content) → IsUnused c → (path : Path) (line : Line) → IsImageLine line → (d : Content) → restore_line c path line ≡ Ok d → Becomes (with_line path line) c d
+
+-- what an image starts that was read of what was saved, would be saved alike
+abbrev pub ReadIsSavedAlike : Type 0
+ReadIsSavedAlike = (c : Content) → IsReadAgain c.default_limit c → (i : Image) → read_image (image c) ≡ Ok i → AreSavedAlike c (shown (started i))

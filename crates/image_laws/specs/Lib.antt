@@ -1,4 +1,5 @@
 pub mod Images
 pub mod Savable
 pub mod Unused
+pub mod Restored
 pub mod Laws

@@ -1,9 +1,11 @@
 //! Lines of images, read.
-ghost use Rattle.std.specs.Prelude.{◌≡◌, ◌<◌, ◌≤◌, ◌^◌, ℕ, length, option_map, option_and_then, IfOk, IfSome};
+ghost use Rattle.std.specs.Prelude.{◌≡◌, ◌<◌, ◌≤◌, ◌^◌, ℕ, true, length, option_map, option_and_then, IfOk, IfSome};
+ghost use Rattle.std.specs.List.{list_all};
 ghost use Rattle.pps_types.specs.declared.line.Mark.TheVariants.{Keep};
 ghost use Rattle.pps_types.specs.Image as image;
 ghost use Rattle.pps_types.specs.OpenText as meant;
 ghost use Rattle.pps_types.specs.Text as text;
+ghost use Rattle.image_laws.specs.Images.{is_plain, IsImageLine};
 ghost use Rattle.image_lines.specs.Lines.{position_after, IsReadPath, NamesReadPath};
 
 use crate::number::read_number;
@@ -119,9 +121,10 @@ pub fn read_entry_line(alloc: Global, line: &[u8]) -> Result<Option<EntryLine>, 
 }
 
 /// Reads a line of an object's attributes, without its line feed: `name:encoding:value`. `None` says that it is no such
-/// line; one with a bracket is none.
+/// line; one with a bracket is none. If it has no line feed, what it sets is an attribute that an image may have.
 pub fn read_attribute(alloc: Global, line: &[u8]) -> Result<Option<Line>, AllocError>
-    ensures { IfOk result (λ read. read ≡ option_map image.as_line (option_and_then image.set_of (text.set_line Keep line.now))) }
+    ensures read { IfOk result (λ read. read ≡ option_map image.as_line (option_and_then image.set_of (text.set_line Keep line.now))) }
+    ensures line { list_all is_plain line.now ≡ true → IfOk result (λ read. IfSome read IsImageLine) }
 {
     match read_set(alloc, Mark::Keep, line)? {
         Some(

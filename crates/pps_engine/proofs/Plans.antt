@@ -21,6 +21,7 @@ use Rattle.pps_types.proofs.Kept.{longer-none, longest-length}
 use Rattle.pps_types.proofs.WellSteps.{step-content}
 use Rattle.content_bounds.specs.Bounds.{IsBound}
 use Rattle.content_bounds.proofs.Events.{step-keeps, step-sends}
+use Rattle.image_laws.proofs.Proved.{saving-stays}
 use Rattle.number_table.specs.Numbered.{Entry as Numbering, value_under, has_number}
 use Rattle.engine_seats.specs.declared.seats.Seats.{Seats}
 use Rattle.engine_seats.specs.Seated.{kept_of}
@@ -57,7 +58,7 @@ planned-reply c d e reply s = sym (ap (λ p. p.0) s.taken)
 
 pub planned-sound : (c d : Content) (e : Event) (reply : Outcome) → IsSound c → StepsSeen c e (Ok reply) d → IsSound d
 planned-sound c d e reply sound s =
-    subst IsSound (sym (ap (λ p. p.1) s.taken)) (record { formed = step-content c e sound.formed; bound = step-keeps c sound.formed sound.bound e })
+    subst IsSound (sym (ap (λ p. p.1) s.taken)) (record { formed = step-content c e sound.formed; bound = step-keeps c sound.formed sound.bound e; can = saving-stays.stays c sound.formed sound.bound sound.can e })
 
 pub planned-sends : (c d : Content) (e : Event) (reply : Outcome) → IsBound c → StepsSeen c e (Ok reply) d → IsSendable (Ok reply)
 planned-sends c d e reply b s = subst IsSendable (planned-reply c d e reply s) (step-sends c b e)

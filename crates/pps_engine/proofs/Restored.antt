@@ -1,13 +1,10 @@
 -- What the calls leave that restore an image.
 use Rattle.std.specs.Prelude.{◌≡◌, [], Result, Ok, Err, OnOk, OnErr, None, Option}
-use Rattle.std.proofs.Common.{sym, subst, ap, ◌∙◌}
-use Rattle.pps_types.specs.declared.line.Line.{Line}
+use Rattle.std.proofs.Common.{sym, subst}
 use Rattle.pps_types.specs.declared.refusal.Refusal.{Refusal}
 use Rattle.pps_types.specs.Content.{Content}
-use Rattle.pps_types.specs.Image.{SavedLine, as_line}
-use Rattle.pps_types.specs.Names.{Path}
-use Rattle.pps_types.specs.Restore.{restore_line}
-use Rattle.image_laws.specs.Laws.{RestoringStays}
+use Rattle.pps_types.specs.Machine.{Machine}
+use Rattle.image_laws.specs.Restored.{Becomes}
 use Rattle.image_laws.specs.Unused.{IsUnused}
 use Rattle.engine_tables.specs.Tables.{Tabled, content_in}
 use Rattle.pps_engine.specs.declared.engine.Ready.{Ready}
@@ -15,7 +12,7 @@ use Rattle.pps_engine.specs.Standing.{IsSound, IsPending}
 
 -- nobody has a handle of it
 pub unused_in : (c : Content) → IsSound c → c.handles ≡ [] → IsUnused c
-unused_in c sound unused = record { formed = sound.formed; bound = sound.bound; handles = unused }
+unused_in c sound unused = record { formed = sound.formed; bound = sound.bound; can = sound.can; handles = unused }
 
 -- so it is after a call that left this or was refused
 pub left_unused : {T : Type 0} (c d : Content) (call : Result Content Refusal) (r : Result T Refusal) → ((e : Content) → call ≡ Ok e → IsUnused e) → IsUnused c → OnOk r (call ≡ Ok d) → OnErr r (d ≡ c) → IsUnused d
@@ -24,8 +21,9 @@ left_unused c d call (Err e) stays w done kept = subst IsUnused (sym kept) w
 
 -- nothing is pending
 pub sound_alone : (t : Tabled) (o : Option Ready) → IsUnused (content_in t) → o ≡ None → IsSound (content_in t) × IsPending t o
-sound_alone t o w none = (record { formed = w.formed; bound = w.bound }, subst (IsPending t) (sym none) tt)
+sound_alone t o w none = (record { formed = w.formed; bound = w.bound; can = w.can }, subst (IsPending t) (sym none) tt)
 
--- a line that an image has
-pub line_stays : RestoringStays → (c : Content) → IsUnused c → (path : Path) (line : Line) → (l : SavedLine) × (line ≡ as_line l) → (d : Content) → restore_line c path line ≡ Ok d → IsUnused d
-line_stays laws c w path line saved d done = laws.line c w path saved.0 d (ap (restore_line c path) (sym saved.1) ∙ done)
+-- a call that is done makes of what stood what its law says
+pub becomes : {T : Type 0} (made : Machine → Machine) (c d : Content) (call : Result Content Refusal) (r : Result T Refusal) → ((e : Content) → call ≡ Ok e → Becomes made c e) → OnOk r (call ≡ Ok d) → OnOk r (Becomes made c d)
+becomes made c d call (Ok x) law done = law d done
+becomes made c d call (Err e) law done = tt

@@ -1,3 +1,4 @@
 pub mod Serving
 pub mod Standing
+pub mod Restored
 pub mod Private

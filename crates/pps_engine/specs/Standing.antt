@@ -5,6 +5,7 @@ use Rattle.pps_types.specs.Owed.{kept_records_seen}
 use Rattle.pps_types.specs.Plan.{apply_all_seen}
 use Rattle.pps_types.specs.WellFormed.{IsContent}
 use Rattle.content_bounds.specs.Bounds.{IsBound}
+use Rattle.image_laws.specs.Savable.{CanBeSaved}
 use Rattle.number_table.specs.Numbered.{Entry as Numbering}
 use Rattle.engine_seats.specs.declared.seats.Seats.{Seats}
 use Rattle.engine_seats.specs.Seated.{kept_of}
@@ -14,10 +15,11 @@ use Rattle.engine_events.specs.Events.{moves_pending, CanCarry}
 use Rattle.pps_engine.specs.declared.engine.Ready.{Ready}
 use Rattle.pps_engine.specs.Serving.{Chained, Upcoming, held_records}
 
--- it is well formed, and within its bounds
+-- it is well formed and within its bounds, and can be saved
 pub record IsSound (c : Content) : Type 0 where
   pub formed : IsContent c
   pub bound : IsBound c
+  pub can : CanBeSaved c
 
 -- what stands once it is carried out
 abbrev pub after : Tabled → Pending → Content

@@ -138,6 +138,8 @@ impl Model for Engine {
 
 impl Engine {
     fn starting(alloc: Global, first_handle: u32, default_limit: u32) -> Result<Engine, AllocError>
+        requires at_least { 1 ≤ default_limit }
+        requires at_most { default_limit ≤ 65535 }
         ensures { IfOk result (λ engine. Stands engine.content (start first_handle default_limit)) }
     {
         let tables = Tables::new(alloc, first_handle, default_limit)?;

@@ -1,17 +1,21 @@
 //! The calls that restore an image.
-ghost use Rattle.std.specs.Prelude.{◌≡◌, ◌⊎◌, [], true, Ok, Err, None, IfErr, OnOk, OnErr};
+ghost use Rattle.std.specs.Prelude.{◌≡◌, ◌⊎◌, [], Ok, Err, None, IfErr, OnOk, OnErr};
 ghost use Rattle.pps_types.specs.declared.refusal.Refusal.TheVariants.{OutOfMemory};
-ghost use Rattle.pps_types.specs.Image.{SavedLine, as_line};
-ghost use Rattle.pps_types.specs.OpenText.{are_names};
 ghost use Rattle.pps_types.specs.Restore as restoring;
+ghost use Rattle.image_laws.specs.Images.{IsSavedPath, IsImageLine};
+ghost use Rattle.image_laws.specs.Restored.{with_directory, with_object, with_line};
+ghost use Rattle.pps_engine.specs.Restored.{LeadsTo};
 ghost use Rattle.pps_engine.specs.Serving.{IsExact};
 
 use crate::engine::{Engine, are_cut, forget};
-use image_laws::restoring_stays;
+use image_laws::{restoring_is_of_machines, restoring_stays};
 use pps_types::{Bytes, Line, Refusal};
 
 impl Engine {
-    /// Makes a directory at a path, in a service of which nobody has a handle. The path is as the formats allow.
+    /// Makes a directory at a path, in a service of which nobody has a handle. The path has a
+    /// text: at most 32 names as an open may have them, and 1,024 bytes.
+    ///
+    /// The engine then represents each machine that it represented, with that directory made.
     ///
     /// It is NotFound or NotDirectory where the path leads nowhere, Exists where something stands there, and TableFull
     /// where 256 directories stand in the one above, where there are 65,536 directories, and where the directory would
@@ -19,8 +23,9 @@ impl Engine {
     /// longer ready.
     pub fn restore_directory(&mut self, path: Vec<Bytes>) -> Result<(), Refusal>
         requires unused { self.old.content.handles ≡ [] }
-        requires path { are_names path.items ≡ true }
+        requires path { IsSavedPath path.items }
         ensures done { OnOk result (restoring.restore_directory self.old.content path.items ≡ Ok self.new.content) }
+        ensures stands { LeadsTo (with_directory path.items) self.old result self.new }
         ensures refused { IfErr result (λ r. (restoring.restore_directory self.old.content path.items ≡ Err r) ⊎ (r ≡ OutOfMemory)) }
         ensures kept { OnErr result (self.new.content ≡ self.old.content) }
         ensures ready { self.new.next ≡ None }
@@ -29,13 +34,16 @@ impl Engine {
     {
         forget(&mut self.pending);
         restoring_stays();
+        restoring_is_of_machines();
         let restored = restore_requests::restore_directory(&mut self.tables, path);
         are_cut(&self.tables);
         restored
     }
 
     /// Creates an object without attributes at a path, persistent and plain, in a service of which nobody has a handle.
-    /// The path is as the formats allow.
+    /// The path has a text: at most 32 names as an open may have them, and 1,024 bytes.
+    ///
+    /// The engine then represents each machine that it represented, with that object and the record that it was created.
     ///
     /// It is NotFound or NotDirectory where the path leads nowhere, Exists where something stands there, and TableFull
     /// where 256 objects stand in the directory, where there are 65,535 objects, and where the object or its record would
@@ -43,8 +51,9 @@ impl Engine {
     /// longer ready.
     pub fn restore_object(&mut self, path: Vec<Bytes>) -> Result<(), Refusal>
         requires unused { self.old.content.handles ≡ [] }
-        requires path { are_names path.items ≡ true }
+        requires path { IsSavedPath path.items }
         ensures done { OnOk result (restoring.restore_object self.old.content path.items ≡ Ok self.new.content) }
+        ensures stands { LeadsTo (with_object path.items) self.old result self.new }
         ensures refused { IfErr result (λ r. (restoring.restore_object self.old.content path.items ≡ Err r) ⊎ (r ≡ OutOfMemory)) }
         ensures kept { OnErr result (self.new.content ≡ self.old.content) }
         ensures ready { self.new.next ≡ None }
@@ -53,6 +62,7 @@ impl Engine {
     {
         forget(&mut self.pending);
         restoring_stays();
+        restoring_is_of_machines();
         let alloc = self.alloc;
         let restored = restore_requests::restore_object(&mut self.tables, alloc, path);
         are_cut(&self.tables);
@@ -60,7 +70,9 @@ impl Engine {
     }
 
     /// Adds an attribute to the object at a path, by the line that sets it, in a service of which nobody has a handle.
-    /// The line is one that an image has: it sets a persistent attribute.
+    /// The line is one that an image may have: it sets a persistent attribute, and it has a printing.
+    ///
+    /// The engine then represents each machine that it represented, with one more record, the change that the line makes.
     ///
     /// It is NotFound or NotDirectory where the path leads nowhere, IsDirectory where a directory stands there, Exists
     /// where the object has an attribute of that name, TooLarge where it would pass a limit of objects, and TableFull
@@ -68,8 +80,9 @@ impl Engine {
     /// A plan before it is no longer ready.
     pub fn restore_line(&mut self, path: &[Bytes], line: Line) -> Result<(), Refusal>
         requires unused { self.old.content.handles ≡ [] }
-        requires line { (l : SavedLine) × (line ≡ as_line l) }
+        requires line { IsImageLine line }
         ensures done { OnOk result (restoring.restore_line self.old.content path.now line ≡ Ok self.new.content) }
+        ensures stands { LeadsTo (with_line path.now line) self.old result self.new }
         ensures refused { IfErr result (λ r. (restoring.restore_line self.old.content path.now line ≡ Err r) ⊎ (r ≡ OutOfMemory)) }
         ensures kept { OnErr result (self.new.content ≡ self.old.content) }
         ensures ready { self.new.next ≡ None }
@@ -78,6 +91,7 @@ impl Engine {
     {
         forget(&mut self.pending);
         restoring_stays();
+        restoring_is_of_machines();
         let alloc = self.alloc;
         let restored = restore_requests::restore_line(&mut self.tables, alloc, path, line);
         are_cut(&self.tables);

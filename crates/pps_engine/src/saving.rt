@@ -2,9 +2,12 @@
 ghost use Rattle.std.specs.Prelude.{◌≡◌, IfOk, IfErr};
 ghost use Rattle.pps_types.specs.declared.refusal.Refusal.TheVariants.{OutOfMemory};
 ghost use Rattle.pps_types.specs.Image as image;
+ghost use Rattle.image_laws.specs.Laws.{IsReadAgain};
+ghost use Rattle.image_laws.specs.Savable.{CanBeSaved};
 
 use crate::engine::Engine;
 use image_entries::{SavedEntry, saved_entries};
+use image_laws::saved_is_read_again;
 use pps_types::Refusal;
 
 impl Engine {
@@ -19,5 +22,15 @@ impl Engine {
     {
         let entries = saved_entries(self.alloc, self.tables.names())?;
         Ok(entries)
+    }
+
+    /// Does nothing. Its contract is the law that the state can be saved, and that its image is read as what was saved,
+    /// whether the engine was just made, copied or stepped, or an image was restored in it.
+    pub fn can_be_saved(&self)
+        ensures can { CanBeSaved self.now.content }
+        ensures read { IsReadAgain self.now.content.default_limit self.now.content }
+    {
+        saved_is_read_again();
+        let _ = &self.tables;
     }
 }

@@ -2,7 +2,9 @@
 use Rattle.std.specs.Prelude.{◌≡◌, ◌⊎◌, ◌≤◌, ◌+◌, ℕ, min, Bool, true, false, List, ◌++◌, length, Option, Result, Ok, Err}
 use Rattle.std.specs.Io.KnownBytes.{Consumes, IsAtEnd}
 use Rattle.pps_types.specs.Device.{last_count}
-use Rattle.pps_types.specs.Image.{read_image}
+use Rattle.pps_types.specs.Content.{Content}
+use Rattle.pps_types.specs.Image.{image, read_image}
+use Rattle.image_laws.specs.Restored.{AreSavedAlike}
 use Rattle.pps_engine.specs.Serving.{Serving}
 use Rattle.pps_persist.specs.declared.errors.LoadError.{LoadError}
 use Rattle.pps_persist.specs.declared.errors.LoadError.TheVariants.{OutOfMemory, BadImage, ReadFault}
@@ -15,6 +17,10 @@ pub record LoadsImage (from to : Option (List ℕ)) (engine : Serving) : Type 0 
   pub read : Consumes from to bytes
   pub ended : IsAtEnd to
   pub loaded : IsLoadedFrom bytes engine
+
+-- Whatever input an engine was loaded from: if just the image of this content was read, both would be saved alike.
+abbrev pub IsLoadedAlike : Content → Serving → Type 0
+IsLoadedAlike c engine = (from to : Option (List ℕ)) (h : LoadsImage from to engine) → h.bytes ≡ image c → AreSavedAlike c engine.content
 
 -- What was read is told to be no image, at this line: whatever follows it, or where the input ends behind it.
 pub record RefusesImage (from to : Option (List ℕ)) (line : ℕ) : Type 0 where

@@ -1,6 +1,7 @@
 //! Images of the service: loaded and saved, exactly.
 #![tactic(auto)]
 
+mod again;
 mod entries;
 mod errors;
 mod lines;
@@ -10,6 +11,7 @@ mod pieces;
 mod place;
 mod saving;
 
+pub use again::loaded_is_saved_alike;
 pub use errors::{LoadError, SaveError};
 pub use loading::load;
 pub use saving::save;

@@ -1,11 +1,12 @@
 //! What the calls restore that an image is loaded by, and what an image saves.
-ghost use Rattle.std.specs.Prelude.{◌≡◌, [], true, IfOk};
-ghost use Rattle.pps_types.specs.Image.{SavedLine, as_line};
-ghost use Rattle.pps_types.specs.OpenText.{are_names};
+ghost use Rattle.std.specs.Prelude.{◌≡◌, [], IfOk};
+ghost use Rattle.std.specs.List.{list_all};
+ghost use Rattle.image_laws.specs.Images.{is_plain, IsImageLine, IsSavedPath};
 
 use crate::scripts::Start::{New, Restored};
 use crate::scripts::Step::{Runs, Saves, Says};
 use crate::scripts::{Step, copy, play, same};
+use image_lines::read_attribute;
 use open_options::read_path;
 use pps_engine::{Engine, SavedEntry};
 use pps_types::{Bytes, Line, Refusal};
@@ -24,21 +25,33 @@ enum Kind {
 
 /// The names of a path.
 fn names(alloc: Global, path: &[u8]) -> Result<Vec<Bytes>, Refusal>
-    ensures { IfOk result (λ names. are_names names.items ≡ true) }
+    ensures { IfOk result (λ names. IsSavedPath names.items) }
 {
     Ok(read_path(alloc, path)?.into_names())
 }
 
-/// The line that sets a persistent attribute.
-fn line(alloc: Global, name: &[u8], enc: &[u8], value: &[u8]) -> Result<Line, AllocError>
-    ensures { IfOk result (λ line. (l : SavedLine) × (line ≡ as_line l)) }
+/// Whether there is no line feed.
+fn has_no_line_feed(line: &[u8]) -> bool
+    ensures { result ≡ list_all is_plain line.now }
 {
-    Ok(Line::Set {
-        name: Bytes::from_slice(alloc, name)?,
-        enc: Bytes::from_slice(alloc, enc)?,
-        value: Bytes::from_slice(alloc, value)?,
-        n: false,
-    })
+    line.iter().all(|byte| *byte != b'\n')
+}
+
+/// The line that sets a persistent attribute: its name, its encoding and its value.
+fn line(alloc: Global, attribute: [&[u8]; 3]) -> Result<Line, Refusal>
+    ensures { IfOk result (λ line. IsImageLine line) }
+{
+    let [name, enc, value] = attribute;
+    let mut text = Vec::new(alloc);
+    text.extend_from_slice(name)?;
+    text.push(b':')?;
+    text.extend_from_slice(enc)?;
+    text.push(b':')?;
+    text.extend_from_slice(value)?;
+    if !has_no_line_feed(&text) {
+        return Err(Refusal::BadText { line: 1 });
+    }
+    read_attribute(alloc, &text)?.ok_or(Refusal::BadText { line: 1 })
 }
 
 /// Bytes, written so often.
@@ -66,8 +79,8 @@ fn restore(
         Kind::Directory => engine.restore_directory(path),
         Kind::Object => engine.restore_object(path),
         Kind::Line => {
-            let [name, enc, value] = attribute;
-            engine.restore_line(&path, line(alloc, name, enc, value)?)
+            let line = line(alloc, attribute)?;
+            engine.restore_line(&path, line)
         }
     }
 }

@@ -6,7 +6,9 @@ use Rattle.pps_types.specs.declared.refusal.Refusal.TheVariants.{OutOfMemory}
 use Rattle.pps_types.specs.Names.{Path}
 use Rattle.pps_types.specs.Image.{as_line}
 use Rattle.pps_types.specs.Restore.{restore_line}
+use Rattle.image_laws.specs.Images.{IsImageLine}
 use Rattle.image_laws.proofs.Options.{map-some}
+use Rattle.image_laws.proofs.Said.{image-line}
 use Rattle.pps_persist.specs.declared.place.Loaded.{Loaded}
 use Rattle.pps_persist.proofs.Added.{read_line, too-long, no-more, adds-line}
 use Rattle.pps_persist.proofs.Judging.{judged-done, judged-refused, line-refused}
@@ -17,15 +19,15 @@ returns-then-text-loaded c = λ r path before h. too-long r path before c.args.l
 
 pub restore_line-requires-clause-line : goal.restore_line-requires-clause-line
 restore_line-requires-clause-line c =
-    let m = map-some as_line (read_line c.args.line.now) c.in-Some.attribute (sym c.in_ok-attribute.ensures ∙ c.in-Some.is) in
-    (m.0, sym m.2)
+    let m = map-some as_line (read_line c.args.line.now) c.in-Some.attribute (sym c.in_ok-attribute.ensures.read ∙ c.in-Some.is) in
+    subst IsImageLine m.2 (image-line c.args.line.now m.0 c.requires.plain m.1)
 
 pub returns-in_err-judge : goal.returns-in_err-judge
 returns-in_err-judge c =
     let p = err_from_is_err_and c.from_residual-in_err-judge.result c.from_residual-in_err-judge.ensures.1 in
     let old = c.args.loaded in
     let l = c.args.line.now in
-    let m = map-some as_line (read_line l) c.in-Some.attribute (sym c.in_ok-attribute.ensures ∙ c.in-Some.is) in
+    let m = map-some as_line (read_line l) c.in-Some.attribute (sym c.in_ok-attribute.ensures.read ∙ c.in-Some.is) in
     let refused = subst (λ (x : Path). IfErr c.restore_line.result (λ r. (restore_line old.engine.content x (as_line m.0) ≡ Err r) ⊎ (r ≡ OutOfMemory))) c.deref.ensures.value
     (subst (λ (x : Line). IfErr c.restore_line.result (λ r. (restore_line old.engine.content c.deref.result.now x ≡ Err r) ⊎ (r ≡ OutOfMemory))) (sym m.2) c.restore_line.ensures.refused) in
     rw p.1
@@ -37,7 +39,7 @@ pub returns : goal.returns
 returns c =
     let old = c.args.loaded in
     let l = c.args.line.now in
-    let m = map-some as_line (read_line l) c.in-Some.attribute (sym c.in_ok-attribute.ensures ∙ c.in-Some.is) in
+    let m = map-some as_line (read_line l) c.in-Some.attribute (sym c.in_ok-attribute.ensures.read ∙ c.in-Some.is) in
     let done = subst (λ (x : Path). OnOk c.restore_line.result (restore_line old.engine.content x (as_line m.0) ≡ Ok c.restore_line.new.self.content)) c.deref.ensures.value
     (subst (λ (x : Line). OnOk c.restore_line.result (restore_line old.engine.content c.deref.result.now x ≡ Ok c.restore_line.new.self.content)) (sym m.2) c.restore_line.ensures.done) in
     let new : Loaded = record { engine = c.restore_line.new.self; longest = old.longest; count = old.count; last = old.last } in

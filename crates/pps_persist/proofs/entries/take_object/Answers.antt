@@ -5,10 +5,17 @@ use Rattle.std.proofs.lemmas.Result.{err_from_is_err_and}
 use Rattle.pps_types.specs.declared.refusal.Refusal.TheVariants.{OutOfMemory}
 use Rattle.pps_types.specs.Names.{Path, path_cmp}
 use Rattle.pps_types.specs.Restore.{restore_object}
+use Rattle.image_laws.specs.Images.{IsSavedPath}
 use Rattle.pps_persist.specs.declared.place.Loaded.{Loaded}
 use Rattle.pps_persist.proofs.Judging.{judged-done, judged-refused, object-refused}
 use Rattle.pps_persist.proofs.Restored.{not-root, adds-object, no-object}
 use Rattle.pps_persist.proofs.entries.take_object.Goals as goal
+
+pub restore_object-requires-clause-path : goal.restore_object-requires-clause-path
+restore_object-requires-clause-path c =
+    let path = c.args.path.items in
+    let behind : is_lt (path_cmp c.args.loaded.last.items path) ≡ true = cc in
+    subst IsSavedPath (sym (c.in_ok-names.ensures ∙ c.deref-2.ensures.value)) (c.requires.path (not-root c.args.loaded.last.items path behind))
 
 pub returns-in_err-judge : goal.returns-in_err-judge
 returns-in_err-judge c =

@@ -3,10 +3,11 @@ use Rattle.std.specs.Prelude.{◌⊎◌, OnOk, IfErr}
 use Rattle.pps_types.specs.declared.refusal.Refusal.TheVariants.{OutOfMemory}
 use Rattle.pps_types.specs.Content.{Content}
 use Rattle.pps_types.specs.Restore.{restore_object}
+use Rattle.image_laws.specs.Restored.{with_object, Becomes}
 use Rattle.engine_tables.specs.Tables.{Tabled, content_in}
 use Rattle.pps_engine.specs.Serving.{Serving}
 use Rattle.pps_engine.specs.Standing.{IsSound}
-use Rattle.pps_engine.proofs.Restored.{unused_in, left_unused, sound_alone}
+use Rattle.pps_engine.proofs.Restored.{unused_in, left_unused, sound_alone, becomes}
 use Rattle.pps_engine.proofs.engine.Engine.restore_object.Goals as goal
 
 pub invariant_of-self : goal.invariant_of-self
@@ -27,3 +28,12 @@ pub returns-clause-refused : goal.returns-clause-refused
 returns-clause-refused c =
     let same : content_in c.deref_mut-2.result.now ≡ c.args.self.now.content = ap (λ (u : Tabled). content_in u) c.deref_mut-2.ensures.value ∙ ap (λ (s : Serving). s.content) c.self.view_is in
     subst (λ (d : Content). IfErr c.restore_object-restored.result (λ r. (restore_object d c.args.path.items ≡ Err r) ⊎ (r ≡ OutOfMemory))) same c.restore_object-restored.ensures.refused
+
+pub returns-clause-stands : goal.returns-clause-stands
+returns-clause-stands c =
+    let t = c.deref_mut-2.result.now in
+    let after = c.restore_object-restored.new.tables in
+    let same : content_in t ≡ c.args.self.now.content = ap (λ (u : Tabled). content_in u) c.deref_mut-2.ensures.value ∙ ap (λ (s : Serving). s.content) c.self.view_is in
+    let w = unused_in (content_in t) (subst (λ (u : Tabled). IsSound (content_in u)) (sym c.deref_mut-2.ensures.value) c.self.invariant.0) (ap (λ (d : Content). d.handles) same ∙ c.requires.unused) in
+    subst (λ (d : Content). OnOk c.restore_object-restored.result (Becomes (with_object c.args.path.items) d (content_in after))) same
+    (becomes (with_object c.args.path.items) (content_in t) (content_in after) (restore_object (content_in t) c.args.path.items) c.restore_object-restored.result (c.restoring_is_of_machines.ensures.object (content_in t) w c.args.path.items c.requires.path) c.restore_object-restored.ensures.done)
