@@ -1,19 +1,15 @@
-/* A library to be loaded before others: it refuses the allocation of the number REFUSED, and writes how many there were
-   into the file COUNTED. */
+/* A library to be loaded before others: it refuses the allocation of the number REFUSED, and if a + follows the number also
+   all later ones; and it writes how many there were into the file COUNTED. */
 #define _GNU_SOURCE
 #include <dlfcn.h>
 #include <errno.h>
+#include <string.h>
 #include "count.h"
 
-static long number = -1;
-
 static int is_refused(void) {
-    if (number < 0) {
-        const char *asked = getenv("REFUSED");
-        number = asked ? atol(asked) : 0;
-    }
-    seen++;
-    return number > 0 && seen == number;
+    const char *asked = getenv("REFUSED");
+    long now = __sync_add_and_fetch(&seen, 1), number = asked ? atol(asked) : 0;
+    return number > 0 && (now == number || (now > number && strchr(asked, '+')));
 }
 
 void *malloc(size_t size) {
