@@ -32,7 +32,8 @@ fn run_pieces<R: Read, W: Write>(
     requires input { device_failed (input_of exchange.old) ≡ false }
     requires output { device_failed (output_of exchange.old) ≡ false }
     requires held { held_in exchange.old ≡ [] }
-    ensures runs { RunsPieces R.remaining W.contents session.old.show exchange.old exchange.new engine.old.content engine.new.content result }
+    ensures runs { RunsPieces R.remaining W.contents session.old.show exchange.old exchange.new
+        engine.old.content engine.new.content result }
     ensures fault { PieceFaultsAre exchange.old exchange.new result }
 {
     'pieces: for _ in 0..READS_MAX {

@@ -45,7 +45,8 @@ impl Session {
     ) -> Result<(), ScriptFault>
         ensures show { self.new.show ≡ self.old.show }
         ensures count { count_of self.new ≡ counted_once_more (count_of self.old) }
-        ensures runs { RunsLine W.contents self.old exchange.old exchange.new engine.old.content engine.new.content line.now result }
+        ensures runs { RunsLine W.contents self.old exchange.old exchange.new
+            engine.old.content engine.new.content line.now result }
         ensures fault { LineFaultIs result (device_failed (output_of exchange.old)) (device_failed (output_of exchange.new))
             (device_stalls (output_of exchange.old)) (device_stalls (output_of exchange.new)) }
         ensures input { input_of exchange.new ≡ input_of exchange.old }
@@ -96,7 +97,8 @@ impl Session {
         requires { part.old.items ≡ [] }
         ensures show { self.new.show ≡ self.old.show }
         ensures part { OnOk result (IsPart part.new.items) }
-        ensures runs { RunsText W.contents self.old self.new exchange.old exchange.new engine.old.content engine.new.content piece.now part.new.items result }
+        ensures runs { RunsText W.contents self.old self.new exchange.old exchange.new
+            engine.old.content engine.new.content piece.now part.new.items result }
         ensures fault { LineFaultIs result (device_failed (output_of exchange.old)) (device_failed (output_of exchange.new))
             (device_stalls (output_of exchange.old)) (device_stalls (output_of exchange.new)) }
         ensures input { input_of exchange.new ≡ input_of exchange.old }
@@ -117,8 +119,8 @@ impl Session {
         requires { IsPart part.old.items }
         ensures show { self.new.show ≡ self.old.show }
         ensures part { OnOk result (IsPart part.new.items) }
-        ensures runs { RunsText W.contents self.old self.new exchange.old exchange.new engine.old.content engine.new.content
-            (part.old.items ++ piece.now) part.new.items result }
+        ensures runs { RunsText W.contents self.old self.new exchange.old exchange.new
+            engine.old.content engine.new.content (part.old.items ++ piece.now) part.new.items result }
         ensures fault { LineFaultIs result (device_failed (output_of exchange.old)) (device_failed (output_of exchange.new))
             (device_stalls (output_of exchange.old)) (device_stalls (output_of exchange.new)) }
         ensures input { input_of exchange.new ≡ input_of exchange.old }
@@ -143,7 +145,8 @@ impl Session {
         exchange: &mut Exchange<R, W>,
         part: &[u8],
     ) -> Result<(), ScriptFault>
-        ensures runs { RunsRest W.contents self.old exchange.old exchange.new engine.old.content engine.new.content part.now result }
+        ensures runs { RunsRest W.contents self.old exchange.old exchange.new
+            engine.old.content engine.new.content part.now result }
         ensures fault { LineFaultIs result (device_failed (output_of exchange.old)) (device_failed (output_of exchange.new))
             (device_stalls (output_of exchange.old)) (device_stalls (output_of exchange.new)) }
         ensures input { input_of exchange.new ≡ input_of exchange.old }
