@@ -1,3 +1,3 @@
 pub mod Faults
-pub mod Serving
+pub mod Scripts
 pub mod Frames

@@ -7,7 +7,6 @@ mod frames;
 mod images;
 mod patient;
 mod script;
-mod serving;
 mod sessions;
 mod whole_file;
 
@@ -34,8 +33,8 @@ fn serve_script<'w, F: Files, I: Read, O: Write>(
     input: &mut I,
     output: &mut O,
 ) -> Result<(), Failure<'w>> {
-    let engine = begin(alloc, files, options.service.beginning)?;
-    let engine = run_script(alloc, engine, options.show, input, output)?;
+    let mut engine = begin(alloc, files, options.service.beginning)?;
+    run_script(alloc, &mut engine, options.show, input, output)?;
     end(alloc, files, &engine, options.service.save)
 }
 
