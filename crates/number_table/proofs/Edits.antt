@@ -1,12 +1,10 @@
 -- What slots hold once a value has left or was changed.
-use Rattle.std.proofs.Common.{◌≡◌, ◌≢◌, ℕ, zero, suc, ◌-◌, Bool, true, false, cond, List, [], ◌∷◌, length, find, Option, Some, None, IsSome, get_or, refl, sym, ap, ◌∙◌, arith}
-use Rattle.std.proofs.Math.ListN.{set, length-set}
+use Rattle.std.proofs.Common.{◌≡◌, ◌≢◌, ℕ, zero, suc, ◌+◌, Bool, true, false, cond, List, [], ◌∷◌, length, find, Option, Some, None, IsSome, get_or, refl, sym, ap, ◌∙◌, arith}
+use Rattle.std.proofs.Math.ListN.{set}
 use Rattle.std.proofs.lemmas.Bool.{false≢true, ne_eqb, eq-eqb}
 use Rattle.std.proofs.lemmas.Option.{none-some}
 use Rattle.number_table.specs.Numbered.{Entry, has_number, on_first, without_first}
-use Rattle.number_table.specs.declared.slots.Slot.{Slot}
-use Rattle.number_table.specs.Slots.{StandsAt, IsSound, entry_before, entries_in}
-use Rattle.number_table.proofs.Entries.{numbers_set}
+use Rattle.number_table.specs.Index.{Slot, StandsAt, entry_before, entries_in}
 
 -- ---- a value that has left
 
@@ -70,20 +68,11 @@ length_on n None xs ys h = h
 length_on n (Some x) xs ys h = ap suc h
 
 -- as many
-length_changed : {T : Type 0} (number place : ℕ) (ss : List (Slot T)) (n : ℕ) (w : T) → StandsAt number place ss → length (entries_in (set ss place (record { number = n; value = Some w }))) ≡ length (entries_in ss)
+pub length_changed : {T : Type 0} (number place : ℕ) (ss : List (Slot T)) (n : ℕ) (w : T) → StandsAt number place ss → length (entries_in (set ss place (record { number = n; value = Some w }))) ≡ length (entries_in ss)
 length_changed number place [] n w h = absurd h
 length_changed number zero (s ∷ ss) n w h = length_here s.number s.value (entries_in ss) h.1
 length_changed number (suc place) (s ∷ ss) n w h = length_on s.number s.value (entries_in (set ss place (record { number = n; value = Some w }))) (entries_in ss) (length_changed number place ss n w h.1)
 
--- the table stays sound where a value is changed
-pub sound_changed : {T : Type 0} (number place : ℕ) (numbers : List ℕ) (ss : List (Slot T)) (count next : ℕ) (s : Slot T) (w : T) → IsSound numbers ss count next → StandsAt number place ss → s ≡ get_or ss place s → IsSound numbers (set ss place (record { number = s.number; value = Some w })) count next
-sound_changed number place numbers ss count next s w h k e = record {
-  mirrored = h.mirrored ∙ sym (numbers_set place ss s s.number (Some w) (ap (λ s. s.number) e));
-  rises = h.rises;
-  counted = h.counted ∙ sym (length_changed number place ss s.number w k);
-  dense = let d = h.dense in omega (arith, length-set ss place (record { number = s.number; value = Some w }));
-}
-
 -- the count of what is left
-pub count_removed : {T : Type 0} (number place : ℕ) (ss : List (Slot T)) (n count : ℕ) (o : Option T) → o ≡ None → count ≡ length (entries_in ss) → StandsAt number place ss → count - 1 ≡ length (entries_in (set ss place (record { number = n; value = o })))
-count_removed number place ss n count o e h k = rw e (let l = length_removed number place ss n k in omega arith)
+pub count_removed : {T : Type 0} (number place : ℕ) (ss : List (Slot T)) (n count : ℕ) → count ≡ length (entries_in ss) → StandsAt number place ss → count ≡ length (entries_in (set ss place (record { number = n; value = None }))) + 1
+count_removed number place ss n count k h = let l = length_removed number place ss n h in omega arith

@@ -1,11 +1,10 @@
 -- What slots hold, and how a number is found among them.
-use Rattle.std.proofs.Common.{◌≡◌, ◌≢◌, ℕ, zero, suc, ◌<◌, ◌≤◌, ◌==◌, ◌&&◌, Bool, true, false, cond, List, [], ◌∷◌, ◌++◌, length, filter, find, map, Option, Some, None, is_some, IsSome, IfSome, IfNone, get_or, refl, sym, ap, ◌∙◌, arith}
+use Rattle.std.proofs.Common.{◌≡◌, ◌≢◌, ℕ, zero, suc, ◌<◌, ◌≤◌, ◌==◌, ◌&&◌, Bool, true, false, cond, List, [], ◌∷◌, ◌++◌, length, filter, find, map, Option, Some, None, is_some, IsSome, IfSome, IfNone, get_or, refl, sym, ap, ◌∙◌, inl, inr, arith}
 use Rattle.std.specs.Option.{option_map}
 use Rattle.std.proofs.Math.ListN.{set}
-use Rattle.std.proofs.lemmas.Bool.{false≢true, ne_eqb, eq-eqb, eqb-true}
+use Rattle.std.proofs.lemmas.Bool.{cases_eq, false≢true, ne_eqb, eq-eqb, eqb-true}
 use Rattle.number_table.specs.Numbered.{Entry, has_number, value_under}
-use Rattle.number_table.specs.declared.slots.Slot.{Slot}
-use Rattle.number_table.specs.Slots.{Rises, IsPlace, StandsAt, numbers_of, has_value, stands, entry_before, entries_in}
+use Rattle.number_table.specs.Index.{Slot, Rises, IsPlace, StandsAt, numbers_of, has_value, stands, entry_before, entries_in}
 use Rattle.number_table.proofs.Standing.{rises_lower}
 
 -- entry_before leaves what comes behind
@@ -113,6 +112,32 @@ pub stands_at : {T : Type 0} (number place : ℕ) (ss : List (Slot T)) (d : Slot
 stands_at number place [] d p h e = absurd (omega arith)
 stands_at number zero (s ∷ ss) d p h e = stands_here number s.number s.value e
 stands_at number (suc place) (s ∷ ss) d p h e = (p.0, stands_at number place ss d p.1 (omega arith) e)
+
+value_here : {T : Type 0} (number n : ℕ) (o : Option T) (rest : List (Entry T)) → n ≡ number → find (has_number number) rest ≡ None → o ≡ value_under number (entry_before n o rest)
+value_here number n None rest e h = ap (option_map (λ e. e.value)) (sym h)
+value_here number n (Some x) rest e h = rw (eq-eqb n number e) refl
+
+-- at the place of a number, a slot of that number has what it has
+pub value_at_place : {T : Type 0} (number place low : ℕ) (ss : List (Slot T)) (d : Slot T) (bound : ℕ) → IsPlace number place (numbers_of ss) → Rises low (numbers_of ss) bound → place < length ss → (get_or ss place d).number ≡ number → (get_or ss place d).value ≡ value_under number (entries_in ss)
+value_at_place number place low [] d bound p r l e = absurd (omega arith)
+value_at_place number zero low (s ∷ ss) d bound p r l e = value_here number s.number s.value (entries_in ss) e (find_below number (suc s.number) ss bound (omega arith) r.1)
+value_at_place number (suc place) low (s ∷ ss) d bound p r l e =
+    value_at_place number place (suc s.number) ss d bound p.1 r.1 (omega arith) e
+    ∙ ap (option_map (λ e. e.value)) (sym (find_past number s.number s.value (entries_in ss) (let f = p.0 in omega arith)))
+
+-- a number that has a value stands at its place
+pub known_stands : {T : Type 0} (number place low : ℕ) (ss : List (Slot T)) (bound : ℕ) → IsPlace number place (numbers_of ss) → Rises low (numbers_of ss) bound → IsSome (value_under number (entries_in ss)) → StandsAt number place ss
+known_stands number place low [] bound p r h = absurd (false≢true h)
+known_stands number zero low (s ∷ ss) bound p r h =
+    let below = find_below number (suc s.number) ss bound (omega arith) r.1 in
+    elim (cases_eq s.number number) [
+      | inl same ↦ (same, rw (value_here number s.number s.value (entries_in ss) same below) h)
+      | inr differs ↦
+          let none = find_past number s.number s.value (entries_in ss) differs ∙ below in
+          absurd (false≢true (rw none at h))
+    ]
+known_stands number (suc place) low (s ∷ ss) bound p r h =
+    (p.0, known_stands number place (suc s.number) ss bound p.1 r.1 (rw (find_past number s.number s.value (entries_in ss) (let f = p.0 in omega arith)) at h))
 
 -- ---- a slot at which a number stands
 

@@ -1,6 +1,6 @@
 -- Numbers that rise, and where a number stands among them.
 use Rattle.std.proofs.Common.{ℕ, zero, suc, ◌+◌, ◌<◌, ◌≤◌, List, [], ◌∷◌, ◌++◌, length, get_or, arith}
-use Rattle.number_table.specs.Slots.{Rises, IsPlace}
+use Rattle.number_table.specs.Index.{Rises, IsPlace}
 
 -- numbers that rise from a higher one rise from a lower one
 pub rises_lower : (low high : ℕ) (ns : List ℕ) (bound : ℕ) → low ≤ high → Rises high ns bound → Rises low ns bound

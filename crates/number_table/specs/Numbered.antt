@@ -8,15 +8,15 @@ pub record Entry (T : Type 0) : Type 0 where
   pub number : ℕ
   pub value : T
 
--- The entries, in rising number. Every number so far is below `next`. `taken` slots are in use, by entries and by
--- values that left, and for `room` more there is memory.
+-- The entries, in rising number. Every number so far is below `next`. The index has `taken` numbers, those of entries and
+-- some of values that left. There is memory for `room` more entries.
 pub record Numbered (T : Type 0) : Type 0 where
   pub entries : List (Entry T)
   pub next : ℕ
   pub taken : ℕ
   pub room : ℕ
 
--- the most slots that so many entries keep taken
+-- the most numbers that an index has for so many entries
 abbrev pub most_taken : ℕ → ℕ
 most_taken count = 2 * count + 16
 

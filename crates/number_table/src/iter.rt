@@ -2,22 +2,24 @@
 ghost use Rattle.std.specs.Prelude.{◌≡◌};
 ghost use Rattle.std.specs.Iterator.{YieldsFirstBy, item_count};
 
-use crate::slots::{Slot, first_value};
+use crate::index::{Held, Place, first_value};
+use slab::Slab;
 use std::marker::Model;
 
 /// The values of a table in rising number, seen as the list of those that are left.
 #[derive(Drop)]
 pub struct Iter<'a, T> {
-    pub(crate) slots: &'a [Slot<T>],
+    pub(crate) values: &'a Slab<Held<T>>,
+    pub(crate) index: &'a [Place],
 }
 
 impl<'a, T> Model for Iter<'a, T> {
     ghost use Rattle.std.specs.Prelude.{List};
-    ghost use Rattle.number_table.specs.Slots.{values_in};
+    ghost use Rattle.number_table.specs.Index.{values_in};
 
     ghost Value = { List T };
 
-    ghost view = { λ it. values_in it.slots.now };
+    ghost view = { λ it. values_in it.values.now it.index.now };
 }
 
 impl<'a, T> Iterator for Iter<'a, T> {
@@ -28,13 +30,13 @@ impl<'a, T> Iterator for Iter<'a, T> {
     ghost remaining = { item_count (λ rest. rest) };
 
     fn next(&mut self) -> Option<&'a T> {
-        match first_value(self.slots) {
+        match first_value(self.values, self.index) {
             None => {
-                self.slots = &[];
+                self.index = &[];
                 None
             }
             Some(first) => {
-                self.slots = first.behind;
+                self.index = first.rest;
                 Some(first.value)
             }
         }

@@ -1,8 +1,8 @@
 //! A table of values under numbers that rise: each is found by its number, and they leave in any order.
 #![tactic(auto)]
 
+mod index;
 mod iter;
-mod slots;
 mod table;
 
 pub use iter::Iter;

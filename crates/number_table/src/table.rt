@@ -1,30 +1,33 @@
 //! The table.
-ghost use Rattle.std.specs.Prelude.{◌≡◌, ◌+◌, ◌^◌, ◌<◌, ◌≤◌, ◌==◌, [], ◌∷◌, ◌++◌, ℕ, ◌↔◌, length, find, option_copied, Some, OnOk, OnErr, IfOk, IsSome, IsTrue, is_some};
+ghost use Rattle.std.specs.Prelude.{◌≡◌, ◌+◌, ◌-◌, ◌^◌, ◌<◌, ◌≤◌, ◌==◌, [], ◌∷◌, ◌++◌, ℕ, ◌↔◌, length, find, option_copied, Some, OnOk, OnErr, IfOk, IsSome, IsTrue, is_some, min};
 ghost use Rattle.std.specs.Option.{option_copied_mut};
 ghost use Rattle.std.specs.Borrow.{Lends, LendsIf, sem};
 ghost use Rattle.std.specs.List.{AllZip};
 ghost use Rattle.number_table.specs.Numbered.{values_of, value_at, with_value, without_first, has_number, most_taken, is_same, IsNumberedBy, IsCloneEntry, ClonesAreEqual};
 
-use crate::iter::Iter;
-use crate::slots::{
-    NO_HINT, Slot, are_same, compact_if_sparse, find_slot, first_value, known_slot,
+use crate::index::{
+    Held, NO_HINT, Place, are_same, compact_if_sparse, find_place, find_value, first_value, key_at,
+    known_place,
 };
+use crate::iter::Iter;
+use slab::Slab;
 use std::alloc::{AllocError, Global};
 use std::marker::Model;
 
 /// Values under numbers that rise: values leave in any order, and no number comes twice.
 ///
-/// A value stands in a slot, and stays there when others leave. A slot whose value has left stays too, until such slots
-/// are more than those with a value and 16 besides: then all of them are dropped at once. So values are found by a
-/// binary search, and stand in rising number.
+/// The values are in a slab, and stay at their keys when others leave; a key that is free is used again. An index has the
+/// numbers in rising order, each with its key. A number whose value has left stays in the index until such numbers are
+/// more than those with a value and 16 besides: then all of them are dropped at once. So values are found by a binary
+/// search of the index, and listed in rising number.
 ///
-/// What is called room is for how many pushes memory was taken ahead. A hint says at which slot a value may stand, as
-/// [`place`](Table::place) told. It is right until slots are dropped; a wrong one costs the search, and nothing else.
+/// What is called taken is the length of the index, and room for how many pushes memory was taken ahead, for the index
+/// and for the values. A hint says at which place of the index a value may be, as [`place`](Table::place) reported. It is
+/// right until numbers are dropped; a wrong one costs the search, and nothing else.
 #[derive(Drop)]
 pub struct Table<T> {
-    numbers: Vec<u64>,
-    slots: Vec<Slot<T>>,
-    count: usize,
+    index: Vec<Place>,
+    values: Slab<Held<T>>,
     next: u64,
 }
 
@@ -34,16 +37,17 @@ impl<T> Model for Table<T> {
 
     ghost Value = { Numbered T };
 
-    ghost use Rattle.number_table.specs.Slots.{entries_in, IsSound};
+    ghost use Rattle.slab.specs.Slab.{slab_len};
+    ghost use Rattle.number_table.specs.Index.{entries_in, slots_in, IsSound};
 
     ghost view = { λ t. record {
-      entries = entries_in t.slots.items;
+      entries = entries_in (slots_in t.values t.index.items);
       next = t.next;
-      taken = vec_len t.slots;
-      room = min (vec_capacity t.numbers) (vec_capacity t.slots) - vec_len t.slots;
+      taken = vec_len t.index;
+      room = min (vec_capacity t.index - vec_len t.index) (t.values.capacity - slab_len t.values);
     } };
 
-    ghost invariant = { λ t. IsSound t.numbers.items t.slots.items t.count t.next };
+    ghost invariant = { λ t. IsSound t.values t.index.items t.next };
 }
 
 impl<T> Table<T> {
@@ -54,9 +58,8 @@ impl<T> Table<T> {
         ensures taken { result.taken ≡ 0 }
     {
         Table {
-            numbers: Vec::new(alloc),
-            slots: Vec::new(alloc),
-            count: 0,
+            index: Vec::new(alloc),
+            values: Slab::new(alloc),
             next,
         }
     }
@@ -65,14 +68,14 @@ impl<T> Table<T> {
     pub fn len(&self) -> usize
         ensures { result ≡ length self.now.entries }
     {
-        self.count
+        self.values.len()
     }
 
     /// Whether there are no values.
     pub fn is_empty(&self) -> bool
         ensures { IsTrue result ↔ (self.now.entries ≡ []) }
     {
-        self.count == 0
+        self.values.is_empty()
     }
 
     /// The number that a value may have next: each so far was lower.
@@ -93,8 +96,9 @@ impl<T> Table<T> {
         ensures kept { self.old.room ≤ self.new.room }
         ensures lacking { OnErr result (self.old.room < n) }
     {
-        self.numbers.reserve(n)?;
-        self.slots.reserve(n)
+        self.index.reserve(n)?;
+        self.values.reserve(n)?;
+        Ok(())
     }
 
     /// Adds a value under a number that is above all so far, into room that was made before. It takes no memory.
@@ -109,21 +113,18 @@ impl<T> Table<T> {
         ensures taken { self.new.taken ≡ self.old.taken + 1 }
         ensures room { self.new.room + 1 ≡ self.old.room }
     {
-        self.numbers.push_reserved(number);
-        self.slots.push_reserved(Slot {
-            number,
-            value: Some(value),
-        });
-        self.count += 1;
+        let key = self.values.insert_reserved(Held { number, value });
+        self.index.push_reserved(Place { number, key });
         self.next = number + 1;
     }
 
-    /// The values in rising number. A pass looks at each taken slot, so at no more than twice the values and 16.
+    /// The values in rising number. A pass looks at the whole index, so at no more numbers than twice the values and 16.
     pub fn iter(&self) -> Iter<'_, T>
         ensures { result ≡ values_of self.now }
     {
         Iter {
-            slots: self.slots.as_slice(),
+            values: &self.values,
+            index: self.index.as_slice(),
         }
     }
 
@@ -140,26 +141,14 @@ impl<T> Table<T> {
         ensures value { option_copied result ≡ value_at number self.now }
         ensures found { (number_of : T → ℕ) → IsNumberedBy number_of self.now → option_copied result ≡ find (λ x. number_of x == number) (values_of self.now) }
     {
-        let place = find_slot(self.numbers.as_slice(), self.slots.as_slice(), number, hint);
-        match place {
-            None => None,
-            Some(place) => {
-                let slot = &self.slots[place];
-                slot.value.as_ref()
-            }
-        }
+        find_value(&self.values, self.index.as_slice(), number, hint)
     }
 
-    /// At which slot the value under a number stands, if there is one: a hint for later calls.
+    /// At which place of the index the value under a number is, if there is one: a hint for later calls.
     pub fn place(&self, number: u64) -> Option<usize>
         ensures { is_some result ≡ is_some (value_at number self.now) }
     {
-        find_slot(
-            self.numbers.as_slice(),
-            self.slots.as_slice(),
-            number,
-            NO_HINT,
-        )
+        find_place(&self.values, self.index.as_slice(), number, NO_HINT)
     }
 }
 
@@ -183,16 +172,17 @@ impl<T> Table<T> {
         ensures* writes_back { sem 𝓛 (Lends (the_row T.row) T.row self.entry result (with_value self.old number)) }
         ensures value { value_at number self.old ≡ Some result.now }
     {
-        let place = known_slot(self.numbers.as_slice(), self.slots.as_slice(), number, hint);
-        self.slots[place].value_mut()
+        let place = known_place(&self.values, self.index.as_slice(), number, hint);
+        let key = key_at(self.index.as_slice(), place);
+        self.values[key].value_mut()
     }
 }
 
 impl<T: Drop> Table<T> {
     /// Takes the value under a number out, if there is one.
     ///
-    /// It takes no memory. It is a binary search, and now and then a pass that drops slots, which comes to at most two
-    /// slots for each removal.
+    /// It takes no memory. It is a binary search, and now and then a pass over the index that drops numbers, which comes to
+    /// at most two numbers for each removal. No other value moves.
     pub fn remove(&mut self, number: u64) -> Option<T>
         ensures value { result ≡ value_at number self.old }
         ensures entries { self.new.entries ≡ without_first (has_number number) self.old.entries }
@@ -205,30 +195,24 @@ impl<T: Drop> Table<T> {
 
         // Room comes back.
         ensures dense { self.new.taken ≤ most_taken (length self.new.entries) }
-        ensures room { self.new.taken + self.new.room ≡ self.old.taken + self.old.room }
+        ensures room { self.old.room ≤ self.new.room }
+        ensures back { min (self.old.taken + self.old.room - self.new.taken) (self.old.room + 1) ≤ self.new.room }
         ensures fewer { self.new.taken ≤ self.old.taken }
     {
-        let place = find_slot(
-            self.numbers.as_slice(),
-            self.slots.as_slice(),
-            number,
-            NO_HINT,
-        );
-        match place {
+        let index = self.index.as_slice();
+        match find_place(&self.values, index, number, NO_HINT) {
             None => None,
             Some(place) => {
-                let slot = &mut self.slots[place];
-                let value = slot.value.take();
-                self.count -= 1;
-                compact_if_sparse(&mut self.numbers, &mut self.slots, self.count);
-                value
+                let held = self.values.remove(key_at(index, place));
+                compact_if_sparse(&self.values, &mut self.index);
+                Some(held.value)
             }
         }
     }
 }
 
 impl<T: Clone + Drop> Table<T> {
-    /// A table with a clone of each value under the same number, and no other slots.
+    /// A table with a clone of each value under the same number, and no other numbers.
     pub fn copy(&self) -> Result<Table<T>, AllocError>
         ensures clones { IfOk result (λ copy. AllZip (IsCloneEntry T.is_clone) self.now.entries copy.entries) }
         ensures entries { ClonesAreEqual T.is_clone → IfOk result (λ copy. copy.entries ≡ self.now.entries) }
@@ -236,12 +220,12 @@ impl<T: Clone + Drop> Table<T> {
         ensures taken { IfOk result (λ copy. copy.taken ≡ length self.now.entries) }
     {
         let next = self.next();
-        let mut copy = Table::new(*self.numbers.allocator(), 0);
-        copy.reserve(self.count)?;
-        let mut rest = self.slots.as_slice();
-        while let Some(first) = first_value(rest) {
+        let mut copy = Table::new(*self.index.allocator(), 0);
+        copy.reserve(self.values.len())?;
+        let mut rest = self.index.as_slice();
+        while let Some(first) = first_value(&self.values, rest) {
             copy.push_reserved(first.number, first.value.clone()?);
-            rest = first.behind;
+            rest = first.rest;
         }
         copy.next = next;
         Ok(copy)
@@ -253,6 +237,12 @@ impl<T: PartialEq> Table<T> {
     pub fn same(&self, other: &Table<T>) -> bool
         ensures { result ≡ is_same T.eq self.now other.now }
     {
-        self.next == other.next && are_same(self.slots.as_slice(), other.slots.as_slice())
+        self.next == other.next
+            && are_same(
+                &self.values,
+                self.index.as_slice(),
+                &other.values,
+                other.index.as_slice(),
+            )
     }
 }

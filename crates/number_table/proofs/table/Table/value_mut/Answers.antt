@@ -1,29 +1,43 @@
-use Rattle.std.proofs.Common.{◌∙◌, refl, sym, ap, arith, is_some}
+use Rattle.std.proofs.Common.{◌≡◌, ◌∙◌, refl, sym, ap, arith, Some}
+use Rattle.std.specs.Option.{option_map}
+use Rattle.slab.specs.Slab.{get}
+use Rattle.number_table.specs.declared.index.Held.{Held}
 use Rattle.number_table.specs.Numbered.{value_at}
-use Rattle.number_table.specs.declared.slots.Slot.{Slot}
-use Rattle.number_table.proofs.Entries.{stands_within, stands_value, stands_has_value}
-use Rattle.number_table.proofs.Edits.{sound_changed, entries_changed}
+use Rattle.number_table.specs.Index.{key_at, slots_in, StandsAt}
+use Rattle.number_table.proofs.Entries.{stands_within}
+use Rattle.number_table.proofs.Held.{length_listed, key_has_value, key_value, len_written, entries_written, sound_written}
 use Rattle.number_table.proofs.table.Table.value_mut.Goals as goal
+
+pub key_at-key-requires : goal.key_at-key-requires
+key_at-key-requires g c =
+    let e = stands_within c.args.number c.known_place-place.result (slots_in c.self.inside.values c.as_slice.result.now) c.known_place-place.ensures in
+    let n = length_listed c.self.inside.values c.as_slice.result.now in
+    omega arith
 
 pub index_mut-requires : goal.index_mut-requires
 index_mut-requires g c =
-    let e = stands_within c.args.number c.known_slot-place.result c.as_slice-2.result.now c.known_slot-place.ensures in
-    omega arith
-
-pub value_mut-requires : goal.value_mut-requires
-value_mut-requires g c =
-    ap (λ (s : Slot _). is_some s.value) c.index_mut.ensures.value
-    ∙ stands_has_value c.args.number c.known_slot-place.result c.self.inside.slots.items c.index_mut.result.now (rw c.as_slice-2.ensures.value at c.known_slot-place.ensures)
+    let at = rw c.as_slice.ensures.value at c.known_place-place.ensures in
+    rw (c.key_at-key.ensures, c.as_slice-2.ensures.value) (key_has_value c.args.number c.known_place-place.result c.self.inside.values c.self.inside.index.items (record { number = 0; key = 0 }) at)
 
 pub invariant_of-self-lent : goal.invariant_of-self-lent
 invariant_of-self-lent g c w =
-    sound_changed c.args.number c.known_slot-place.result c.self.inside.numbers.items c.self.inside.slots.items c.self.inside.count c.self.inside.next c.index_mut.result.now w c.self.invariant (rw c.as_slice-2.ensures.value at c.known_slot-place.ensures) c.index_mut.ensures.value
+    let at = rw c.as_slice.ensures.value at c.known_place-place.ensures in
+    sound_written c.args.number c.known_place-place.result c.self.inside.values c.self.inside.index.items c.self.inside.next c.self.invariant at c.key_at-key.result (rw c.as_slice-2.ensures.value at c.key_at-key.ensures) c.index_mut.result.now c.index_mut.ensures.value w
 
 pub returns : goal.returns
 returns g c =
-    let ss = c.self.inside.slots.items in
-    let r = c.index_mut.result.now in
-    let s = rw c.as_slice-2.ensures.value at c.known_slot-place.ensures in (
-      (refl, λ w. rw (← c.self.view_is, entries_changed c.args.number c.known_slot-place.result ss r r.number w (ap (λ (s : Slot _). s.number) c.index_mut.ensures.value) s) refl),
-      record { writes_back = tt; value = ap (value_at c.args.number) (sym c.self.view_is) ∙ sym (stands_value c.args.number c.known_slot-place.result ss r s) ∙ sym (ap (λ (s : Slot _). s.value) c.index_mut.ensures.value) ∙ c.value_mut.ensures.value },
+    let ps = c.self.inside.index.items in
+    let place = c.known_place-place.result in
+    let at : StandsAt c.args.number place (slots_in c.self.inside.values ps) = rw c.as_slice.ensures.value at c.known_place-place.ensures in
+    let key : c.key_at-key.result ≡ key_at ps place = rw c.as_slice-2.ensures.value at c.key_at-key.ensures in
+    let held = c.index_mut.result.now in
+    let read : Some held ≡ get c.self.inside.values (key_at ps place) = sym (rw key at c.index_mut.ensures.value) in (
+      (refl, λ w. rw (← c.self.view_is, entries_written c.args.number place c.self.inside.values ps c.self.inside.next c.self.invariant at c.key_at-key.result key held c.index_mut.ensures.value w, len_written c.args.number place c.self.inside.values ps c.self.inside.next c.self.invariant at c.key_at-key.result key held c.index_mut.ensures.value w) refl),
+      record {
+        writes_back = tt;
+        value =
+            ap (value_at c.args.number) (sym c.self.view_is)
+            ∙ sym (ap (option_map (λ (h : Held g.row.T.Denot). h.value)) {y = get c.self.inside.values (key_at ps place)} read ∙ key_value c.args.number place c.self.inside.values ps (record { number = 0; key = 0 }) at)
+            ∙ ap Some c.value_mut.ensures.value;
+      },
     )
