@@ -1,5 +1,5 @@
 -- Runs of handles outside of which none is given a record.
-use Rattle.std.proofs.Common.{◌≡◌, ℕ, zero, suc, ◌<◌, ◌≤◌, eqb, Bool, true, false, cond, not, ◌&&◌, List, [], ◌∷◌, length, take, drop, get_or, refl, sym, ap, subst, Option, None, arith}
+use Rattle.std.proofs.Common.{◌≡◌, ℕ, zero, suc, ◌<◌, ◌≤◌, eqb, Bool, true, false, cond, not, ◌&&◌, List, [], ◌∷◌, ◌++◌, length, take, drop, get_or, refl, sym, ap, subst, Option, None, arith}
 use Rattle.std.specs.Prelude.{is_some, min, filter}
 use Rattle.std.specs.List.{AllByRecursion, list_any}
 use Rattle.std.proofs.lemmas.Bool.Decides.{nat_tests}
@@ -128,6 +128,40 @@ blind-unseen object e x blind = grind (arith, blind)
 
 pub span-is : (Out : Holder → Type 0) (from to a b : ℕ) (xs : List Holder) → from ≡ a → to ≡ b → IsSpan Out a b xs → IsSpan Out from to xs
 span-is Out from to a b xs first last span = subst (λ m. IsSpan Out m to xs) (sym first) (subst (λ m. IsSpan Out a m xs) (sym last) span)
+
+-- ---- a run of all handles up to one, behind which none is given one of some records
+
+module _ (P : Holder → Type 0) where
+  rest-of : (n : ℕ) (xs : List Holder) → AllByRecursion P xs → RestAre P n xs
+  rest-of zero xs all = all
+  rest-of (suc n) [] all = tt
+  rest-of (suc n) (x ∷ xs) all = rest-of n xs all.1
+
+  rest-fewer : (m n : ℕ) (xs : List Holder) → m ≤ n → RestAre P m xs → RestAre P n xs
+  rest-fewer zero n xs le rest = rest-of n xs rest
+  rest-fewer (suc m) zero xs le rest = absurd (omega arith)
+  rest-fewer (suc m) (suc n) [] le rest = tt
+  rest-fewer (suc m) (suc n) (x ∷ xs) le rest = rest-fewer m n xs (omega arith) rest
+
+module _ (P Q R : Holder → Type 0) (f : (x : Holder) → P x → Q x → R x) where
+  all-of-both : (xs : List Holder) → AllByRecursion P xs → AllByRecursion Q xs → AllByRecursion R xs
+  all-of-both [] p q = tt
+  all-of-both (x ∷ xs) p q = (f x p.0 q.0, all-of-both xs p.1 q.1)
+
+  rest-of-both : (n : ℕ) (xs : List Holder) → RestAre P n xs → RestAre Q n xs → RestAre R n xs
+  rest-of-both zero xs p q = all-of-both xs p q
+  rest-of-both (suc n) [] p q = tt
+  rest-of-both (suc n) (x ∷ xs) p q = rest-of-both n xs p q
+
+unseen-push : (object : ℕ) (es : List Entry) (e : Entry) (x : Holder) → IsUnseen object es x → IsBlind e.record_of.kind x → IsUnseen object (es ++ e ∷ []) x
+unseen-push object [] e x out blind = (blind-unseen object e x blind, tt)
+unseen-push object (y ∷ es) e x out blind = (out.0, unseen-push object es e x out.1 blind)
+
+-- one record more
+pub rest-more : (object : ℕ) (es : List Entry) (e : Entry) (m n k : ℕ) (xs : List Holder) → m ≤ k → n ≤ k → RestAre (IsUnseen object es) m xs → RestAre (IsBlind e.record_of.kind) n xs → RestAre (IsUnseen object (es ++ e ∷ [])) k xs
+rest-more object es e m n k xs le lt out blind =
+    rest-of-both (IsUnseen object es) (IsBlind e.record_of.kind) (IsUnseen object (es ++ e ∷ [])) (unseen-push object es e) k xs
+    (rest-fewer (IsUnseen object es) m k xs le out) (rest-fewer (IsBlind e.record_of.kind) n k xs lt blind)
 
 -- ---- what is for nobody
 

@@ -73,8 +73,23 @@ fn span_for(holders: &[Holder], led: bool, kind: &Kind) -> Span
     }
 }
 
-/// A run in which all handles stand that may be given one of the records. It looks at few handles, and at none where they
-/// are for all.
+// The handles from the first on up to the last that may be given one of the records.
+fn span_of_all(holders: &[Holder], led: bool, entries: &[Entry]) -> Span
+    requires queue { AllByRecursion IsQueued holders.now }
+    requires rising { IsRising number_in holders.now }
+    requires led { IsLed led holders.now }
+    ensures { (object : ℕ) → IsSpan (IsUnseen object entries.now) result.from result.to holders.now }
+{
+    let mut end = 0;
+    'entries: for entry in entries {
+        let span = span_for(holders, led, &entry.record().kind);
+        end = span.to.max(end);
+    }
+    Span { from: 0, to: end }
+}
+
+/// A run in which all handles stand that may be given one of the records. It looks at few handles for each record, and at none
+/// if they are for all.
 pub(crate) fn find_span(holders: &[Holder], led: bool, entries: &[Entry]) -> Span
     requires queue { AllByRecursion IsQueued holders.now }
     requires rising { IsRising number_in holders.now }
@@ -83,6 +98,6 @@ pub(crate) fn find_span(holders: &[Holder], led: bool, entries: &[Entry]) -> Spa
 {
     match entries {
         [entry] => span_for(holders, led, &entry.record().kind),
-        _ => whole_span(holders),
+        _ => span_of_all(holders, led, entries),
     }
 }

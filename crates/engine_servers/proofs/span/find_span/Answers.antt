@@ -2,7 +2,7 @@ use Rattle.std.proofs.Common.{◌≡◌, [], ◌∷◌, sym, subst}
 use Rattle.pps_types.specs.declared.record.Record.{Record}
 use Rattle.engine_servers.specs.Holders.{IsQueued}
 use Rattle.engine_servers.specs.Spans.{IsSpan, IsBlind, IsUnseen}
-use Rattle.engine_servers.proofs.Spans.{span-is, span-other, whole-span, blind-unseen, only-one}
+use Rattle.engine_servers.proofs.Spans.{span-other, blind-unseen, only-one}
 use Rattle.engine_servers.proofs.span.find_span.Goals as goal
 
 pub returns-in-len1 : goal.returns-in-len1
@@ -13,6 +13,3 @@ returns-in-len1 c object =
     let blind : IsSpan (IsBlind e.record_of.kind) span.from span.to c.args.holders.now = subst (λ (r : Record). IsSpan (IsBlind r.kind) span.from span.to c.args.holders.now) c.record.ensures c.span_for.ensures in
     subst (λ es. IsSpan (IsUnseen object es) span.from span.to c.args.holders.now) (sym one)
     (span-other IsQueued (IsBlind e.record_of.kind) (IsUnseen object (e ∷ [])) (λ x is none. (blind-unseen object e x none, tt)) span.from span.to c.args.holders.now c.requires.queue blind)
-
-pub returns-in_default : goal.returns-in_default
-returns-in_default c object = span-is (IsUnseen object c.args.entries.now) _ _ _ _ c.args.holders.now c.whole_span.ensures.from c.whole_span.ensures.to (whole-span (IsUnseen object c.args.entries.now) c.args.holders.now)
