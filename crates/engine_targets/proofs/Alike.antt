@@ -10,7 +10,7 @@ use Rattle.engine_targets.specs.declared.place.Place.{Place}
 use Rattle.engine_targets.specs.declared.place.Place.TheVariants.{News, Fresh, Over, Idle, At}
 use Rattle.engine_targets.specs.declared.opening.Opening.{Opening}
 use Rattle.engine_targets.specs.declared.opening.Pulse.{Pulse}
-use Rattle.engine_targets.specs.declared.reader.Reader.{Reader}
+use Rattle.engine_targets.specs.Readers.{Reader}
 use Rattle.engine_targets.specs.Opened.{opened, armed_pulse}
 use Rattle.engine_targets.specs.Places.{seen_at, handle_of, waiting, Begins, IsPlace, IsAt, IsReader}
 use Rattle.pps_types.specs.Owed.{longest_rest}
@@ -34,7 +34,7 @@ seen-from start entries (At first owed) = ap (λ k. Owed (drop k entries)) (sym 
 
 module _ (t : ℕ) (name : List ℕ) (start : ℕ) (entries : List Entry) where
   handle-from : (r : Reader) → handle_of t name start entries r ≡ handle_of t name 0 entries (reader_from start r)
-  handle-from r = ap (λ (s : Seen). waiting r (reseen (λ h. s) (opened t name r.opening))) (seen-from start entries r.place)
+  handle-from r = ap (λ (s : Seen). waiting r (reseen (λ h. s) (opened t name r.opening))) (seen-from start entries r.progress)
 
   pub handles-from : (rs : List Reader) → map (handle_of t name start entries) rs ≡ map (handle_of t name 0 entries) (map (reader_from start) rs)
   handles-from [] = refl
@@ -119,14 +119,14 @@ pub opening-is : (o p : Opening) (target : ℕ) (name : List ℕ) → opened tar
 opening-is o p target name same = λ i. record { number = (same i).number; connection = (same i).connection; kind = (same i).kind; reads = (same i).reads; writes = (same i).writes; wait = (same i).wait; reflect = (same i).reflect; critical = (same i).critical; filter = (same i).filter; limit = (same i).limit }
 
 module _ (t : ℕ) (name : List ℕ) (entries : List Entry) where
-  reader-is : (x y : Reader) → IsPlace (opened t name x.opening) 0 entries x.place → IsPlace (opened t name y.opening) 0 entries y.place
+  reader-is : (x y : Reader) → IsPlace (opened t name x.opening) 0 entries x.progress → IsPlace (opened t name y.opening) 0 entries y.progress
       → handle_of t name 0 entries x ≡ handle_of t name 0 entries y → x ≡ y
   reader-is x y is other same =
       let opens = opening-is x.opening y.opening t name (ap (λ (h : Open Seen). record (reseen (λ s. tt) h) { parked = None; armed = None }) same) in
-      let place = place-is (opened t name y.opening) entries x.place y.place (subst (λ o. IsPlace (opened t name o) 0 entries x.place) opens is) other (ap (λ (h : Open Seen). h.seen) same) in
+      let place = place-is (opened t name y.opening) entries x.progress y.progress (subst (λ o. IsPlace (opened t name o) 0 entries x.progress) opens is) other (ap (λ (h : Open Seen). h.seen) same) in
       let parked = ap (λ (h : Open Seen). h.parked) same in
       let armed = armed-is x.armed y.armed (ap (λ (h : Open Seen). h.armed) same) in
-      λ i. record { opening = opens i; place = place i; parked = parked i; armed = armed i }
+      λ i. record { opening = opens i; progress = place i; parked = parked i; armed = armed i }
 
   cons-first : (x y : Open Seen) (xs ys : List (Open Seen)) → x ∷ xs ≡ y ∷ ys → x ≡ y
   cons-first x y xs ys same = cc
@@ -145,7 +145,7 @@ module _ (t : ℕ) (name : List ℕ) (entries : List Entry) where
       let b = reader_from u y in
       let firsts = map (handle_of t name 0 entries) (map (reader_from s) xs) in
       let seconds = map (handle_of t name 0 entries) (map (reader_from u) ys) in
-      let head = reader-is a b (place-from (opened t name x.opening) s entries x.place all.0.place) (place-from (opened t name y.opening) u entries y.place every.0.place)
+      let head = reader-is a b (place-from (opened t name x.opening) s entries x.progress all.0.place) (place-from (opened t name y.opening) u entries y.progress every.0.place)
       (cons-first (handle_of t name 0 entries a) (handle_of t name 0 entries b) firsts seconds same) in
       let rest = readers-is s u d e xs ys all.1 every.1 (cons-rest (handle_of t name 0 entries a) (handle_of t name 0 entries b) firsts seconds same) in
       λ i. head i ∷ rest i

@@ -1,6 +1,8 @@
--- Copies of records and handles, and the same ones in two targets.
-use Rattle.std.proofs.Common.{◌≡◌, ◌<◌, ℕ, zero, suc, ◌+◌, arith, get_or, List, [], ◌∷◌, ◌++◌, length, map, take, sym, ap, ◌∙◌, Some}
+-- Copies of records and handles.
+use Rattle.std.proofs.Common.{◌≡◌, ◌<◌, ℕ, zero, suc, ◌+◌, arith, List, [], ◌∷◌, ◌++◌, take, sym, ap, ◌∙◌, Some}
 use Rattle.std.specs.Prelude.{slice_get}
+use Rattle.std.specs.List.{AllByRecursion}
+use Rattle.notify_box.specs.Rising.{AllAbove, IsRising}
 
 module _ {X : Type 0} where
   -- one more is taken
@@ -13,16 +15,12 @@ module _ {X : Type 0} where
   taken xs i j k x e same more =
       ap (λ n. take n xs) (let is : k ≡ suc i = omega (arith, more) in is) ∙ taken-suc xs i x e ∙ ap (λ n. take n xs ++ x ∷ []) (sym same)
 
-module _ {X Y : Type 0} (f g : X → Y) where
-  -- where the same is seen of all, it is at each place
-  pub same-at : (xs ys : List X) (i : ℕ) (a b : X) → i < length xs → i < length ys → a ≡ get_or xs i a → b ≡ get_or ys i b → map f xs ≡ map g ys → f a ≡ g b
-  same-at [] ys i a b here there is be same = absurd (omega arith)
-  same-at (x ∷ xs) [] i a b here there is be same = absurd (omega arith)
-  same-at (x ∷ xs) (y ∷ ys) zero a b here there is be same = ap f is ∙ head (f x) (g y) (map f xs) (map g ys) same ∙ sym (ap g be)
-    where
-      head : (x y : Y) (xs ys : List Y) → x ∷ xs ≡ y ∷ ys → x ≡ y
-      head x y xs ys same = cc
-  same-at (x ∷ xs) (y ∷ ys) (suc i) a b here there is be same = same-at xs ys i a b (omega arith) (omega arith) is be (tail (f x) (g y) (map f xs) (map g ys) same)
-    where
-      tail : (x y : Y) (xs ys : List Y) → x ∷ xs ≡ y ∷ ys → xs ≡ ys
-      tail x y xs ys same = cc
+module _ {X : Type 0} (number : X → ℕ) where
+  above-middle : (n : ℕ) (xs ys : List X) (y : X) → AllAbove number n (xs ++ y ∷ ys) → n < number y
+  above-middle n [] ys y above = above.0
+  above-middle n (x ∷ xs) ys y above = above-middle n xs ys y above.1
+
+  -- where numbers rise, those before one are lower
+  pub rising-before : (xs ys : List X) (y : X) → IsRising number (xs ++ y ∷ ys) → AllByRecursion (λ x. number x < number y) xs
+  rising-before [] ys y rising = tt
+  rising-before (x ∷ xs) ys y rising = (above-middle (number x) xs ys y rising.0, rising-before xs ys y rising.1)

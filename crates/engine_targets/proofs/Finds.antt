@@ -5,7 +5,7 @@ use Rattle.std.specs.List.{AllByRecursion}
 use Rattle.pps_types.specs.History.{Entry}
 use Rattle.pps_types.specs.Reading.{block}
 use Rattle.pps_types.specs.Rests.{Seen, News, Unread, Over, Owed, owed_in}
-use Rattle.engine_targets.specs.declared.reader.Reader.{Reader}
+use Rattle.engine_targets.specs.Readers.{Reader}
 use Rattle.engine_targets.specs.Opened.{opened, handle_at}
 use Rattle.engine_targets.specs.Places.{handle_of, IsPlace, IsReader}
 
@@ -19,18 +19,26 @@ module _ (t : ℕ) (name : List ℕ) (start : ℕ) (entries : List Entry) where
       by true rec = refl
       by false rec = rec
 
-  module _ (rs ys : List Reader) (n m : ℕ) (list : ys ≡ rs) (number : m ≡ n) where
-    -- none, or one, is found, as a search in the list that was meant says
-    pub found-handle : (o : Option Reader) → o ≡ find (λ r. eqb r.opening.number m) ys → option_map (handle_of t name start entries) o ≡ handle_at n (map (handle_of t name start entries) rs)
-    found-handle o is = find-see n rs o (is ∙ (λ i. find (λ r. eqb r.opening.number (number i)) (list i)))
+  module _ (rs : List Reader) (n : ℕ) where
+    -- none, or one, is found
+    pub found-handle : (o : Option Reader) → o ≡ find (λ r. eqb r.opening.number n) rs → option_map (handle_of t name start entries) o ≡ handle_at n (map (handle_of t name start entries) rs)
+    found-handle o is = find-see n rs o is
 
-    pub found-right : (d : Bool) (r : Reader) → AllByRecursion (IsReader d t name start entries) rs → Some r ≡ find (λ r. eqb r.opening.number m) ys → IsPlace (opened t name r.opening) start entries r.place
-    found-right d r all is = by rs all (is ∙ (λ i. find (λ r. eqb r.opening.number (number i)) (list i)))
+    pub found-right : (d : Bool) (r : Reader) → AllByRecursion (IsReader d t name start entries) rs → Some r ≡ find (λ r. eqb r.opening.number n) rs → IsPlace (opened t name r.opening) start entries r.progress
+    found-right d r all is = by rs all is
       where
-        by : (rs : List Reader) → AllByRecursion (IsReader d t name start entries) rs → Some r ≡ find (λ r. eqb r.opening.number n) rs → IsPlace (opened t name r.opening) start entries r.place
+        by : (rs : List Reader) → AllByRecursion (IsReader d t name start entries) rs → Some r ≡ find (λ r. eqb r.opening.number n) rs → IsPlace (opened t name r.opening) start entries r.progress
         by [] all is = absurd cc
-        by (x ∷ xs) all is = elim (eqb x.opening.number n) as (λ b. Some r ≡ cond b (Some x) (find (λ r. eqb r.opening.number n) xs) → IsPlace (opened t name r.opening) start entries r.place)
-            [ true ↦ (λ found. let same : x ≡ r = cc in subst (λ y. IsPlace (opened t name y.opening) start entries y.place) same all.0.place) | false ↦ by xs all.1 ] is
+        by (x ∷ xs) all is = elim (eqb x.opening.number n) as (λ b. Some r ≡ cond b (Some x) (find (λ r. eqb r.opening.number n) xs) → IsPlace (opened t name r.opening) start entries r.progress)
+            [ true ↦ (λ found. let same : x ≡ r = cc in subst (λ y. IsPlace (opened t name y.opening) start entries y.progress) same all.0.place) | false ↦ by xs all.1 ] is
+
+-- there is nothing to see only where there is nothing
+pub map-none : {X Y : Type 0} (f : X → Y) (xs : List X) → map f xs ≡ [] → xs ≡ []
+map-none f [] none = refl
+map-none f (x ∷ xs) none = absurd (no (f x) (map f xs) none)
+  where
+    no : {Y : Type 0} (y : Y) (ys : List Y) → y ∷ ys ≡ [] → ⊥
+    no y ys none = cc
 
 -- what a handle is owed at its place, as a read gives it
 pub same-blocks : (t : ℕ) (name : List ℕ) (start : ℕ) (entries : List Entry) (r : Reader) (seen : Seen) → map (block (opened t [] r.opening)) (owed_in (opened t [] r.opening) seen) ≡ map (block (handle_of t name start entries r)) (owed_in (handle_of t name start entries r) seen)

@@ -8,7 +8,7 @@ use Rattle.pps_types.specs.Owed.{is_of, rest_seen, longer, longest_rest}
 use Rattle.pps_types.proofs.Kept.{longest-length}
 use Rattle.engine_targets.specs.declared.place.Place.{Place}
 use Rattle.engine_targets.specs.declared.place.Place.TheVariants.{News, Fresh, Over, Idle, At}
-use Rattle.engine_targets.specs.declared.reader.Reader.{Reader}
+use Rattle.engine_targets.specs.Readers.{Reader}
 use Rattle.engine_targets.specs.Places.{seen_at, handle_of}
 use Rattle.engine_targets.specs.Standing.{IsTarget}
 use Rattle.engine_targets.proofs.Moves.{kept-longest}
@@ -40,8 +40,8 @@ end-if all false rest is = end-none all
 end-longest : (d : Bool) (t : ℕ) (name : List ℕ) (start : ℕ) (entries : List Entry) (readers : List Reader) → IsEnd entries (longest_rest d t (map (handle_of t name start entries) readers))
 end-longest d t name start entries [] = end-none entries
 end-longest d t name start entries (r ∷ rs) =
-    end-longer entries (cond (is_of d t (handle_of t name start entries r)) (rest_seen (seen_at start entries r.place)) []) (longest_rest d t (map (handle_of t name start entries) rs))
-    (end-if entries (is_of d t (handle_of t name start entries r)) (rest_seen (seen_at start entries r.place)) (end-rest start entries r.place))
+    end-longer entries (cond (is_of d t (handle_of t name start entries r)) (rest_seen (seen_at start entries r.progress)) []) (longest_rest d t (map (handle_of t name start entries) rs))
+    (end-if entries (is_of d t (handle_of t name start entries r)) (rest_seen (seen_at start entries r.progress)) (end-rest start entries r.progress))
     (end-longest d t name start entries rs)
 
 -- one that ends it and is as long is all of it

@@ -2,6 +2,8 @@ pub mod Offered
 pub mod Tallies
 pub mod Passing
 pub mod Edits
+pub mod Gaps
+pub mod Walks
 pub mod Moves
 pub mod Kept
 pub mod Skips

@@ -2,8 +2,7 @@
 use Rattle.std.proofs.Common.{◌≡◌, ℕ, zero, suc, ◌+◌, ◌-◌, ◌≤◌, ◌<◌, ◌^◌, Bool, true, false, cond, eqb, ◌&&◌, List, [], ◌∷◌, ◌++◌, length, map, drop, set, get_or, refl, sym, ap, subst, ◌∙◌, arith, ⊎_elim, length-append}
 use Rattle.std.specs.List.{AllByRecursion, remove}
 use Rattle.std.proofs.lemmas.Bool.{eqb-true, eq-eqb, cases_lt}
-use Rattle.std.proofs.lemmas.List.{length-map, length-drop, length-set, map-set, get_or-map, map-append}
-use Rattle.std.proofs.lemmas.List.Edits.{length-remove}
+use Rattle.std.proofs.lemmas.List.{length-drop, map-set, get_or-map, map-append}
 use Rattle.std.proofs.Math.ListN.{get_or-append}
 use Rattle.std.proofs.Math.Seq.{get_or-append_right}
 use Rattle.std.proofs.lemmas.List.Sums.{sum_by-cons, sum_by-remove, sum_by-set, sum_by_push, get_or-le-sum_by}
@@ -18,11 +17,12 @@ use Rattle.notify_box.specs.Rising.{IsRising, IsPlaceOf, IsGapFor}
 use Rattle.notify_box.proofs.Edits.{rising_remove}
 use Rattle.engine_targets.specs.declared.place.Place.{Place}
 use Rattle.engine_targets.specs.declared.place.Place.TheVariants.{News, Fresh, Over, Idle, At}
-use Rattle.engine_targets.specs.declared.reader.Reader.{Reader}
+use Rattle.engine_targets.specs.Readers.{Reader}
 use Rattle.engine_targets.specs.Opened.{opened}
 use Rattle.engine_targets.specs.Places.{seen_at, handle_of, reader_after, IsPlace, IsReader, first_place}
 use Rattle.engine_targets.specs.Counts.{stands, uncounted, standing, IsCounted, IsWithin, zeros}
-use Rattle.engine_targets.specs.Standing.{IsLoose, IsTarget, room_of, number_in, most_handles}
+use Rattle.engine_targets.specs.Rows.{number_in}
+use Rattle.engine_targets.specs.Standing.{IsLoose, IsTarget, room_of}
 use Rattle.engine_targets.proofs.Offered.{reader-offered, reader-other}
 use Rattle.engine_targets.proofs.Tallies.{all-at, all-set, cut-is, cut-seen, uncounted-length, uncounted-at}
 use Rattle.engine_targets.proofs.Edits.{change_gap, without_gap, change_place, without_place, rising_map, rising_set, rising_push, place_map, gap_map}
@@ -50,9 +50,9 @@ place-within h start end entries Over le is = tt
 place-within h start end entries Idle le is = tt
 place-within h start end entries (At first owed) le is = (is.from_start, omega (arith, is.before_end))
 
-pub each-within : (d : Bool) (t : ℕ) (name : List ℕ) (start end : ℕ) (entries : List Entry) (readers : List Reader) → start + length entries ≤ end → AllByRecursion (IsReader d t name start entries) readers → AllByRecursion (λ (s : Reader). IsWithin start end s.place) readers
+pub each-within : (d : Bool) (t : ℕ) (name : List ℕ) (start end : ℕ) (entries : List Entry) (readers : List Reader) → start + length entries ≤ end → AllByRecursion (IsReader d t name start entries) readers → AllByRecursion (λ (s : Reader). IsWithin start end s.progress) readers
 each-within d t name start end entries [] le all = tt
-each-within d t name start end entries (s ∷ ss) le all = (place-within (opened t name s.opening) start end entries s.place le all.0.place, each-within d t name start end entries ss le all.1)
+each-within d t name start end entries (s ∷ ss) le all = (place-within (opened t name s.opening) start end entries s.progress le all.0.place, each-within d t name start end entries ss le all.1)
 
 stands-none : (start end : ℕ) (p : Place) → IsWithin start end p → stands end p ≡ 0
 stands-none start end (News b) is = refl
@@ -65,9 +65,9 @@ stands-none start end (At first owed) is = by (eqb first end) refl
     by true e = absurd (let same = eqb-true first end e in let lt = is.1 in omega arith)
     by false e = refl
 
-standing-none : (start end : ℕ) (readers : List Reader) → AllByRecursion (λ (s : Reader). IsWithin start end s.place) readers → standing readers end ≡ 0
+standing-none : (start end : ℕ) (readers : List Reader) → AllByRecursion (λ (s : Reader). IsWithin start end s.progress) readers → standing readers end ≡ 0
 standing-none start end [] all = refl
-standing-none start end (s ∷ ss) all = omega (arith, sum_by-cons (λ (x : Reader). stands end x.place) s ss, stands-none start end s.place all.0, standing-none start end ss all.1)
+standing-none start end (s ∷ ss) all = omega (arith, sum_by-cons (λ (x : Reader). stands end x.progress) s ss, stands-none start end s.progress all.0, standing-none start end ss all.1)
 
 -- ---- one more record
 
@@ -86,7 +86,7 @@ zeros-le (zero ∷ counts) = omega (arith, zeros-le counts)
 zeros-le (suc n ∷ counts) = omega arith
 
 module _ (d : Bool) (t : ℕ) (name : List ℕ) (start : ℕ) (entries : List Entry) (counts : List ℕ) (readers : List Reader) (loose : IsLoose d t name start entries counts readers) where
-  pub offer-within : (cs : List ℕ) → cs ≡ counts ++ 0 ∷ [] → AllByRecursion (λ (s : Reader). IsWithin start (start + length cs) s.place) readers
+  pub offer-within : (cs : List ℕ) → cs ≡ counts ++ 0 ∷ [] → AllByRecursion (λ (s : Reader). IsWithin start (start + length cs) s.progress) readers
   offer-within cs is = each-within d t name start (start + length cs) entries readers (omega (arith, ap length is, length-append counts (0 ∷ []), loose.paired)) loose.each
 
   pub offer-agree : (cs : List ℕ) → cs ≡ counts ++ 0 ∷ [] → IsCounted start readers cs
@@ -125,7 +125,6 @@ module _ (d : Bool) (t : ℕ) (name : List ℕ) (start : ℕ) (entries : List En
         each = subst (λ xs. AllByRecursion (IsReader d t name start xs) ss) (sym entries_are) (subst (AllByRecursion (IsReader d t name start (entries ++ e ∷ []))) (sym readers_at) (offered-each readers here loose.each));
         agree = agree;
         rising = subst (IsRising number_in) (sym readers_are) (rising_map number_in (reader_after t e position) (λ x. refl) readers loose.rising);
-        few = omega (arith, loose.few, ap length readers_are, length-map readers (reader_after t e position));
       }
 
       pub offer-seen : map (handle_of t name start es) ss ≡ map (offer e) (map (handle_of t name start entries) readers)
@@ -147,7 +146,7 @@ cond-le false m n le = omega arith
 longest-le : (d : Bool) (t : ℕ) (name : List ℕ) (start : ℕ) (entries : List Entry) (readers : List Reader) → longest d t (map (handle_of t name start entries) readers) ≤ length entries
 longest-le d t name start entries [] = omega arith
 longest-le d t name start entries (s ∷ ss) =
-    let one : cond (is_of d t (handle_of t name start entries s)) (length (rest_seen (seen_at start entries s.place))) 0 ≤ length entries = cond-le (is_of d t (handle_of t name start entries s)) (length (rest_seen (seen_at start entries s.place))) (length entries) (rest-le (opened t name s.opening) start entries s.place) in
+    let one : cond (is_of d t (handle_of t name start entries s)) (length (rest_seen (seen_at start entries s.progress))) 0 ≤ length entries = cond-le (is_of d t (handle_of t name start entries s)) (length (rest_seen (seen_at start entries s.progress))) (length entries) (rest-le (opened t name s.opening) start entries s.progress) in
     omega (arith, longest-le d t name start entries ss)
 
 of-all : (a b c : Bool) → a ≡ true → b ≡ true → c ≡ true → (a && b && c) ≡ true
@@ -172,9 +171,9 @@ first-kept d t name start entries s (At first owed) flag is lt = by (eqb first s
 longest-ge : (d : Bool) (t : ℕ) (name : List ℕ) (start : ℕ) (entries : List Entry) (readers : List Reader) → AllByRecursion (IsReader d t name start entries) readers → 0 < standing readers start → length entries ≤ longest d t (map (handle_of t name start entries) readers)
 longest-ge d t name start entries [] all lt = absurd (omega arith)
 longest-ge d t name start entries (s ∷ ss) all lt = ⊎_elim
-    (λ (here : 0 < stands start s.place). omega (arith, first-kept d t name start entries s s.place all.0.flag all.0.place here))
-    (λ (none : stands start s.place ≤ 0). omega (arith, longest-ge d t name start entries ss all.1 (omega (arith, sum_by-cons (λ (x : Reader). stands start x.place) s ss))))
-    (cases_lt 0 (stands start s.place))
+    (λ (here : 0 < stands start s.progress). omega (arith, first-kept d t name start entries s s.progress all.0.flag all.0.place here))
+    (λ (none : stands start s.progress ≤ 0). omega (arith, longest-ge d t name start entries ss all.1 (omega (arith, sum_by-cons (λ (x : Reader). stands start x.progress) s ss))))
+    (cases_lt 0 (stands start s.progress))
 
 front-some : (counts : List ℕ) → zeros counts ≡ 0 → 0 < length counts → 0 < get_or counts 0 0
 front-some [] z lt = absurd (omega arith)
@@ -199,15 +198,15 @@ all-remove P (x ∷ xs) zero all = all.1
 all-remove P (x ∷ xs) (suc k) all = (all.0, all-remove P xs k all.1)
 
 module _ (d : Bool) (t : ℕ) (name : List ℕ) (start : ℕ) (entries : List Entry) (counts : List ℕ) (readers : List Reader) (loose : IsLoose d t name start entries counts readers) where
-  pub put-within : AllByRecursion (λ (s : Reader). IsWithin start (start + length counts) s.place) readers
+  pub put-within : AllByRecursion (λ (s : Reader). IsWithin start (start + length counts) s.progress) readers
   put-within = each-within d t name start (start + length counts) entries readers (omega (arith, loose.paired)) loose.each
 
   abbrev pub see : Reader → Open Seen
   see = handle_of t name start entries
 
-  module _ (k : ℕ) (r x : Reader) (lt : k < length readers) (opens : r.opening ≡ (get_or readers k x).opening) (is : IsPlace (opened t name r.opening) start entries r.place) where
-    pub set-to : IsWithin start (start + length counts) r.place
-    set-to = place-within (opened t name r.opening) start (start + length counts) entries r.place (omega (arith, loose.paired)) is
+  module _ (k : ℕ) (r x : Reader) (lt : k < length readers) (opens : r.opening ≡ (get_or readers k x).opening) (is : IsPlace (opened t name r.opening) start entries r.progress) where
+    pub set-to : IsWithin start (start + length counts) r.progress
+    set-to = place-within (opened t name r.opening) start (start + length counts) entries r.progress (omega (arith, loose.paired)) is
 
     pub set-loose : (ss : List Reader) (cs : List ℕ) → ss ≡ set readers k r → IsCounted start ss cs → length cs ≡ length counts → IsLoose d t name start entries cs ss
     set-loose ss cs are agree long =
@@ -219,13 +218,12 @@ module _ (d : Bool) (t : ℕ) (name : List ℕ) (start : ℕ) (entries : List En
           each = subst (AllByRecursion (IsReader d t name start entries)) (sym are) (all-set (IsReader d t name start entries) readers k r loose.each (record { flag = ap (λ o. same_flag (is_directory_kind o.kind) d) opens ∙ old.flag; place = is }));
           agree = agree;
           rising = subst (IsRising number_in) (sym are) (rising_set number_in r x readers k loose.rising number lt);
-          few = omega (arith, loose.few, ap length are, length-set readers k r);
         }
 
     -- it stands where it stood
-    pub set-agree : (ss : List Reader) → ss ≡ set readers k r → r.place ≡ (get_or readers k x).place → IsCounted start ss counts
+    pub set-agree : (ss : List Reader) → ss ≡ set readers k r → r.progress ≡ (get_or readers k x).progress → IsCounted start ss counts
     set-agree ss are same i within =
-        loose.agree i within ∙ sym (ap (λ xs. standing xs (start + i)) are ∙ (let f = sum_by-set (λ (y : Reader). stands (start + i) y.place) readers k r x lt in let e = ap (stands (start + i)) same in omega arith))
+        loose.agree i within ∙ sym (ap (λ xs. standing xs (start + i)) are ∙ (let f = sum_by-set (λ (y : Reader). stands (start + i) y.progress) readers k r x lt in let e = ap (stands (start + i)) same in omega arith))
 
   pub set-seen : (number k : ℕ) (change : Open Seen → Open Seen) (r x : Reader) (ss : List Reader) → ss ≡ set readers k r → IsPlaceOf number_in readers number k → k < length readers → see r ≡ change (see (get_or readers k x))
       → map see ss ≡ on_numbered number change (map see readers)
@@ -249,37 +247,35 @@ module _ (d : Bool) (t : ℕ) (name : List ℕ) (start : ℕ) (entries : List En
   gone-nowhere number k gap = sym (without_gap (λ (h : Open Seen). h.number) number (map see readers) k (gap_map number_in (λ (h : Open Seen). h.number) see (λ x. refl) number readers k gap))
 
   module _ (k : ℕ) (s : Reader) (lt : k < length readers) where
-    gone-agree : (cs : List ℕ) → cs ≡ uncounted start (get_or readers k s).place counts → IsCounted start (remove readers k) cs
+    gone-agree : (cs : List ℕ) → cs ≡ uncounted start (get_or readers k s).progress counts → IsCounted start (remove readers k) cs
     gone-agree cs is i within =
-        let from : IsWithin start (start + length counts) (get_or readers k s).place = all-at (λ (x : Reader). IsWithin start (start + length counts) x.place) readers k s put-within lt in
-        let here : i < length counts = omega (arith, ap length is, uncounted-length start (get_or readers k s).place counts) in
-        ap (λ xs. get_or xs i 0) is ∙ uncounted-at start (get_or readers k s).place counts i from here ∙ ap (λ n. n - stands (start + i) (get_or readers k s).place) (loose.agree i here)
-        ∙ (let f = sum_by-remove (λ (x : Reader). stands (start + i) x.place) readers k s lt in omega arith)
+        let from : IsWithin start (start + length counts) (get_or readers k s).progress = all-at (λ (x : Reader). IsWithin start (start + length counts) x.progress) readers k s put-within lt in
+        let here : i < length counts = omega (arith, ap length is, uncounted-length start (get_or readers k s).progress counts) in
+        ap (λ xs. get_or xs i 0) is ∙ uncounted-at start (get_or readers k s).progress counts i from here ∙ ap (λ n. n - stands (start + i) (get_or readers k s).progress) (loose.agree i here)
+        ∙ (let f = sum_by-remove (λ (x : Reader). stands (start + i) x.progress) readers k s lt in omega arith)
 
-    pub gone-there : (i : ℕ) → i < length counts → stands (start + i) (get_or readers k s).place ≤ get_or counts i 0
-    gone-there i within = let le = get_or-le-sum_by (λ (x : Reader). stands (start + i) x.place) readers k s lt in omega (arith, loose.agree i within)
+    pub gone-there : (i : ℕ) → i < length counts → stands (start + i) (get_or readers k s).progress ≤ get_or counts i 0
+    gone-there i within = let le = get_or-le-sum_by (λ (x : Reader). stands (start + i) x.progress) readers k s lt in omega (arith, loose.agree i within)
 
-    pub gone-loose : (ss : List Reader) (cs : List ℕ) → ss ≡ remove readers k → cs ≡ uncounted start (get_or readers k s).place counts → IsLoose d t name start entries cs ss
+    pub gone-loose : (ss : List Reader) (cs : List ℕ) → ss ≡ remove readers k → cs ≡ uncounted start (get_or readers k s).progress counts → IsLoose d t name start entries cs ss
     gone-loose ss cs are is = subst (IsLoose d t name start entries cs) (sym are) (record {
-      paired = omega (arith, ap length is, uncounted-length start (get_or readers k s).place counts, loose.paired);
+      paired = omega (arith, ap length is, uncounted-length start (get_or readers k s).progress counts, loose.paired);
       fits = loose.fits;
       each = all-remove (IsReader d t name start entries) readers k loose.each;
       agree = gone-agree cs is;
       rising = rising_remove number_in readers k loose.rising;
-      few = omega (arith, loose.few, length-remove readers k lt);
     })
 
   -- ---- one more handle
 
-  pub open-loose : (s : Reader) (ss : List Reader) → ss ≡ readers ++ s ∷ [] → AllByRecursion (λ x. x.opening.number < s.opening.number) readers → length readers < most_handles
-      → IsReader d t name start entries s → ((position : ℕ) → stands position s.place ≡ 0) → IsLoose d t name start entries counts ss
-  open-loose s ss is above room right none = record {
+  pub open-loose : (s : Reader) (ss : List Reader) → ss ≡ readers ++ s ∷ [] → AllByRecursion (λ x. x.opening.number < s.opening.number) readers
+      → IsReader d t name start entries s → ((position : ℕ) → stands position s.progress ≡ 0) → IsLoose d t name start entries counts ss
+  open-loose s ss is above right none = record {
     paired = loose.paired;
     fits = loose.fits;
     each = subst (AllByRecursion (IsReader d t name start entries)) (sym is) (all-push (IsReader d t name start entries) readers s loose.each right);
-    agree = λ i lt. loose.agree i lt ∙ sym (ap (λ xs. standing xs (start + i)) is ∙ sum_by_push (λ (x : Reader). stands (start + i) x.place) readers s ∙ (let z = none (start + i) in omega arith));
+    agree = λ i lt. loose.agree i lt ∙ sym (ap (λ xs. standing xs (start + i)) is ∙ sum_by_push (λ (x : Reader). stands (start + i) x.progress) readers s ∙ (let z = none (start + i) in omega arith));
     rising = subst (IsRising number_in) (sym is) (rising_push number_in readers s loose.rising above);
-    few = omega (arith, ap length is, length-append readers (s ∷ []), room);
   }
 
   pub open-seen : (s : Reader) (ss : List Reader) → ss ≡ readers ++ s ∷ [] → map see ss ≡ map see readers ++ see s ∷ []

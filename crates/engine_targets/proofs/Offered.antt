@@ -15,7 +15,7 @@ use Rattle.pps_types.proofs.Offers.{visible-keeps}
 use Rattle.pps_types.proofs.Kept.{keeps-chain}
 use Rattle.engine_targets.specs.declared.place.Place.{Place}
 use Rattle.engine_targets.specs.declared.place.Place.TheVariants.{News, Fresh, Over, Idle, At}
-use Rattle.engine_targets.specs.declared.reader.Reader.{Reader}
+use Rattle.engine_targets.specs.Readers.{Reader}
 use Rattle.engine_targets.specs.Opened.{opened}
 use Rattle.engine_targets.specs.Places.{seen_at, waiting, handle_of, place_after, reader_after, Begins, IsAt, IsPlace, IsReader}
 
@@ -203,12 +203,12 @@ unseen d t h read flag target e out = by (visible h e) refl
 pub reader-offered : (d : Bool) (t : ℕ) (name : List ℕ) (start : ℕ) (entries : List Entry) (e : Entry) (s : Reader) → in_chain d t e ≡ true → IsReader d t name start entries s
     → IsReader d t name start (entries ++ e ∷ []) (reader_after t e (start + length entries) s) × (handle_of t name start (entries ++ e ∷ []) (reader_after t e (start + length entries) s) ≡ offer e (handle_of t name start entries s))
 reader-offered d t name start entries e s here is =
-    let l = place-offered (opened t name s.opening) start entries e s.place is.place (λ delta. keeps-chain d t (opened t name s.opening) (record { delta = delta; flag = is.flag; target = refl }) e ∙ here) in
+    let l = place-offered (opened t name s.opening) start entries e s.progress is.place (λ delta. keeps-chain d t (opened t name s.opening) (record { delta = delta; flag = is.flag; target = refl }) e ∙ here) in
     (record { flag = is.flag; place = l.0 }, ap (λ x. waiting s (reseen (λ h. x) (opened t name s.opening))) l.1)
 
 pub reader-other : (d : Bool) (t : ℕ) (name : List ℕ) (start : ℕ) (entries : List Entry) (e : Entry) (s : Reader) → in_chain d t e ≡ false → IsReader d t name start entries s → handle_of t name start entries s ≡ offer e (handle_of t name start entries s)
 reader-other d t name start entries e s out is =
     ap (λ x. waiting s (reseen (λ h. x) (opened t name s.opening)))
-    (place-other (opened t name s.opening) start entries e s.place is.place
-    (unseen d t (opened t name s.opening) (place-style (opened t name s.opening) start entries s.place is.place) is.flag refl e out)
+    (place-other (opened t name s.opening) start entries e s.progress is.place
+    (unseen d t (opened t name s.opening) (place-style (opened t name s.opening) start entries s.progress is.place) is.flag refl e out)
     (λ delta. keeps-chain d t (opened t name s.opening) (record { delta = delta; flag = is.flag; target = refl }) e ∙ out))

@@ -4,15 +4,16 @@ use Rattle.pps_types.specs.History.{Entry}
 use Rattle.pps_types.specs.Reading.{Open, reseen}
 use Rattle.pps_types.specs.Rests.{Seen, News as SeenNews, Unread, Over as SeenOver, Owed}
 use Rattle.pps_types.specs.Plan.{on_numbered, caught_up, left}
-use Rattle.notify_box.specs.Rising.{IsPlaceOf, IsGapFor}
+use Rattle.notify_box.specs.Rising.{IsPlaceOf}
 use Rattle.engine_targets.specs.declared.opening.Opening.{Opening}
 use Rattle.engine_targets.specs.declared.place.Place.{Place}
 use Rattle.engine_targets.specs.declared.place.Place.TheVariants.{News, Fresh, Over, Idle, At}
-use Rattle.engine_targets.specs.declared.reader.Reader.{Reader}
+use Rattle.engine_targets.specs.Readers.{Reader}
 use Rattle.engine_targets.specs.Opened.{opened, is_reader}
 use Rattle.engine_targets.specs.Places.{seen_at, waiting, handle_of, placed, caught_place, IsPlace, IsReader}
 use Rattle.engine_targets.specs.Counts.{IsCounted, zeros}
-use Rattle.engine_targets.specs.Standing.{IsLoose, IsTarget, number_in}
+use Rattle.engine_targets.specs.Rows.{number_in}
+use Rattle.engine_targets.specs.Standing.{IsLoose, IsTarget}
 use Rattle.engine_targets.proofs.Offered.{place-style}
 use Rattle.engine_targets.proofs.Tallies.{all-at}
 use Rattle.engine_targets.proofs.Passing.{caught-is, caught-seen}
@@ -24,7 +25,7 @@ module _ (d : Bool) (t : ℕ) (name : List ℕ) (start : ℕ) (entries : List En
 
   -- it is one that reads
   pub reads-there : is_reader (get_or readers k x).opening.kind ≡ true
-  reads-there = place-style (opened t name (get_or readers k x).opening) start entries (get_or readers k x).place (all-at (IsReader d t name start entries) readers k x is.loose.each lt).place
+  reads-there = place-style (opened t name (get_or readers k x).opening) start entries (get_or readers k x).progress (all-at (IsReader d t name start entries) readers k x is.loose.each lt).place
 
   pub caught-there : IsPlace (opened t name (get_or readers k x).opening) start entries (caught_place (get_or readers k x).opening.kind)
   caught-there = caught-is (opened t name (get_or readers k x).opening) start entries reads-there
@@ -32,7 +33,7 @@ module _ (d : Bool) (t : ℕ) (name : List ℕ) (start : ℕ) (entries : List En
   pub caught-handle : handle_of t name start entries (placed (caught_place (get_or readers k x).opening.kind) (get_or readers k x)) ≡ reseen caught_up (handle_of t name start entries (get_or readers k x))
   caught-handle = ap (λ (v : Seen). waiting (get_or readers k x) (reseen (λ h. v) (opened t name (get_or readers k x).opening))) (caught-seen (opened t name (get_or readers k x).opening) start entries reads-there)
 
-  pub passed-handle : (n : ℕ) (p : Place) → seen_at start entries p ≡ left (opened t name (get_or readers k x).opening) n (seen_at start entries (get_or readers k x).place)
+  pub passed-handle : (n : ℕ) (p : Place) → seen_at start entries p ≡ left (opened t name (get_or readers k x).opening) n (seen_at start entries (get_or readers k x).progress)
       → handle_of t name start entries (placed p (get_or readers k x)) ≡ reseen (λ h. left h n h.seen) (handle_of t name start entries (get_or readers k x))
   passed-handle n p same = ap (λ (v : Seen). waiting (get_or readers k x) (reseen (λ h. v) (opened t name (get_or readers k x).opening))) same
 
@@ -51,9 +52,9 @@ module _ (d : Bool) (t : ℕ) (name : List ℕ) (start : ℕ) (entries : List En
 
   -- ---- it stays where it is, and something else of it changes
 
-  module _ (r : Reader) (opens : r.opening ≡ (get_or readers k x).opening) (places : r.place ≡ (get_or readers k x).place) where
-    stays : IsPlace (opened t name r.opening) start entries r.place
-    stays = subst (λ o. IsPlace (opened t name o) start entries r.place) (sym opens)
+  module _ (r : Reader) (opens : r.opening ≡ (get_or readers k x).opening) (places : r.progress ≡ (get_or readers k x).progress) where
+    stays : IsPlace (opened t name r.opening) start entries r.progress
+    stays = subst (λ o. IsPlace (opened t name o) start entries r.progress) (sym opens)
         (subst (IsPlace (opened t name (get_or readers k x).opening) start entries) (sym places) (all-at (IsReader d t name start entries) readers k x is.loose.each lt).place)
 
     pub wait-is : IsTarget d t name start entries counts (set readers k r)
@@ -61,14 +62,6 @@ module _ (d : Bool) (t : ℕ) (name : List ℕ) (start : ℕ) (entries : List En
       loose = set-loose d t name start entries counts readers is.loose k r x lt opens stays (set readers k r) counts refl (set-agree d t name start entries counts readers is.loose k r x lt opens stays (set readers k r) refl places) refl;
       exact = is.exact;
     }
-
--- ---- what a search says, of the list and the number that were meant
-
-pub place-at : (xs ys : List Reader) (n m k : ℕ) → ys ≡ xs → m ≡ n → IsPlaceOf number_in ys m k → IsPlaceOf number_in xs n k
-place-at xs ys n m k list number place = subst (λ l. IsPlaceOf number_in l n k) list (subst (λ i. IsPlaceOf number_in ys i k) number place)
-
-pub gap-at : (xs ys : List Reader) (n m k : ℕ) → ys ≡ xs → m ≡ n → IsGapFor number_in ys m k → IsGapFor number_in xs n k
-gap-at xs ys n m k list number gap = subst (λ l. IsGapFor number_in l n k) list (subst (λ i. IsGapFor number_in ys i k) number gap)
 
 -- ---- names change nothing of what a handle is given
 

@@ -11,10 +11,10 @@ use Rattle.pps_types.specs.WellFormed.{IsWhole}
 use Rattle.notify_box.specs.Rising.{IsRising, AllAbove}
 use Rattle.engine_targets.specs.declared.place.Place.{Place}
 use Rattle.engine_targets.specs.declared.place.Place.TheVariants.{News, Fresh, Over, Idle, At}
-use Rattle.engine_targets.specs.declared.reader.Reader.{Reader}
+use Rattle.engine_targets.specs.Readers.{Reader}
 use Rattle.engine_targets.specs.Opened.{opened, is_reader}
 use Rattle.engine_targets.specs.Places.{seen_at, handle_of, IsPlace, IsReader}
-use Rattle.engine_targets.specs.Standing.{number_in}
+use Rattle.engine_targets.specs.Rows.{number_in}
 use Rattle.engine_targets.specs.Seated.{IsSeated, AreSeated}
 
 flag-is : (a b : Bool) → same_flag a b ≡ true → a ≡ b
@@ -49,7 +49,7 @@ module _ (t : ℕ) (name : List ℕ) (start : ℕ) (entries : List Entry) where
   whole-at r Idle is = owed-whole t name start entries r [] is (omega arith)
   whole-at r (At first owed) is = owed-whole t name start entries r (drop (first - start) entries) is.delta (omega (arith, is.count, is.few))
 
-  whole-same : (r : Reader) (s : Seen) → IsWhole (opened t name r.opening) s → s ≡ seen_at start entries r.place → IsWhole (handle_of t name start entries r) s
+  whole-same : (r : Reader) (s : Seen) → IsWhole (opened t name r.opening) s → s ≡ seen_at start entries r.progress → IsWhole (handle_of t name start entries r) s
   whole-same r (SeenNews b) is same = tt
   whole-same r Unread is same = tt
   whole-same r SeenOver is same = tt
@@ -59,7 +59,7 @@ module _ (t : ℕ) (name : List ℕ) (start : ℕ) (entries : List Entry) where
   seated d r is = record {
     flag = flag-is (is_directory_kind r.opening.kind) d is.flag;
     on = refl;
-    whole = whole-same r (seen_at start entries r.place) (whole-at r r.place is.place) refl;
+    whole = whole-same r (seen_at start entries r.progress) (whole-at r r.progress is.place) refl;
   }
 
   all-seated : (d : Bool) (rs : List Reader) → AllByRecursion (IsReader d t name start entries) rs → AllByRecursion (IsSeated d t) (map (handle_of t name start entries) rs)
@@ -88,7 +88,7 @@ module _ (t : ℕ) (name : List ℕ) (start : ℕ) (entries : List Entry) where
 
   pub all-read : (d : Bool) (rs : List Reader) → AllByRecursion (IsReader d t name start entries) rs → AllByRecursion (λ (h : Open Seen). is_reader h.kind ≡ true) (map (handle_of t name start entries) rs)
   all-read d [] all = tt
-  all-read d (r ∷ rs) all = (reads r r.place all.0.place, all-read d rs all.1)
+  all-read d (r ∷ rs) all = (reads r r.progress all.0.place, all-read d rs all.1)
 
   pub all-named : (rs : List Reader) → AllByRecursion (λ (h : Open Seen). h.name ≡ name) (map (handle_of t name start entries) rs)
   all-named [] = tt

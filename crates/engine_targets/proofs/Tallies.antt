@@ -10,7 +10,7 @@ use Rattle.pps_types.specs.Reading.{Open, reseen, visible}
 use Rattle.pps_types.specs.Rests.{Owed}
 use Rattle.engine_targets.specs.declared.place.Place.{Place}
 use Rattle.engine_targets.specs.declared.place.Place.TheVariants.{News, Fresh, Over, Idle, At}
-use Rattle.engine_targets.specs.declared.reader.Reader.{Reader}
+use Rattle.engine_targets.specs.Readers.{Reader}
 use Rattle.engine_targets.specs.Opened.{opened}
 use Rattle.engine_targets.specs.Places.{seen_at, waiting, handle_of, place_after, Begins, IsPlace, IsReader}
 use Rattle.engine_targets.specs.Counts.{stands, uncounted, counted, recounted, standing, IsCounted, IsWithin, zeros}
@@ -48,7 +48,7 @@ stands-le position Idle = omega arith
 
 pub standing-le : (readers : List Reader) (position : ℕ) → standing readers position ≤ length readers
 standing-le [] position = omega arith
-standing-le (s ∷ ss) position = omega (arith, sum_by-cons (λ (x : Reader). stands position x.place) s ss, stands-le position s.place, standing-le ss position)
+standing-le (s ∷ ss) position = omega (arith, sum_by-cons (λ (x : Reader). stands position x.progress) s ss, stands-le position s.progress, standing-le ss position)
 
 pub uncounted-length : (start : ℕ) (p : Place) (counts : List ℕ) → length (uncounted start p counts) ≡ length counts
 uncounted-length start (At first owed) counts = length-set counts (first - start) (get_or counts (first - start) 0 - 1)
@@ -99,19 +99,19 @@ counted-at start Idle counts i w lt = omega arith
 
 -- one handle goes from its place to another
 pub counted-set : (start : ℕ) (readers : List Reader) (counts : List ℕ) (k : ℕ) (d s : Reader) → IsCounted start readers counts → k < length readers
-    → IsWithin start (start + length counts) (get_or readers k d).place → IsWithin start (start + length counts) s.place
-    → IsCounted start (set readers k s) (recounted start (get_or readers k d).place s.place counts)
+    → IsWithin start (start + length counts) (get_or readers k d).progress → IsWithin start (start + length counts) s.progress
+    → IsCounted start (set readers k s) (recounted start (get_or readers k d).progress s.progress counts)
 counted-set start readers counts k d s agree lt from to i within =
-    let from_place : Place = (get_or readers k d).place in
+    let from_place : Place = (get_or readers k d).progress in
     let n = uncounted-length start from_place counts in
-    let here : i < length counts = omega (arith, recounted-length start from_place s.place counts) in
-    let a = counted-at start s.place (uncounted start from_place counts) i (subst (λ m. IsWithin start (start + m) s.place) (sym n) to) (omega arith) in
+    let here : i < length counts = omega (arith, recounted-length start from_place s.progress counts) in
+    let a = counted-at start s.progress (uncounted start from_place counts) i (subst (λ m. IsWithin start (start + m) s.progress) (sym n) to) (omega arith) in
     let b = uncounted-at start from_place counts i from here in
     let c = agree i here in
-    let f = sum_by-set (λ (x : Reader). stands (start + i) x.place) readers k s d lt in
-    let le = get_or-le-sum_by (λ (x : Reader). stands (start + i) x.place) readers k d lt in
-    a ∙ ap (λ m. m + stands (start + i) s.place) (b ∙ ap (λ m. m - stands (start + i) from_place) c)
-    ∙ by (standing readers (start + i)) (stands (start + i) from_place) (stands (start + i) s.place) (standing (set readers k s) (start + i)) f le
+    let f = sum_by-set (λ (x : Reader). stands (start + i) x.progress) readers k s d lt in
+    let le = get_or-le-sum_by (λ (x : Reader). stands (start + i) x.progress) readers k d lt in
+    a ∙ ap (λ m. m + stands (start + i) s.progress) (b ∙ ap (λ m. m - stands (start + i) from_place) c)
+    ∙ by (standing readers (start + i)) (stands (start + i) from_place) (stands (start + i) s.progress) (standing (set readers k s) (start + i)) f le
   where
     by : (all old new after : ℕ) → after + old ≡ all + new → old ≤ all → (all - old) + new ≡ after
     by all old new after f le = omega arith
@@ -161,9 +161,9 @@ place-cut h start z entries (At first owed) le is behind =
     )
 
 -- each counts for something where it stands
-all-standing : (most : ℕ → ℕ) (readers : List Reader) → ((p : ℕ) → standing readers p ≤ most p) → AllByRecursion (λ s. (p : ℕ) → stands p s.place ≤ most p) readers
+all-standing : (most : ℕ → ℕ) (readers : List Reader) → ((p : ℕ) → standing readers p ≤ most p) → AllByRecursion (λ s. (p : ℕ) → stands p s.progress ≤ most p) readers
 all-standing most [] le = tt
-all-standing most (s ∷ ss) le = ((λ p. omega (arith, sum_by-cons (λ (x : Reader). stands p x.place) s ss, le p)), all-standing most ss (λ p. omega (arith, sum_by-cons (λ (x : Reader). stands p x.place) s ss, le p)))
+all-standing most (s ∷ ss) le = ((λ p. omega (arith, sum_by-cons (λ (x : Reader). stands p x.progress) s ss, le p)), all-standing most ss (λ p. omega (arith, sum_by-cons (λ (x : Reader). stands p x.progress) s ss, le p)))
 
 stands-here : (first owed : ℕ) → stands first (At first owed) ≡ 1
 stands-here first owed = ap (λ b. cond b 1 0) (eq-eqb first first refl)
@@ -183,22 +183,21 @@ module _ (d : Bool) (t : ℕ) (name : List ℕ) (start : ℕ) (entries : List En
       (λ ge. ge)
       (cases_lt first (start + zeros counts))
 
-  cut-reader : (s : Reader) → IsReader d t name start entries s → ((q : ℕ) → stands q s.place ≤ standing readers q) → IsReader d t name (start + zeros counts) (drop (zeros counts) entries) s × (handle_of t name (start + zeros counts) (drop (zeros counts) entries) s ≡ handle_of t name start entries s)
+  cut-reader : (s : Reader) → IsReader d t name start entries s → ((q : ℕ) → stands q s.progress ≤ standing readers q) → IsReader d t name (start + zeros counts) (drop (zeros counts) entries) s × (handle_of t name (start + zeros counts) (drop (zeros counts) entries) s ≡ handle_of t name start entries s)
   cut-reader s is le =
-      let c = place-cut (opened t name s.opening) start (zeros counts) entries s.place (omega (arith, zeros-le counts, loose.paired)) is.place (behind s s.place is.place le) in
+      let c = place-cut (opened t name s.opening) start (zeros counts) entries s.progress (omega (arith, zeros-le counts, loose.paired)) is.place (behind s s.progress is.place le) in
       (record { flag = is.flag; place = c.0 }, ap (λ x. waiting s (reseen (λ h. x) (opened t name s.opening))) c.1)
 
   pub cut-seen : map (handle_of t name (start + zeros counts) (drop (zeros counts) entries)) readers ≡ map (handle_of t name start entries) readers
-  cut-seen = map-all (handle_of t name (start + zeros counts) (drop (zeros counts) entries)) (handle_of t name start entries) readers (all-both {P = IsReader d t name start entries} {Q = λ s. (q : ℕ) → stands q s.place ≤ standing readers q} {R = λ s. handle_of t name (start + zeros counts) (drop (zeros counts) entries) s ≡ handle_of t name start entries s} (λ s is le. (cut-reader s is le).1) readers loose.each (all-standing (standing readers) readers (λ p. omega arith)))
+  cut-seen = map-all (handle_of t name (start + zeros counts) (drop (zeros counts) entries)) (handle_of t name start entries) readers (all-both {P = IsReader d t name start entries} {Q = λ s. (q : ℕ) → stands q s.progress ≤ standing readers q} {R = λ s. handle_of t name (start + zeros counts) (drop (zeros counts) entries) s ≡ handle_of t name start entries s} (λ s is le. (cut-reader s is le).1) readers loose.each (all-standing (standing readers) readers (λ p. omega arith)))
 
   pub cut-is : IsTarget d t name (start + zeros counts) (drop (zeros counts) entries) (drop (zeros counts) counts) readers
   cut-is = record {
     loose = record {
       paired = omega (arith, loose.paired, length-drop (zeros counts) counts, length-drop (zeros counts) entries);
       fits = omega (arith, loose.fits, loose.paired, zeros-le counts, length-drop (zeros counts) entries);
-      each = all-both {P = IsReader d t name start entries} {Q = λ s. (q : ℕ) → stands q s.place ≤ standing readers q} {R = IsReader d t name (start + zeros counts) (drop (zeros counts) entries)} (λ s is le. (cut-reader s is le).0) readers loose.each (all-standing (standing readers) readers (λ p. omega arith));
+      each = all-both {P = IsReader d t name start entries} {Q = λ s. (q : ℕ) → stands q s.progress ≤ standing readers q} {R = IsReader d t name (start + zeros counts) (drop (zeros counts) entries)} (λ s is le. (cut-reader s is le).0) readers loose.each (all-standing (standing readers) readers (λ p. omega arith));
       rising = loose.rising;
-      few = loose.few;
       agree = λ i lt. get_or-drop (zeros counts) counts i 0 ∙ loose.agree (zeros counts + i) (omega (arith, length-drop (zeros counts) counts)) ∙ ap (standing readers) (let e : start + (zeros counts + i) ≡ (start + zeros counts) + i = omega arith in e);
     };
     exact = zeros-exact counts;

@@ -8,7 +8,7 @@ use Rattle.pps_types.specs.Rests.{Seen, news_in, Owed}
 use Rattle.settling_laws.specs.Told.{is_waiting, learns}
 use Rattle.engine_targets.specs.declared.place.Place.{Place}
 use Rattle.engine_targets.specs.declared.place.Place.TheVariants.{News, Fresh, Over, Idle, At}
-use Rattle.engine_targets.specs.declared.reader.Reader.{Reader}
+use Rattle.engine_targets.specs.Readers.{Reader}
 use Rattle.engine_targets.specs.Opened.{opened}
 use Rattle.engine_targets.specs.Places.{seen_at, handle_of, Begins, IsPlace, IsReader}
 use Rattle.engine_targets.specs.Woken.{woken_by, news_at, wakes_at}
@@ -30,11 +30,11 @@ news-place h start entries Idle is = refl
 news-place h start entries (At first owed) is = begun (visible h) h.reads (drop (first - start) entries) is.begins
 
 module _ (t : ℕ) (name : List ℕ) (start : ℕ) (entries : List Entry) (es : List Entry) where
-  wakes-same : (r : Reader) → IsPlace (opened t name r.opening) start entries r.place
+  wakes-same : (r : Reader) → IsPlace (opened t name r.opening) start entries r.progress
       → wakes_at t es r ≡ (is_waiting (handle_of t name start entries r) && learns es (handle_of t name start entries r))
   wakes-same r is =
-      ap (λ b. (is_some r.parked || b) && (not (news_at r.opening.reads r.place) && list_any (visible (opened t [] r.opening)) es)) (some-mapped (λ p. (p.code, p.value)) r.armed)
-      ∙ ap (λ b. is_waiting (handle_of t name start entries r) && (not b && list_any (visible (opened t [] r.opening)) es)) (news-place (opened t name r.opening) start entries r.place is)
+      ap (λ b. (is_some r.parked || b) && (not (news_at r.opening.reads r.progress) && list_any (visible (opened t [] r.opening)) es)) (some-mapped (λ p. (p.code, p.value)) r.armed)
+      ∙ ap (λ b. is_waiting (handle_of t name start entries r) && (not b && list_any (visible (opened t [] r.opening)) es)) (news-place (opened t name r.opening) start entries r.progress is)
 
   pub woken-readers : (d : Bool) (rs : List Reader) → AllByRecursion (IsReader d t name start entries) rs
       → map (λ r. r.opening.number) (filter (wakes_at t es) rs) ≡ woken_by es (map (handle_of t name start entries) rs)

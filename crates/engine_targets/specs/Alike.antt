@@ -2,7 +2,7 @@
 use Rattle.std.specs.Prelude.{ℕ, ◌-◌}
 use Rattle.engine_targets.specs.declared.place.Place.{Place}
 use Rattle.engine_targets.specs.declared.place.Place.TheVariants.{At}
-use Rattle.engine_targets.specs.declared.reader.Reader.{Reader}
+use Rattle.engine_targets.specs.Readers.{Reader}
 use Rattle.engine_targets.specs.Places.{placed}
 
 abbrev pub place_from : ℕ → Place → Place
@@ -10,4 +10,4 @@ place_from start (At first owed) = At (first - start) owed
 place_from start p = p
 
 abbrev pub reader_from : ℕ → Reader → Reader
-reader_from start r = placed (place_from start r.place) r
+reader_from start r = placed (place_from start r.progress) r

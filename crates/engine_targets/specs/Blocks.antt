@@ -7,7 +7,7 @@ use Rattle.pps_types.specs.History.{Entry}
 use Rattle.pps_types.specs.Reading.{Open, block, visible, owed_answer}
 use Rattle.pps_types.specs.Rests.{Seen, owed_in}
 use Rattle.server_queue.specs.Reads.{needed}
-use Rattle.engine_targets.specs.declared.reader.Reader.{Reader}
+use Rattle.engine_targets.specs.Readers.{Reader}
 use Rattle.engine_targets.specs.Opened.{opened}
 use Rattle.engine_targets.specs.Places.{seen_at}
 
@@ -32,4 +32,4 @@ owed_blocks h = option_map_or (λ h. map (block h) (owed_in h h.seen)) h []
 
 -- the same, of a handle at its place
 abbrev pub blocks_at : ℕ → ℕ → List Entry → Reader → List (List ℕ)
-blocks_at target start entries r = map (block (opened target [] r.opening)) (owed_in (opened target [] r.opening) (seen_at start entries r.place))
+blocks_at target start entries r = map (block (opened target [] r.opening)) (owed_in (opened target [] r.opening) (seen_at start entries r.progress))

@@ -1,9 +1,9 @@
 -- How many handles have their first owed record at each position.
 use Rattle.std.specs.Prelude.{◌≡◌, ℕ, zero, suc, ◌+◌, ◌-◌, ◌<◌, ◌≤◌, ◌==◌, if◌then◌else◌, List, [], ◌∷◌, length, slice_index, slice_set}
-use Rattle.std.specs.List.{sum_by}
+use Rattle.std.specs.List.{sum_by, AllByRecursion}
 use Rattle.engine_targets.specs.declared.place.Place.{Place}
 use Rattle.engine_targets.specs.declared.place.Place.TheVariants.{At}
-use Rattle.engine_targets.specs.declared.reader.Reader.{Reader}
+use Rattle.engine_targets.specs.Readers.{Reader}
 
 -- whether the first record that is owed stands there, as a number
 abbrev pub stands : ℕ → Place → ℕ
@@ -12,7 +12,7 @@ stands position _ = 0
 
 -- how many handles stand at a position
 abbrev pub standing : List Reader → ℕ → ℕ
-standing readers position = sum_by (λ r. stands position r.place) readers
+standing readers position = sum_by (λ r. stands position r.progress) readers
 
 abbrev pub IsCounted : ℕ → List Reader → List ℕ → Type 0
 IsCounted start readers counts = (i : ℕ) → i < length counts → slice_index counts i ≡ standing readers (start + i)
@@ -21,6 +21,10 @@ IsCounted start readers counts = (i : ℕ) → i < length counts → slice_index
 abbrev pub IsWithin : ℕ → ℕ → Place → Type 0
 IsWithin start end (At first owed) = (start ≤ first) × (first < end)
 IsWithin start end _ = Unit {0}
+
+-- each is at a place within so many from a position on
+abbrev pub AreWithin : ℕ → ℕ → List Reader → Type 0
+AreWithin start count readers = AllByRecursion (λ (r : Reader). IsWithin start (start + count) r.progress) readers
 
 -- the counts once a handle leaves its place, and once it takes one
 abbrev pub uncounted : ℕ → Place → List ℕ → List ℕ

@@ -1,4 +1,6 @@
 pub mod Opened
+pub mod Rows
+pub mod Readers
 pub mod Places
 pub mod Counts
 pub mod Standing

@@ -1,15 +1,14 @@
 -- How far handles have read of the records that their target holds.
-use Rattle.std.specs.Prelude.{◌≡◌, ℕ, ◌+◌, ◌-◌, ◌<◌, ◌≤◌, Bool, true, false, ◌||◌, nat_lt, if◌then◌else◌, List, [], ◌∷◌, length, filter, drop, Option}
+use Rattle.std.specs.Prelude.{◌≡◌, ℕ, ◌+◌, ◌-◌, ◌<◌, ◌≤◌, Bool, true, false, ◌||◌, nat_lt, if◌then◌else◌, List, [], ◌∷◌, length, filter, drop, Option, Some, None}
 use Rattle.pps_types.specs.declared.handle_kind.HandleKind.{HandleKind}
 use Rattle.pps_types.specs.History.{Entry}
 use Rattle.pps_types.specs.Reading.{Open, reseen, style, is_full_style, is_delta_style, is_directory_kind, visible}
 use Rattle.pps_types.specs.Rests.{Seen, News as SeenNews, Unread, Over as SeenOver, Owed}
 use Rattle.pps_types.specs.Owed.{same_flag}
 use Rattle.engine_targets.specs.Opened.{opened, armed_pulse}
-use Rattle.engine_targets.specs.declared.opening.Pulse.{Pulse}
 use Rattle.engine_targets.specs.declared.place.Place.{Place}
 use Rattle.engine_targets.specs.declared.place.Place.TheVariants.{News, Fresh, Over, Idle, At}
-use Rattle.engine_targets.specs.declared.reader.Reader.{Reader}
+use Rattle.engine_targets.specs.Readers.{Reader}
 
 -- what a handle at a place has seen, where the records that are held begin at a position
 abbrev pub seen_at : ℕ → List Entry → Place → Seen
@@ -25,16 +24,10 @@ waiting r h = record h { parked = r.parked; armed = armed_pulse r.armed }
 
 -- the handle, on the target of that number and name
 abbrev pub handle_of : ℕ → List ℕ → ℕ → List Entry → Reader → Open Seen
-handle_of target name start entries r = waiting r (reseen (λ h. seen_at start entries r.place) (opened target name r.opening))
+handle_of target name start entries r = waiting r (reseen (λ h. seen_at start entries r.progress) (opened target name r.opening))
 
 abbrev pub placed : Place → Reader → Reader
-placed place r = record r { place = place }
-
-abbrev pub parked_with : Option ℕ → Reader → Reader
-parked_with size r = record r { parked = size }
-
-abbrev pub armed_with : Option Pulse → Reader → Reader
-armed_with pulse r = record r { armed = pulse }
+placed place r = record r { progress = place }
 
 -- ---- where a handle goes
 
@@ -48,7 +41,12 @@ place_after limit sees position (At first owed) = if sees then (if nat_lt owed l
 
 -- what it is given has nothing to do with names
 abbrev pub reader_after : ℕ → Entry → ℕ → Reader → Reader
-reader_after target e position r = placed (place_after r.opening.limit (visible (opened target [] r.opening) e) position r.place) r
+reader_after target e position r = placed (place_after r.opening.limit (visible (opened target [] r.opening) e) position r.progress) r
+
+-- where it is once it was told to go somewhere, or to stay
+abbrev pub moved_to : Option Place → Reader → Reader
+moved_to None r = r
+moved_to (Some place) r = placed place r
 
 -- at its opening
 abbrev pub first_place : HandleKind → Bool → Place
@@ -83,4 +81,4 @@ IsPlace h start entries (At first owed) = IsAt h start entries first owed
 -- a handle on the directory or object of that number
 pub record IsReader (directory : Bool) (target : ℕ) (name : List ℕ) (start : ℕ) (entries : List Entry) (r : Reader) : Type 0 where
   pub flag : same_flag (is_directory_kind r.opening.kind) directory ≡ true
-  pub place : IsPlace (opened target name r.opening) start entries r.place
+  pub place : IsPlace (opened target name r.opening) start entries r.progress

@@ -1,5 +1,5 @@
 -- What stands of a target, and what is always so of its parts.
-use Rattle.std.specs.Prelude.{◌≡◌, ℕ, ◌+◌, ◌-◌, ◌<◌, ◌≤◌, ◌^◌, Bool, List, length, min}
+use Rattle.std.specs.Prelude.{◌≡◌, ℕ, ◌+◌, ◌-◌, ◌<◌, ◌^◌, Bool, List, length, min}
 use Rattle.std.specs.List.{AllByRecursion}
 use Rattle.pps_types.specs.declared.found.Found.{Found}
 use Rattle.pps_types.specs.History.{Entry}
@@ -8,7 +8,8 @@ use Rattle.pps_types.specs.Rests.{Seen}
 use Rattle.notify_box.specs.Rising.{IsRising}
 use Rattle.engine_targets.specs.Places.{IsReader}
 use Rattle.engine_targets.specs.Counts.{IsCounted, IsExact}
-use Rattle.engine_targets.specs.declared.reader.Reader.{Reader}
+use Rattle.engine_targets.specs.Readers.{Reader}
+use Rattle.engine_targets.specs.Rows.{number_in}
 
 -- of: the object or directory. name: an object's own. handles: those on it, in rising number, with what each has seen.
 -- kept: the records that it holds for them. room: for how many more records there is memory, and a position.
@@ -25,18 +26,6 @@ pub record Standing : Type 0 where
 abbrev pub room_of : ℕ → ℕ → ℕ → ℕ
 room_of end records_room counts_room = min (2 ^ 64 - 1 - end) (min records_room counts_room)
 
--- far more handles than have numbers
-abbrev pub most_handles : ℕ
-most_handles = 2 ^ 62
-
--- for how many more handles there is memory, where so many are there
-abbrev pub places_of : ℕ → ℕ → ℕ
-places_of capacity count = min (capacity - count) (most_handles - count)
-
--- the number of a handle
-abbrev pub number_in : Reader → ℕ
-number_in r = r.opening.number
-
 -- All but that nobody's records are dropped: each has its count, each handle is right where it stands, and they rise.
 pub record IsLoose (directory : Bool) (target : ℕ) (name : List ℕ) (start : ℕ) (entries : List Entry) (counts : List ℕ) (readers : List Reader) : Type 0 where
   pub paired : length counts ≡ length entries
@@ -44,7 +33,6 @@ pub record IsLoose (directory : Bool) (target : ℕ) (name : List ℕ) (start : 
   pub each : AllByRecursion (IsReader directory target name start entries) readers
   pub agree : IsCounted start readers counts
   pub rising : IsRising number_in readers
-  pub few : length readers ≤ most_handles
 
 pub record IsTarget (directory : Bool) (target : ℕ) (name : List ℕ) (start : ℕ) (entries : List Entry) (counts : List ℕ) (readers : List Reader) : Type 0 where
   pub loose : IsLoose directory target name start entries counts readers

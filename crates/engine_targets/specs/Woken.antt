@@ -8,7 +8,7 @@ use Rattle.settling_laws.specs.Told.{is_waiting, learns}
 use Rattle.engine_targets.specs.Opened.{opened}
 use Rattle.engine_targets.specs.declared.place.Place.{Place}
 use Rattle.engine_targets.specs.declared.place.Place.TheVariants.{News, Fresh, Over, Idle, At}
-use Rattle.engine_targets.specs.declared.reader.Reader.{Reader}
+use Rattle.engine_targets.specs.Readers.{Reader}
 
 -- the numbers of those that wait, had no news and see one of the records
 abbrev pub woken_by : List Entry → List (Open Seen) → List ℕ
@@ -29,4 +29,4 @@ abbrev pub sees_one : ℕ → List Entry → Reader → Bool
 sees_one target es r = list_any (visible (opened target [] r.opening)) es
 
 abbrev pub wakes_at : ℕ → List Entry → Reader → Bool
-wakes_at target es r = waits_at r && (not (news_at r.opening.reads r.place) && sees_one target es r)
+wakes_at target es r = waits_at r && (not (news_at r.opening.reads r.progress) && sees_one target es r)

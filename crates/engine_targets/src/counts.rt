@@ -1,14 +1,15 @@
 //! How many handles have their first owed record at each position.
-ghost use Rattle.std.specs.Prelude.{◌≡◌, ◌≤◌, ◌<◌, ◌+◌, ◌-◌, ◌^◌, ℕ, vec_capacity, length, map, drop, slice_index, slice_index_or, slice_set};
-ghost use Rattle.std.specs.List.{AllByRecursion};
+ghost use Rattle.std.specs.Prelude.{◌≡◌, ◌≤◌, ◌<◌, ◌+◌, ◌-◌, ◌^◌, ℕ, length, map, drop, slice_index};
 ghost use Rattle.std.specs.VecDeque.{deque_capacity};
 ghost use Rattle.engine_targets.specs.Audience.{IsAudience};
-ghost use Rattle.engine_targets.specs.Places.{reader_after, placed};
-ghost use Rattle.engine_targets.specs.Counts.{stands, uncounted, counted, recounted, IsCounted, IsWithin, zeros};
+ghost use Rattle.engine_targets.specs.Places.{reader_after, placed, moved_to};
+ghost use Rattle.engine_targets.specs.Rows.{rows_of, HasRowAt, IsChangedAt, IsSlotChangedAt};
+ghost use Rattle.engine_targets.specs.Counts.{stands, uncounted, counted, recounted, IsCounted, IsWithin, AreWithin, zeros};
 
 use crate::audience::Audience;
 use crate::place::{Place, is_fixed, moved};
-use crate::reader::Reader;
+use crate::row::HandleRow;
+use crate::rows::HandleRows;
 use server_queue::Entry;
 use std::collections::VecDeque;
 
@@ -51,47 +52,81 @@ fn recount(counts: &mut VecDeque<usize>, start: u64, from: Place, to: Place)
     enter(counts, start, to);
 }
 
-// Offers one handle a record.
+// Where a record leads a handle, if it leads it anywhere; the counts follow.
 fn offer_one(
     target: u64,
     audience: &Audience,
-    reader: &mut Reader,
+    reader: &HandleRow<Place>,
+    counts: &mut VecDeque<usize>,
+    start: u64,
+    position: u64,
+    entry: &Entry,
+) -> Option<Place>
+    requires audience { IsAudience target entry.now audience.now }
+    requires from_start { start ≤ position }
+    requires before_end { position < start + length counts.old.items }
+    requires within { IsWithin start (start + length counts.old.items) reader.now.progress }
+    requires there { (i : ℕ) → i < length counts.old.items
+        → stands (start + i) reader.now.progress ≤ slice_index counts.old.items i }
+    requires room { (i : ℕ) → i < length counts.old.items → slice_index counts.old.items i + 1 < 2 ^ 64 }
+    ensures reader { moved_to result reader.now ≡ reader_after target entry.now position reader.now }
+    ensures counts { counts.new.items
+        ≡ recounted start reader.now.progress (moved_to result reader.now).progress counts.old.items }
+    ensures capacity { deque_capacity counts.new ≡ deque_capacity counts.old }
+{
+    if is_fixed(reader.progress) || !audience.sees(target, &reader.opening, entry) {
+        return None;
+    }
+    if let Place::At { first, owed } = reader.progress {
+        if owed < reader.opening.limit {
+            return Some(Place::At {
+                first,
+                owed: owed + 1,
+            });
+        }
+    }
+    let place = moved(reader.progress, reader.opening.limit, position);
+    recount(counts, start, reader.progress, place);
+    Some(place)
+}
+
+// Offers the handle at a place a record, if there is one.
+fn offer_at(
+    target: u64,
+    audience: &Audience,
+    rows: &mut HandleRows<Place>,
+    place: usize,
     counts: &mut VecDeque<usize>,
     start: u64,
     position: u64,
     entry: &Entry,
 )
     requires audience { IsAudience target entry.now audience.now }
+    requires place { place < length rows.old.slots }
     requires from_start { start ≤ position }
     requires before_end { position < start + length counts.old.items }
-    requires within { IsWithin start (start + length counts.old.items) reader.old.place }
-    requires there { (i : ℕ) → i < length counts.old.items → stands (start + i) reader.old.place ≤ slice_index counts.old.items i }
-    requires room { (i : ℕ) → i < length counts.old.items → slice_index counts.old.items i + 1 < 2 ^ 64 }
-    ensures reader { reader.new ≡ reader_after target entry.now position reader.old }
-    ensures counts { counts.new.items ≡ recounted start reader.old.place reader.new.place counts.old.items }
+    requires within { AreWithin start (length counts.old.items) (rows_of rows.old) }
+    requires agree { IsCounted start (rows_of rows.old) counts.old.items }
+    ensures slots { IsSlotChangedAt place (reader_after target entry.now position) rows.old rows.new }
+    ensures within { AreWithin start (length counts.old.items) (rows_of rows.new) }
+    ensures agree { IsCounted start (rows_of rows.new) counts.new.items }
+    ensures length { length counts.new.items ≡ length counts.old.items }
     ensures capacity { deque_capacity counts.new ≡ deque_capacity counts.old }
+    ensures places { rows.new.places ≡ rows.old.places }
 {
-    if is_fixed(reader.place) || !audience.sees(target, &reader.opening, entry) {
+    let Some(reader) = rows.at(place) else {
         return;
+    };
+    let moved = offer_one(target, audience, reader, counts, start, position, entry);
+    if let Some(progress) = moved {
+        rows.set_progress(place, progress);
     }
-    if let Place::At { first, owed } = reader.place {
-        if owed < reader.opening.limit {
-            reader.place = Place::At {
-                first,
-                owed: owed + 1,
-            };
-            return;
-        }
-    }
-    let place = moved(reader.place, reader.opening.limit, position);
-    recount(counts, start, reader.place, place);
-    reader.place = place;
 }
 
 /// Offers each handle a record, which was pushed at a position.
 pub(crate) fn offer_each(
     target: u64,
-    readers: &mut Vec<Reader>,
+    rows: &mut HandleRows<Place>,
     counts: &mut VecDeque<usize>,
     start: u64,
     position: u64,
@@ -99,43 +134,44 @@ pub(crate) fn offer_each(
 )
     requires from_start { start ≤ position }
     requires before_end { position < start + length counts.old.items }
-    requires within { AllByRecursion (λ (r : Reader). IsWithin start (start + length counts.old.items) r.place) readers.old.items }
-    requires agree { IsCounted start readers.old.items counts.old.items }
-    requires few { length readers.old.items < 2 ^ 63 }
-    ensures readers { readers.new.items ≡ map (reader_after target entry.now position) readers.old.items }
-    ensures agree { IsCounted start readers.new.items counts.new.items }
+    requires within { AreWithin start (length counts.old.items) (rows_of rows.old) }
+    requires agree { IsCounted start (rows_of rows.old) counts.old.items }
+    ensures rows { rows_of rows.new ≡ map (reader_after target entry.now position) (rows_of rows.old) }
+    ensures agree { IsCounted start (rows_of rows.new) counts.new.items }
     ensures length { length counts.new.items ≡ length counts.old.items }
     ensures capacity { deque_capacity counts.new ≡ deque_capacity counts.old }
-    ensures places { vec_capacity readers.new ≡ vec_capacity readers.old }
+    ensures places { rows.new.places ≡ rows.old.places }
 {
     let audience = Audience::of(target, entry);
-    'offers: for reader in readers.iter_mut() {
-        offer_one(target, &audience, reader, counts, start, position, entry);
+    let end = rows.slots().len();
+    'offers: for place in 0..end {
+        offer_at(
+            target, &audience, rows, place, counts, start, position, entry,
+        );
     }
 }
 
-/// The handle at an index goes to another place.
+/// The handle at a place among the rows goes to another place among the records.
 pub(crate) fn put(
-    readers: &mut Vec<Reader>,
+    rows: &mut HandleRows<Place>,
     counts: &mut VecDeque<usize>,
     start: u64,
-    index: usize,
-    place: Place,
+    place: usize,
+    progress: Place,
 )
-    requires index { index < length readers.old.items }
-    requires to_within { IsWithin start (start + length counts.old.items) place }
-    requires within { AllByRecursion (λ (r : Reader). IsWithin start (start + length counts.old.items) r.place) readers.old.items }
-    requires agree { IsCounted start readers.old.items counts.old.items }
-    requires few { length readers.old.items < 2 ^ 63 }
-    ensures readers { (d : Reader) → readers.new.items ≡ slice_set readers.old.items index (placed place (slice_index_or readers.old.items index d)) }
-    ensures agree { IsCounted start readers.new.items counts.new.items }
+    requires row { HasRowAt place rows.old }
+    requires to_within { IsWithin start (start + length counts.old.items) progress }
+    requires within { AreWithin start (length counts.old.items) (rows_of rows.old) }
+    requires agree { IsCounted start (rows_of rows.old) counts.old.items }
+    ensures rows { IsChangedAt place (placed progress) rows.old rows.new }
+    ensures agree { IsCounted start (rows_of rows.new) counts.new.items }
     ensures length { length counts.new.items ≡ length counts.old.items }
     ensures capacity { deque_capacity counts.new ≡ deque_capacity counts.old }
-    ensures places { vec_capacity readers.new ≡ vec_capacity readers.old }
+    ensures places { rows.new.places ≡ rows.old.places }
 {
-    let reader = &mut readers[index];
-    recount(counts, start, reader.place, place);
-    reader.place = place;
+    let from = rows.row(place).progress;
+    recount(counts, start, from, progress);
+    rows.set_progress(place, progress);
 }
 
 /// Drops the counts in front that are nobody's, and tells how many they were.

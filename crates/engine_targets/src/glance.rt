@@ -6,8 +6,9 @@ ghost use Rattle.engine_targets.specs.Places.{handle_of, IsPlace};
 ghost use Rattle.engine_targets.specs.Glances.{glanced, glance_on};
 
 use crate::opening::Opening;
+use crate::place::Place;
 use crate::questions::{has_news, is_over, owed_count};
-use crate::reader::Reader;
+use crate::row::HandleRow;
 
 /// What is seen of one handle at one look: what its open fixed, whether a read waits on it, and what it is owed.
 #[derive(Drop)]
@@ -34,8 +35,8 @@ fn widened(count: Option<u32>) -> Option<usize>
 }
 
 /// What is seen of a handle at its place.
-pub(crate) fn glance_at(reader: &Reader) -> Glance<'_>
-    ensures { (target : ℕ) (name : List ℕ) (start : ℕ) (entries : List history.Entry) → IsPlace (opened target name reader.now.opening) start entries reader.now.place
+pub(crate) fn glance_at(reader: &HandleRow<Place>) -> Glance<'_>
+    ensures { (target : ℕ) (name : List ℕ) (start : ℕ) (entries : List history.Entry) → IsPlace (opened target name reader.now.opening) start entries reader.now.progress
         → glance_on target name result ≡ glanced (handle_of target name start entries reader.now) }
 {
     let owed = widened(owed_count(reader));

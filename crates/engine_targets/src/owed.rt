@@ -11,7 +11,7 @@ ghost use Rattle.engine_targets.specs.Shown.{printed_as};
 
 use crate::opening::Opening;
 use crate::place::Place;
-use crate::reader::Reader;
+use crate::row::HandleRow;
 use crate::shown::Shown;
 use change_chain::Chain;
 use pps_types::Refusal;
@@ -157,18 +157,18 @@ fn give(
 pub(crate) fn give_from(
     alloc: Global,
     target: u64,
-    reader: &Reader,
+    reader: &HandleRow<Place>,
     records: &Chain<Entry>,
     max: u32,
 ) -> Result<Given, Refusal>
-    requires { IsPlace (opened target [] reader.now.opening) records.now.start records.now.items reader.now.place }
+    requires { IsPlace (opened target [] reader.now.opening) records.now.start records.now.items reader.now.progress }
     ensures ok { IfOk result (λ g. (g.count, g.text.items) ≡ reading.fitting max (blocks_at target records.now.start records.now.items reader.now)) }
     ensures refusal { refusal_of result ≢ Some OutOfMemory → refusal_of result ≡ refused_for max (blocks_at target records.now.start records.now.items reader.now) }
     ensures memory { refusal_of result ≡ Some OutOfMemory → first_len (blocks_at target records.now.start records.now.items reader.now) < 2 ^ 32
         → refused_for max (blocks_at target records.now.start records.now.items reader.now) ≡ None }
     ensures some { refusal_of result ≡ Some OutOfMemory → 0 < length (blocks_at target records.now.start records.now.items reader.now) }
 {
-    match reader.place {
+    match reader.progress {
         Place::At { first, .. } => give(alloc, target, &reader.opening, records, first, max),
         _ => Ok(Given::nothing(alloc)),
     }

@@ -24,9 +24,10 @@ use crate::kinds::{is_in_chain, number_of};
 use crate::opening::{Opening, Pulse};
 use crate::owed::{Given, give_from};
 use crate::passed::passed;
-use crate::place::{at_first, caught};
-use crate::questions::{find_reader, has_news, is_over, owed_count};
-use crate::reader::{Reader, search};
+use crate::place::{Place, at_first, caught};
+use crate::questions::{has_news, is_over, owed_count};
+use crate::row::HandleRow;
+use crate::rows::HandleRows;
 use crate::woken::find_woken;
 use change_chain::Chain;
 use pps_types::{Bytes, DirId, Found, Handle, ObjId, Refusal};
@@ -34,9 +35,6 @@ use server_queue::Entry;
 use std::alloc::{AllocError, Global};
 use std::collections::VecDeque;
 use std::marker::Model;
-
-/// Far more handles than have numbers, so that a count of them always fits.
-const MOST_HANDLES: usize = 1 << 62;
 
 /// An object or a directory: the handles that read it, and the records that one of them is still owed.
 ///
@@ -48,11 +46,11 @@ pub struct Target {
     name: Bytes,
     records: Chain<Entry>,
     counts: VecDeque<usize>,
-    readers: Vec<Reader>,
+    rows: HandleRows<Place>,
 }
 
 impl Model for Target {
-    ghost use Rattle.std.specs.Prelude.{◌-◌, map, length, vec_len, vec_capacity};
+    ghost use Rattle.std.specs.Prelude.{◌-◌, map, length};
     ghost use Rattle.std.specs.VecDeque.{deque_capacity};
     ghost use Rattle.change_chain.specs.Span.{end_of};
     ghost use Rattle.pps_types.specs.Names.{refusal_of};
@@ -60,20 +58,21 @@ impl Model for Target {
     ghost use Rattle.engine_targets.specs.Blocks.{owed_blocks, refused_for, first_len};
     ghost use Rattle.engine_targets.specs.Opened.{is_directory, number_of};
     ghost use Rattle.engine_targets.specs.Places.{handle_of};
-    ghost use Rattle.engine_targets.specs.Standing.{Standing, room_of, places_of, IsTarget};
+    ghost use Rattle.engine_targets.specs.Rows.{rows_of};
+    ghost use Rattle.engine_targets.specs.Standing.{Standing, room_of, IsTarget};
 
     ghost Value = { Standing };
 
     ghost view = { λ t. record {
       of = t.of;
       name = t.name;
-      handles = map (handle_of (number_of t.of) t.name t.records.start t.records.items) t.readers.items;
+      handles = map (handle_of (number_of t.of) t.name t.records.start t.records.items) (rows_of t.rows);
       kept = t.records.items;
       room = room_of (end_of t.records) t.records.room (deque_capacity t.counts - length t.counts.items);
-      places = places_of (vec_capacity t.readers) (vec_len t.readers);
+      places = t.rows.places;
     } };
 
-    ghost invariant = { λ t. IsTarget (is_directory t.of) (number_of t.of) t.name t.records.start t.records.items t.counts.items t.readers.items };
+    ghost invariant = { λ t. IsTarget (is_directory t.of) (number_of t.of) t.name t.records.start t.records.items t.counts.items (rows_of t.rows) };
 }
 
 // Whether both are the same object or directory, of the same name.
@@ -96,7 +95,7 @@ impl Target {
             name,
             records: Chain::new(alloc, 0),
             counts: VecDeque::new(alloc),
-            readers: Vec::new(alloc),
+            rows: HandleRows::new(alloc),
         }
     }
 
@@ -112,7 +111,7 @@ impl Target {
             name: Bytes::new(Vec::new(alloc)),
             records: Chain::new(alloc, 0),
             counts: VecDeque::new(alloc),
-            readers: Vec::new(alloc),
+            rows: HandleRows::new(alloc),
         }
     }
 
@@ -127,7 +126,7 @@ impl Target {
     pub fn is_empty(&self) -> bool
         ensures { IsTrue result ↔ (self.now.handles ≡ []) }
     {
-        self.readers.is_empty()
+        self.rows.is_empty()
     }
 
     /// Makes room for so many more records. What stands stays, and so does room that was made before.
@@ -166,7 +165,7 @@ impl Target {
         self.counts.push_back_reserved(0);
         offer_each(
             target,
-            &mut self.readers,
+            &mut self.rows,
             &mut self.counts,
             start,
             position,
@@ -183,10 +182,7 @@ impl Target {
         ensures kept { self.old.places ≤ self.new.places }
         ensures lacking { OnErr result (self.old.places ≡ 0) }
     {
-        if self.readers.len() >= MOST_HANDLES {
-            return Err(AllocError);
-        }
-        self.readers.reserve(1)
+        self.rows.reserve()
     }
 
     /// Opens a handle, for which there is room. Its number is above those of all others. It takes no memory.
@@ -202,10 +198,10 @@ impl Target {
         ensures room { self.new.room ≡ self.old.room }
         ensures places { self.new.places + 1 ≡ self.old.places }
     {
-        let place = at_first(opening.kind, opening.reads);
-        self.readers.push_reserved(Reader {
+        let progress = at_first(opening.kind, opening.reads);
+        self.rows.push_reserved(HandleRow {
             opening,
-            place,
+            progress,
             parked: None,
             armed: None,
         });
@@ -219,12 +215,12 @@ impl Target {
         ensures room { self.old.room ≤ self.new.room }
         ensures places { self.new.places ≡ self.old.places }
     {
-        let Ok(index) = search(&self.readers, number.number()) else {
+        let Some(place) = self.rows.find(number) else {
             return;
         };
-        let place = caught(self.readers[index].opening.kind);
+        let progress = caught(self.rows.row(place).opening.kind);
         let start = self.records.start();
-        put(&mut self.readers, &mut self.counts, start, index, place);
+        put(&mut self.rows, &mut self.counts, start, place, progress);
         cut(&mut self.records, &mut self.counts);
     }
 
@@ -236,19 +232,19 @@ impl Target {
         ensures room { self.old.room ≤ self.new.room }
         ensures places { self.new.places ≡ self.old.places }
     {
-        let Ok(index) = search(&self.readers, number.number()) else {
+        let Some(place) = self.rows.find(number) else {
             return;
         };
-        let reader = &self.readers[index];
-        let place = passed(
+        let row = self.rows.row(place);
+        let progress = passed(
             number_of(self.of),
-            &reader.opening,
+            &row.opening,
             &self.records,
-            reader.place,
+            row.progress,
             count,
         );
         let start = self.records.start();
-        put(&mut self.readers, &mut self.counts, start, index, place);
+        put(&mut self.rows, &mut self.counts, start, place, progress);
         cut(&mut self.records, &mut self.counts);
     }
 
@@ -261,11 +257,10 @@ impl Target {
         ensures room { self.new.room ≡ self.old.room }
         ensures places { self.new.places ≡ self.old.places }
     {
-        let Ok(index) = search(&self.readers, number.number()) else {
+        let Some(place) = self.rows.find(number) else {
             return;
         };
-        let reader = &mut self.readers[index];
-        reader.parked = size;
+        self.rows.park(place, size);
     }
 
     /// A pulse waits on a handle, or none any more. It takes no memory.
@@ -277,11 +272,10 @@ impl Target {
         ensures room { self.new.room ≡ self.old.room }
         ensures places { self.new.places ≡ self.old.places }
     {
-        let Ok(index) = search(&self.readers, number.number()) else {
+        let Some(place) = self.rows.find(number) else {
             return;
         };
-        let reader = &mut self.readers[index];
-        reader.armed = pulse;
+        self.rows.arm(place, pulse);
     }
 
     /// Closes a handle. It takes no memory.
@@ -292,12 +286,12 @@ impl Target {
         ensures room { self.old.room ≤ self.new.room }
         ensures places { self.old.places ≤ self.new.places }
     {
-        let Ok(index) = search(&self.readers, number.number()) else {
+        let Some(place) = self.rows.find(number) else {
             return;
         };
-        let reader = self.readers.remove(index);
+        let row = self.rows.take(place);
         let start = self.records.start();
-        leave(&mut self.counts, start, reader.place);
+        leave(&mut self.counts, start, row.progress);
         cut(&mut self.records, &mut self.counts);
     }
 
@@ -305,7 +299,7 @@ impl Target {
     pub fn opening(&self, number: Handle) -> Option<&Opening>
         ensures { option_map (opened (number_of self.now.of) self.now.name) (option_copied result) ≡ option_map as_opened (handle_at number self.now.handles) }
     {
-        match find_reader(&self.readers, number.number()) {
+        match self.rows.get(number) {
             None => None,
             Some(reader) => Some(&reader.opening),
         }
@@ -315,7 +309,7 @@ impl Target {
     pub fn glance(&self, number: Handle) -> Option<Glance<'_>>
         ensures { option_map (glance_on (number_of self.now.of) self.now.name) result ≡ option_map glanced (handle_at number self.now.handles) }
     {
-        match find_reader(&self.readers, number.number()) {
+        match self.rows.get(number) {
             None => None,
             Some(reader) => Some(glance_at(reader)),
         }
@@ -325,7 +319,7 @@ impl Target {
     pub fn parked(&self, number: Handle) -> Option<u32>
         ensures { result ≡ option_and_then (λ (h : reading.Open rests.Seen). h.parked) (handle_at number self.now.handles) }
     {
-        match find_reader(&self.readers, number.number()) {
+        match self.rows.get(number) {
             None => None,
             Some(reader) => reader.parked,
         }
@@ -335,7 +329,7 @@ impl Target {
     pub fn armed(&self, number: Handle) -> Option<Pulse>
         ensures { armed_pulse result ≡ option_and_then (λ (h : reading.Open rests.Seen). h.armed) (handle_at number self.now.handles) }
     {
-        match find_reader(&self.readers, number.number()) {
+        match self.rows.get(number) {
             None => None,
             Some(reader) => reader.armed,
         }
@@ -352,7 +346,7 @@ impl Target {
     pub fn has_news(&self, number: Handle) -> bool
         ensures { result ≡ option_map_or content.news (handle_at number self.now.handles) false }
     {
-        match find_reader(&self.readers, number.number()) {
+        match self.rows.get(number) {
             None => false,
             Some(reader) => has_news(reader),
         }
@@ -362,7 +356,7 @@ impl Target {
     pub fn is_over(&self, number: Handle) -> bool
         ensures { result ≡ option_map_or (λ (h : reading.Open rests.Seen). rests.is_over h.seen) (handle_at number self.now.handles) false }
     {
-        let Some(reader) = find_reader(&self.readers, number.number()) else {
+        let Some(reader) = self.rows.get(number) else {
             return false;
         };
         is_over(reader)
@@ -375,7 +369,7 @@ impl Target {
     pub fn woken_by(&self, alloc: Global, entries: &[Entry]) -> Result<Vec<Handle>, AllocError>
         ensures { IfOk result (λ woken. woken.items ≡ waking.woken_by entries.now self.now.handles) }
     {
-        find_woken(alloc, number_of(self.of), &self.readers, entries)
+        find_woken(alloc, number_of(self.of), self.rows.slots(), entries)
     }
 
     /// How many records a handle is owed: none is told where it is not here, in full mode, before the first read and past
@@ -383,7 +377,7 @@ impl Target {
     pub fn owed(&self, number: Handle) -> Option<u32>
         ensures { result ≡ option_and_then (λ (h : reading.Open rests.Seen). owing.owed_in_seen h h.seen) (handle_at number self.now.handles) }
     {
-        match find_reader(&self.readers, number.number()) {
+        match self.rows.get(number) {
             None => None,
             Some(reader) => owed_count(reader),
         }
@@ -401,7 +395,7 @@ impl Target {
             → refused_for max (owed_blocks (handle_at number self.now.handles)) ≡ None }
         ensures some { refusal_of result ≡ Some OutOfMemory → 0 < length (owed_blocks (handle_at number self.now.handles)) }
     {
-        let Some(reader) = find_reader(&self.readers, number.number()) else {
+        let Some(reader) = self.rows.get(number) else {
             return Ok(Given::nothing(alloc));
         };
         give_from(alloc, number_of(self.of), reader, &self.records, max)
@@ -448,17 +442,17 @@ impl Target {
         ensures kept { IfOk result (λ copy. copy.kept ≡ self.now.kept) }
         ensures err { IfErr result (λ r. r ≡ OutOfMemory) }
     {
-        let alloc = *self.readers.allocator();
+        let alloc = *self.rows.allocator();
         let name = self.name.copy()?;
         let records = copy_records(alloc, &self.records)?;
         let counts = self.counts.clone()?;
-        let readers = copy_all(alloc, &self.readers)?;
+        let rows = copy_all(alloc, &self.rows)?;
         Ok(Target {
             of: self.of,
             name,
             records,
             counts,
-            readers,
+            rows,
         })
     }
 
@@ -473,9 +467,9 @@ impl Target {
             return false;
         }
         same_all(
-            &self.readers,
+            self.rows.slots(),
             self.records.start(),
-            &other.readers,
+            other.rows.slots(),
             other.records.start(),
         )
     }

@@ -3,18 +3,20 @@ ghost use Rattle.std.specs.Prelude.{◌≡◌, [], filter, map, IfOk};
 ghost use Rattle.std.specs.List.{list_any};
 ghost use Rattle.pps_types.specs.Reading as reading;
 ghost use Rattle.engine_targets.specs.Opened.{opened};
+ghost use Rattle.engine_targets.specs.Rows.{rows_in};
 ghost use Rattle.engine_targets.specs.Woken.{waits_at, sees_one, wakes_at};
 
 use crate::opening::Opening;
+use crate::place::Place;
 use crate::questions::has_news;
-use crate::reader::Reader;
+use crate::row::{HandleRow, Slot};
 use crate::sight::is_visible;
 use pps_types::Handle;
 use server_queue::Entry;
 use std::alloc::{AllocError, Global};
 
 // Whether a read or a pulse waits on it.
-fn waits(reader: &Reader) -> bool
+fn waits(reader: &HandleRow<Place>) -> bool
     ensures { result ≡ waits_at reader.now }
 {
     reader.parked.is_some() || reader.armed.is_some()
@@ -30,7 +32,7 @@ fn sees_any(target: u64, opening: &Opening, entries: &[Entry]) -> bool
 }
 
 // Whether it waits, has no news, and sees one of the records.
-fn wakes(target: u64, reader: &Reader, entries: &[Entry]) -> bool
+fn wakes(target: u64, reader: &HandleRow<Place>, entries: &[Entry]) -> bool
     ensures { result ≡ wakes_at target entries.now reader.now }
 {
     waits(reader) && !has_news(reader) && sees_any(target, &reader.opening, entries)
@@ -40,15 +42,17 @@ fn wakes(target: u64, reader: &Reader, entries: &[Entry]) -> bool
 pub(crate) fn find_woken(
     alloc: Global,
     target: u64,
-    readers: &[Reader],
+    slots: &[Slot<Place>],
     entries: &[Entry],
 ) -> Result<Vec<Handle>, AllocError>
-    ensures { IfOk result (λ woken. woken.items ≡ map (λ r. r.opening.number) (filter (wakes_at target entries.now) readers.now)) }
+    ensures { IfOk result (λ woken. woken.items ≡ map (λ r. r.opening.number) (filter (wakes_at target entries.now) (rows_in slots.now))) }
 {
     let mut woken = Vec::new(alloc);
-    'readers: for reader in readers {
-        if wakes(target, reader, entries) {
-            woken.push(reader.opening.number)?;
+    'slots: for slot in slots {
+        if let Slot::Row(reader) = slot {
+            if wakes(target, reader, entries) {
+                woken.push(reader.opening.number)?;
+            }
         }
     }
     Ok(woken)

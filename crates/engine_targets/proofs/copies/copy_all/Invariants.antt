@@ -1,9 +1,13 @@
-use Rattle.std.proofs.Common.{◌≡◌, take, vec_len, vec_capacity}
+use Rattle.std.proofs.Common.{◌≡◌, ◌≤◌, ◌++◌, length}
+use Rattle.engine_targets.specs.Rows.{rows_in, rows_of}
 use Rattle.engine_targets.proofs.copies.copy_all.Given as goal
 
-abbrev pub invariant-loop-one : goal.invariant-loop-one
-invariant-loop-one l = record {
-  copied : l.copy.items ≡ take l.one-index l.readers;
-  len : vec_len l.copy ≡ l.one-index;
-  capacity : vec_capacity l.copy ≡ l.one-index-end;
+-- the copy has the handles so far, and room for those that are left
+abbrev pub invariant-loop-first : goal.invariant-loop-first
+invariant-loop-first l = record {
+  rows : rows_of l.copy ++ rows_in l.rest ≡ rows_of l.rows;
+  room : length (rows_in l.rest) ≤ l.copy.places;
 }
+
+abbrev pub decreases-loop-first : goal.decreases-loop-first
+decreases-loop-first l = length (rows_in l.rest)

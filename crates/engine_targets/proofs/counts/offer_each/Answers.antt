@@ -1,36 +1,39 @@
-use Rattle.std.proofs.Common.{◌+◌, ◌<◌, ◌^◌, ℕ, [], length, get_or, set, subst, sym, ap, ◌∙◌, arith}
+use Rattle.std.proofs.Common.{◌≡◌, ◌<◌, ◌≤◌, ℕ, ◌++◌, List, length, set, map, take, drop, subst, sym, ap, ◌∙◌, arith, length-append, append-nil}
+use Rattle.std.proofs.lemmas.List.{length-map, length-take, length-drop, take_all, drop_all}
 use Rattle.std.proofs.lemmas.List.Edits.{map_over_more}
-use Rattle.pps_types.specs.Reading.{visible}
-use Rattle.engine_targets.specs.declared.reader.Reader.{Reader}
-use Rattle.engine_targets.specs.Opened.{opened}
+use Rattle.engine_targets.specs.declared.place.Place.{Place}
+use Rattle.engine_targets.specs.declared.row.Slot.{Slot}
 use Rattle.engine_targets.specs.Places.{reader_after}
-use Rattle.engine_targets.specs.Counts.{IsCounted, IsWithin}
-use Rattle.engine_targets.proofs.Tallies.{standing-le, counted-set, all-at, all-set, recounted-length, within-after}
+use Rattle.engine_targets.specs.Rows.{on_row, rows_in, rows_of}
+use Rattle.engine_targets.specs.Counts.{AreWithin}
+use Rattle.engine_targets.proofs.Gaps.{rows_map, item_at}
 use Rattle.engine_targets.proofs.counts.offer_each.Goals as goal
 
-pub offer_one-requires-clause-room : goal.offer_one-requires-clause-room
-offer_one-requires-clause-room c = λ i lt. let short : length c.offers.reader-items < 2 ^ 63 = omega (arith, c.offers.auto.reader-items, c.requires.few) in omega (arith, c.offers.invariant.agree i lt, standing-le c.offers.reader-items (c.args.start + i))
+offered-length : (f : Slot Place → Slot Place) (old now : List (Slot Place)) (i : ℕ) → i < length old → now ≡ map f (take i old) ++ drop i old → length now ≡ length old
+offered-length f old now i lt same = omega (arith, ap length same, length-append (map f (take i old)) (drop i old), length-map (take i old) f, length-take i old, length-drop i old)
 
 pub offers-preserved : goal.offers-preserved
 offers-preserved c =
-    let e = c.args.entry.now in
-    let t = c.args.target in
-    let d = c.reader-item.result in
-    let old : Reader = get_or c.offers.reader-items c.offers.reader-index d in
-    let new = c.offer_one.new.reader in
-    let end : ℕ = c.args.start + length c.args.counts.now.items in
-    let lt : c.offers.reader-index < length c.offers.reader-items = omega arith in
-    let from : IsWithin c.args.start end old.place = all-at (λ (x : Reader). IsWithin c.args.start end x.place) c.offers.reader-items c.offers.reader-index d c.offers.invariant.within lt in
-    let to : IsWithin c.args.start end new.place = subst (λ (x : Reader). IsWithin c.args.start end x.place) (sym c.offer_one.ensures.reader) (within-after c.args.start end old.opening.limit c.args.position (visible (opened t [] old.opening) e) old.place c.requires.from_start c.requires.before_end from) in
-    let ends = c.offers.invariant.lengths in
+    let old = c.args.rows.now.slots in
+    let f = on_row (reader_after c.args.target c.args.entry.now c.args.position) in
+    let place = c.offers.place in
+    let lt : place < length old = omega (arith, ap length c.slots-end.ensures) in
+    let here : place < length c.offers.rows.slots = omega (arith, lt, offered-length f old c.offers.rows.slots place lt c.offers.invariant.same) in
+    let s = item_at c.offers.rows.slots place here in
     record {
-      same = ap (set c.offers.reader-items c.offers.reader-index) (c.offer_one.ensures.reader ∙ ap (reader_after t e c.args.position) (sym c.reader-item.is))
-          ∙ map_over_more (reader_after t e c.args.position) c.args.readers.now.items c.offers.reader-items c.offers.reader-index d (omega arith) c.offers.invariant.same c.reader-item.is;
-      lengths = ap length c.offer_one.ensures.counts ∙ recounted-length c.args.start old.place new.place c.offers.counts.items ∙ c.offers.invariant.lengths;
-      within = all-set (λ (x : Reader). IsWithin c.args.start end x.place) c.offers.reader-items c.offers.reader-index new c.offers.invariant.within to;
-      agree = subst (IsCounted c.args.start (set c.offers.reader-items c.offers.reader-index new)) (sym c.offer_one.ensures.counts)
-          (counted-set c.args.start c.offers.reader-items c.offers.counts.items c.offers.reader-index d new c.offers.invariant.agree lt
-          (subst (λ n. IsWithin c.args.start (c.args.start + n) old.place) (sym ends) from)
-          (subst (λ n. IsWithin c.args.start (c.args.start + n) new.place) (sym ends) to));
-      capacity = c.offer_one.ensures.capacity ∙ c.offers.invariant.capacity;
+      same = c.offer_at.ensures.slots s.0 ∙ ap (λ x. set c.offers.rows.slots place (f x)) (sym (s.1 s.0)) ∙ map_over_more f old c.offers.rows.slots place s.0 lt c.offers.invariant.same (s.1 s.0);
+      lengths = c.offer_at.ensures.length ∙ c.offers.invariant.lengths;
+      within = subst (λ n. AreWithin c.args.start n (rows_of c.offer_at.new.rows)) c.offers.invariant.lengths c.offer_at.ensures.within;
+      agree = c.offer_at.ensures.agree;
+      capacity = c.offer_at.ensures.capacity ∙ c.offers.invariant.capacity;
+      places = c.offer_at.ensures.places ∙ c.offers.invariant.places;
     }
+
+pub returns-clause-rows : goal.returns-clause-rows
+returns-clause-rows c =
+    let old = c.args.rows.now.slots in
+    let change = reader_after c.args.target c.args.entry.now c.args.position in
+    let place = c.offers.place in
+    let le : length old ≤ place = omega (arith, ap length c.slots-end.ensures) in
+    ap rows_in (c.offers.invariant.same ∙ (λ i. map (on_row change) (take_all place old le i) ++ drop_all place old le i) ∙ append-nil (map (on_row change) old))
+    ∙ rows_map change old

@@ -1,4 +1,4 @@
-use Rattle.std.proofs.Common.{◌≡◌, ◌+◌, ◌-◌, ◌<◌, ◌≤◌, ◌++◌, true, Some, [], ◌∷◌, length, drop, sym, ap, subst, ◌∙◌, arith}
+use Rattle.std.proofs.Common.{◌≡◌, ◌+◌, ◌-◌, ◌<◌, ◌≤◌, ◌++◌, true, [], ◌∷◌, length, drop, sym, ap, subst, ◌∙◌, arith}
 use Rattle.pps_types.specs.Reading.{block, visible}
 use Rattle.engine_targets.specs.Opened.{opened}
 use Rattle.engine_targets.specs.Shown.{printed_as}

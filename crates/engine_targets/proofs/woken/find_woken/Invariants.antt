@@ -1,7 +1,10 @@
-use Rattle.std.proofs.Common.{◌≡◌, take}
+use Rattle.std.proofs.Common.{◌≡◌, ◌++◌, drop}
 use Rattle.std.specs.Prelude.{filter, map}
+use Rattle.engine_targets.specs.Rows.{rows_in}
 use Rattle.engine_targets.specs.Woken.{wakes_at}
 use Rattle.engine_targets.proofs.woken.find_woken.Given as goal
 
-abbrev pub invariant-readers : goal.invariant-readers
-invariant-readers l = l.woken.items ≡ map (λ r. r.opening.number) (filter (wakes_at l.target l.entries) (take l.reader-index l.readers))
+abbrev pub invariant-slots : goal.invariant-slots
+invariant-slots l =
+    l.woken.items ++ map (λ r. r.opening.number) (filter (wakes_at l.target l.entries) (rows_in (drop l.slot-index l.slots)))
+    ≡ map (λ r. r.opening.number) (filter (wakes_at l.target l.entries) (rows_in l.slots))

@@ -4,14 +4,15 @@ use Rattle.pps_types.specs.Reading.{Open}
 use Rattle.pps_types.specs.Rests.{Seen}
 use Rattle.engine_targets.specs.Opened.{handle_at, number_of}
 use Rattle.engine_targets.proofs.Finds.{found-handle}
+use Rattle.engine_targets.specs.Rows.{rows_of}
 use Rattle.engine_targets.proofs.target.Target.armed.Goals as goal
 
 pub returns-in-None : goal.returns-in-None
 returns-in-None c =
     let t = c.self.inside in
-    ap (option_and_then (λ (h : Open Seen). h.armed)) (found-handle (number_of t.of) t.name t.records.start t.records.items t.readers.items c.deref.result.now c.args.number c.number.result c.deref.ensures.value c.number.ensures.same None c.in-None.ensures ∙ ap (λ v. handle_at c.args.number v.handles) c.self.view_is)
+    ap (option_and_then (λ (h : Open Seen). h.armed)) (found-handle (number_of t.of) t.name t.records.start t.records.items (rows_of t.rows) c.args.number None c.in-None.ensures ∙ ap (λ v. handle_at c.args.number v.handles) c.self.view_is)
 
 pub returns-in-Some : goal.returns-in-Some
 returns-in-Some c =
     let t = c.self.inside in
-    ap (option_and_then (λ (h : Open Seen). h.armed)) (found-handle (number_of t.of) t.name t.records.start t.records.items t.readers.items c.deref.result.now c.args.number c.number.result c.deref.ensures.value c.number.ensures.same (Some c.in-Some.reader.now) c.in-Some.ensures ∙ ap (λ v. handle_at c.args.number v.handles) c.self.view_is)
+    ap (option_and_then (λ (h : Open Seen). h.armed)) (found-handle (number_of t.of) t.name t.records.start t.records.items (rows_of t.rows) c.args.number (Some c.in-Some.reader.now) c.in-Some.ensures ∙ ap (λ v. handle_at c.args.number v.handles) c.self.view_is)

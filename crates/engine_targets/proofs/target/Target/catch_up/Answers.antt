@@ -1,49 +1,50 @@
-use Rattle.std.proofs.Common.{◌≡◌, ◌+◌, ◌<◌, length, get_or, sym, ap, subst, ◌∙◌, arith}
-use Rattle.std.specs.List.{AllByRecursion}
+use Rattle.std.proofs.Common.{◌≡◌, ◌<◌, length, get_or, sym, ap, subst, ◌∙◌}
 use Rattle.pps_types.specs.Reading.{reseen}
 use Rattle.pps_types.specs.Plan.{on_numbered, caught_up}
-use Rattle.engine_targets.specs.declared.reader.Reader.{Reader}
+use Rattle.engine_targets.specs.Readers.{Reader}
 use Rattle.engine_targets.specs.Opened.{opened, is_directory, number_of}
 use Rattle.engine_targets.specs.Places.{handle_of, placed, caught_place, IsPlace}
-use Rattle.engine_targets.specs.Counts.{IsWithin, IsCounted}
+use Rattle.engine_targets.specs.Counts.{AreWithin, IsCounted}
 use Rattle.engine_targets.proofs.Moves.{same-nowhere, put-within}
-use Rattle.engine_targets.proofs.Puts.{place-at, gap-at, put-is, put-seen, caught-there, caught-handle}
+use Rattle.engine_targets.proofs.Puts.{put-is, put-seen, caught-there, caught-handle}
+use Rattle.engine_targets.specs.Rows.{rows_of, rank}
+use Rattle.engine_targets.proofs.Gaps.{rank_within}
 use Rattle.engine_targets.proofs.target.Target.catch_up.Goals as goal
 
 pub returns-in_default-clause-handles : goal.returns-in_default-clause-handles
 returns-in_default-clause-handles c =
     let t = c.self.inside in
     ap (λ v. v.handles) (sym c.self.view_is)
-    ∙ same-nowhere (is_directory t.of) (number_of t.of) t.name t.records.start t.records.items t.counts.items t.readers.items c.self.invariant.loose c.args.number c.in_default.field-0 (reseen caught_up) (gap-at t.readers.items c.deref.result.now c.args.number c.number.result c.in_default.field-0 c.deref.ensures.value c.number.ensures.same c.in_default.ensures.absent)
+    ∙ same-nowhere (is_directory t.of) (number_of t.of) t.name t.records.start t.records.items t.counts.items (rows_of t.rows) c.self.invariant.loose c.args.number c.in_default.ensures.absent.0 (reseen caught_up) c.in_default.ensures.absent.1
     ∙ ap (λ v. on_numbered c.args.number (reseen caught_up) v.handles) c.self.view_is
 
 pub put-requires-clause-within : goal.put-requires-clause-within
 put-requires-clause-within c =
     let t = c.self.inside in
-    subst (λ s. AllByRecursion (λ (r : Reader). IsWithin s (s + length t.counts.items) r.place) t.readers.items) (sym c.start-start.ensures) (put-within (is_directory t.of) (number_of t.of) t.name t.records.start t.records.items t.counts.items t.readers.items c.self.invariant.loose)
+    subst (λ s. AreWithin s (length t.counts.items) (rows_of t.rows)) (sym c.start-start.ensures) (put-within (is_directory t.of) (number_of t.of) t.name t.records.start t.records.items t.counts.items (rows_of t.rows) c.self.invariant.loose)
 
 pub invariant_of-self : goal.invariant_of-self
 invariant_of-self c =
     let t = c.self.inside in
-    let k = c.in-Ok.index in
-    let x = c.index.result.now in
-    let lt : k < length t.readers.items = omega (arith, ap length c.deref.ensures.value, c.in-Ok.ensures.place) in
-    let h = opened (number_of t.of) t.name (get_or t.readers.items k x).opening in
-    let p = c.caught-place.result in
-    let same : p ≡ caught_place (get_or t.readers.items k x).opening.kind = c.caught-place.ensures ∙ ap (λ (r : Reader). caught_place r.opening.kind) c.index.ensures in
-    let right : IsPlace h t.records.start t.records.items p = subst (IsPlace h t.records.start t.records.items) (sym same) (caught-there (is_directory t.of) (number_of t.of) t.name t.records.start t.records.items t.counts.items t.readers.items c.self.invariant k x lt) in
-    put-is (is_directory t.of) (number_of t.of) t.name t.records.start t.records.items t.counts.items t.readers.items c.self.invariant k x lt p right c.put.new.readers.items c.put.new.counts.items (c.put.ensures.readers x) (subst (λ s. IsCounted s c.put.new.readers.items c.put.new.counts.items) c.start-start.ensures c.put.ensures.agree) c.put.ensures.length c.cut.new.records.start c.cut.new.records.items c.cut.ensures.start c.cut.ensures.records c.cut.new.counts.items c.cut.ensures.counts
+    let k = rank c.in-Some.place t.rows.slots in
+    let x = c.row.result.now in
+    let lt : k < length (rows_of t.rows) = rank_within t.rows.slots c.in-Some.place c.in-Some.ensures.row in
+    let h = opened (number_of t.of) t.name (get_or (rows_of t.rows) k x).opening in
+    let p = c.caught-progress.result in
+    let same : p ≡ caught_place (get_or (rows_of t.rows) k x).opening.kind = c.caught-progress.ensures ∙ ap (λ (r : Reader). caught_place r.opening.kind) (c.row.ensures.row x) in
+    let right : IsPlace h t.records.start t.records.items p = subst (IsPlace h t.records.start t.records.items) (sym same) (caught-there (is_directory t.of) (number_of t.of) t.name t.records.start t.records.items t.counts.items (rows_of t.rows) c.self.invariant k x lt) in
+    put-is (is_directory t.of) (number_of t.of) t.name t.records.start t.records.items t.counts.items (rows_of t.rows) c.self.invariant k x lt p right (rows_of c.put.new.rows) c.put.new.counts.items (c.put.ensures.rows x) (subst (λ s. IsCounted s (rows_of c.put.new.rows) c.put.new.counts.items) c.start-start.ensures c.put.ensures.agree) c.put.ensures.length c.cut.new.records.start c.cut.new.records.items c.cut.ensures.start c.cut.ensures.records c.cut.new.counts.items c.cut.ensures.counts
 
 pub returns-clause-handles : goal.returns-clause-handles
 returns-clause-handles c =
     let t = c.self.inside in
-    let k = c.in-Ok.index in
-    let x = c.index.result.now in
-    let lt : k < length t.readers.items = omega (arith, ap length c.deref.ensures.value, c.in-Ok.ensures.place) in
-    let h = opened (number_of t.of) t.name (get_or t.readers.items k x).opening in
-    let p = c.caught-place.result in
-    let same : p ≡ caught_place (get_or t.readers.items k x).opening.kind = c.caught-place.ensures ∙ ap (λ (r : Reader). caught_place r.opening.kind) c.index.ensures in
-    let right : IsPlace h t.records.start t.records.items p = subst (IsPlace h t.records.start t.records.items) (sym same) (caught-there (is_directory t.of) (number_of t.of) t.name t.records.start t.records.items t.counts.items t.readers.items c.self.invariant k x lt) in
-    put-seen (is_directory t.of) (number_of t.of) t.name t.records.start t.records.items t.counts.items t.readers.items c.self.invariant k x lt p right c.put.new.readers.items c.put.new.counts.items (c.put.ensures.readers x) (subst (λ s. IsCounted s c.put.new.readers.items c.put.new.counts.items) c.start-start.ensures c.put.ensures.agree) c.put.ensures.length c.cut.new.records.start c.cut.new.records.items c.cut.ensures.start c.cut.ensures.records c.args.number (reseen caught_up) (place-at t.readers.items c.deref.result.now c.args.number c.number.result c.in-Ok.index c.deref.ensures.value c.number.ensures.same c.in-Ok.ensures.found)
-    (ap (λ q. handle_of (number_of t.of) t.name t.records.start t.records.items (placed q (get_or t.readers.items k x))) same ∙ caught-handle (is_directory t.of) (number_of t.of) t.name t.records.start t.records.items t.counts.items t.readers.items c.self.invariant k x lt)
+    let k = rank c.in-Some.place t.rows.slots in
+    let x = c.row.result.now in
+    let lt : k < length (rows_of t.rows) = rank_within t.rows.slots c.in-Some.place c.in-Some.ensures.row in
+    let h = opened (number_of t.of) t.name (get_or (rows_of t.rows) k x).opening in
+    let p = c.caught-progress.result in
+    let same : p ≡ caught_place (get_or (rows_of t.rows) k x).opening.kind = c.caught-progress.ensures ∙ ap (λ (r : Reader). caught_place r.opening.kind) (c.row.ensures.row x) in
+    let right : IsPlace h t.records.start t.records.items p = subst (IsPlace h t.records.start t.records.items) (sym same) (caught-there (is_directory t.of) (number_of t.of) t.name t.records.start t.records.items t.counts.items (rows_of t.rows) c.self.invariant k x lt) in
+    put-seen (is_directory t.of) (number_of t.of) t.name t.records.start t.records.items t.counts.items (rows_of t.rows) c.self.invariant k x lt p right (rows_of c.put.new.rows) c.put.new.counts.items (c.put.ensures.rows x) (subst (λ s. IsCounted s (rows_of c.put.new.rows) c.put.new.counts.items) c.start-start.ensures c.put.ensures.agree) c.put.ensures.length c.cut.new.records.start c.cut.new.records.items c.cut.ensures.start c.cut.ensures.records c.args.number (reseen caught_up) c.in-Some.ensures.found
+    (ap (λ q. handle_of (number_of t.of) t.name t.records.start t.records.items (placed q (get_or (rows_of t.rows) k x))) same ∙ caught-handle (is_directory t.of) (number_of t.of) t.name t.records.start t.records.items t.counts.items (rows_of t.rows) c.self.invariant k x lt)
     ∙ ap (λ v. on_numbered c.args.number (reseen caught_up) v.handles) c.self.view_is

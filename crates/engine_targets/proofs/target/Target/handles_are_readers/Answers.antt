@@ -5,16 +5,17 @@ use Rattle.pps_types.specs.Rests.{Seen}
 use Rattle.engine_targets.specs.Opened.{is_directory, number_of, is_reader}
 use Rattle.engine_targets.specs.Standing.{Standing}
 use Rattle.engine_targets.proofs.Seats.{all-read, all-named}
+use Rattle.engine_targets.specs.Rows.{rows_of}
 use Rattle.engine_targets.proofs.target.Target.handles_are_readers.Goals as goal
 
 pub returns-clause-readers : goal.returns-clause-readers
 returns-clause-readers c =
     let t = c.self.inside in
     subst (λ (v : Standing). AllByRecursion (λ (h : Open Seen). is_reader h.kind ≡ true) v.handles) c.self.view_is
-    (all-read (number_of t.of) t.name t.records.start t.records.items (is_directory t.of) t.readers.items c.self.invariant.loose.each)
+    (all-read (number_of t.of) t.name t.records.start t.records.items (is_directory t.of) (rows_of t.rows) c.self.invariant.loose.each)
 
 pub returns-clause-named : goal.returns-clause-named
 returns-clause-named c =
     let t = c.self.inside in
     subst (λ (v : Standing). AllByRecursion (λ (h : Open Seen). h.name ≡ v.name) v.handles) c.self.view_is
-    (all-named (number_of t.of) t.name t.records.start t.records.items t.readers.items)
+    (all-named (number_of t.of) t.name t.records.start t.records.items (rows_of t.rows))

@@ -4,15 +4,16 @@ use Rattle.pps_types.specs.Reading.{Open}
 use Rattle.pps_types.specs.Rests.{Seen, is_over}
 use Rattle.engine_targets.specs.Opened.{handle_at, number_of}
 use Rattle.engine_targets.proofs.Finds.{found-handle}
+use Rattle.engine_targets.specs.Rows.{rows_of}
 use Rattle.engine_targets.proofs.target.Target.is_over.Goals as goal
 
 pub returns-in_default : goal.returns-in_default
 returns-in_default c =
     let t = c.self.inside in
-    ap ((λ (o : Option (Open Seen)). option_map_or (λ h. is_over h.seen) o false)) (found-handle (number_of t.of) t.name t.records.start t.records.items t.readers.items c.deref.result.now c.args.number c.number.result c.deref.ensures.value c.number.ensures.same None c.in_default.ensures ∙ ap (λ v. handle_at c.args.number v.handles) c.self.view_is)
+    ap ((λ (o : Option (Open Seen)). option_map_or (λ h. is_over h.seen) o false)) (found-handle (number_of t.of) t.name t.records.start t.records.items (rows_of t.rows) c.args.number None c.in_default.ensures ∙ ap (λ v. handle_at c.args.number v.handles) c.self.view_is)
 
 pub returns : goal.returns
 returns c =
     let t = c.self.inside in
     c.is_over.ensures t.records.start t.records.items
-    ∙ ap ((λ (o : Option (Open Seen)). option_map_or (λ h. is_over h.seen) o false)) (found-handle (number_of t.of) t.name t.records.start t.records.items t.readers.items c.deref.result.now c.args.number c.number.result c.deref.ensures.value c.number.ensures.same (Some c.in-Some.reader.now) c.in-Some.ensures ∙ ap (λ v. handle_at c.args.number v.handles) c.self.view_is)
+    ∙ ap ((λ (o : Option (Open Seen)). option_map_or (λ h. is_over h.seen) o false)) (found-handle (number_of t.of) t.name t.records.start t.records.items (rows_of t.rows) c.args.number (Some c.in-Some.reader.now) c.in-Some.ensures ∙ ap (λ v. handle_at c.args.number v.handles) c.self.view_is)

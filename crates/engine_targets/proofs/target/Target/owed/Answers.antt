@@ -5,15 +5,16 @@ use Rattle.pps_types.specs.Rests.{Seen}
 use Rattle.pps_types.specs.Owed.{owed_in_seen}
 use Rattle.engine_targets.specs.Opened.{handle_at, is_directory, number_of}
 use Rattle.engine_targets.proofs.Finds.{found-handle, found-right}
+use Rattle.engine_targets.specs.Rows.{rows_of}
 use Rattle.engine_targets.proofs.target.Target.owed.Goals as goal
 
 pub returns-in-None : goal.returns-in-None
 returns-in-None c =
     let t = c.self.inside in
-    ap (option_and_then (λ (h : Open Seen). owed_in_seen h h.seen)) (found-handle (number_of t.of) t.name t.records.start t.records.items t.readers.items c.deref.result.now c.args.number c.number.result c.deref.ensures.value c.number.ensures.same None c.in-None.ensures ∙ ap (λ v. handle_at c.args.number v.handles) c.self.view_is)
+    ap (option_and_then (λ (h : Open Seen). owed_in_seen h h.seen)) (found-handle (number_of t.of) t.name t.records.start t.records.items (rows_of t.rows) c.args.number None c.in-None.ensures ∙ ap (λ v. handle_at c.args.number v.handles) c.self.view_is)
 
 pub returns-in-Some : goal.returns-in-Some
 returns-in-Some c =
     let t = c.self.inside in
-    c.owed_count.ensures (number_of t.of) t.name t.records.start t.records.items (found-right (number_of t.of) t.name t.records.start t.records.items t.readers.items c.deref.result.now c.args.number c.number.result c.deref.ensures.value c.number.ensures.same (is_directory t.of) c.in-Some.reader.now c.self.invariant.loose.each c.in-Some.ensures)
-    ∙ ap (option_and_then (λ (h : Open Seen). owed_in_seen h h.seen)) (found-handle (number_of t.of) t.name t.records.start t.records.items t.readers.items c.deref.result.now c.args.number c.number.result c.deref.ensures.value c.number.ensures.same (Some c.in-Some.reader.now) c.in-Some.ensures ∙ ap (λ v. handle_at c.args.number v.handles) c.self.view_is)
+    c.owed_count.ensures (number_of t.of) t.name t.records.start t.records.items (found-right (number_of t.of) t.name t.records.start t.records.items (rows_of t.rows) c.args.number (is_directory t.of) c.in-Some.reader.now c.self.invariant.loose.each c.in-Some.ensures)
+    ∙ ap (option_and_then (λ (h : Open Seen). owed_in_seen h h.seen)) (found-handle (number_of t.of) t.name t.records.start t.records.items (rows_of t.rows) c.args.number (Some c.in-Some.reader.now) c.in-Some.ensures ∙ ap (λ v. handle_at c.args.number v.handles) c.self.view_is)

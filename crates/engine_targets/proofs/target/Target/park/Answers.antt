@@ -1,28 +1,34 @@
-use Rattle.std.proofs.Common.{length, set, refl, sym, ap, ◌∙◌, arith}
+use Rattle.std.proofs.Common.{◌<◌, length, get_or, refl, sym, ap, subst, ◌∙◌}
 use Rattle.pps_types.specs.Plan.{on_numbered}
 use Rattle.engine_targets.specs.Opened.{is_directory, number_of}
-use Rattle.engine_targets.specs.Places.{parked_with, handle_of}
+use Rattle.engine_targets.specs.Standing.{IsTarget}
 use Rattle.engine_targets.proofs.Moves.{same-nowhere, set-seen}
-use Rattle.engine_targets.proofs.Puts.{place-at, gap-at, wait-is}
+use Rattle.engine_targets.proofs.Puts.{wait-is}
+use Rattle.engine_targets.specs.Rows.{rows_of, row_at, rank, parked_with}
+use Rattle.engine_targets.proofs.Gaps.{rank_within, some_of}
 use Rattle.engine_targets.proofs.target.Target.park.Goals as goal
 
 pub returns-in_default-clause-handles : goal.returns-in_default-clause-handles
 returns-in_default-clause-handles c =
     let t = c.self.inside in
     ap (λ v. v.handles) (sym c.self.view_is)
-    ∙ same-nowhere (is_directory t.of) (number_of t.of) t.name t.records.start t.records.items t.counts.items t.readers.items c.self.invariant.loose c.args.number c.in_default.field-0 (λ h. record h { parked = c.args.size }) (gap-at t.readers.items c.deref.result.now c.args.number c.number.result c.in_default.field-0 c.deref.ensures.value c.number.ensures.same c.in_default.ensures.absent)
+    ∙ same-nowhere (is_directory t.of) (number_of t.of) t.name t.records.start t.records.items t.counts.items (rows_of t.rows) c.self.invariant.loose c.args.number c.in_default.ensures.absent.0 (λ h. record h { parked = c.args.size }) c.in_default.ensures.absent.1
     ∙ ap (λ v. on_numbered c.args.number (λ h. record h { parked = c.args.size }) v.handles) c.self.view_is
 
 pub invariant_of-self : goal.invariant_of-self
 invariant_of-self c =
     let t = c.self.inside in
-    let x = c.index_mut-reader.result.now in
-    wait-is (is_directory t.of) (number_of t.of) t.name t.records.start t.records.items t.counts.items t.readers.items c.self.invariant c.in-Ok.index x (omega (arith, ap length c.deref.ensures.value, c.in-Ok.ensures.place)) (parked_with c.args.size x) (ap (λ r. r.opening) c.index_mut-reader.ensures.value) (ap (λ r. r.place) c.index_mut-reader.ensures.value)
+    let k = rank c.in-Some.place t.rows.slots in
+    let x = (some_of (row_at c.in-Some.place t.rows.slots) c.in-Some.ensures.row).0 in
+    let lt : k < length (rows_of t.rows) = rank_within t.rows.slots c.in-Some.place c.in-Some.ensures.row in
+    subst (IsTarget (is_directory t.of) (number_of t.of) t.name t.records.start t.records.items t.counts.items) (sym (c.park.ensures.rows x))
+    (wait-is (is_directory t.of) (number_of t.of) t.name t.records.start t.records.items t.counts.items (rows_of t.rows) c.self.invariant k x lt (parked_with c.args.size (get_or (rows_of t.rows) k x)) refl refl)
 
 pub returns-clause-handles : goal.returns-clause-handles
 returns-clause-handles c =
     let t = c.self.inside in
-    let x = c.index_mut-reader.result.now in
-    set-seen (is_directory t.of) (number_of t.of) t.name t.records.start t.records.items t.counts.items t.readers.items c.self.invariant.loose c.args.number c.in-Ok.index (λ h. record h { parked = c.args.size }) (parked_with c.args.size x) x (set t.readers.items c.in-Ok.index (parked_with c.args.size x)) refl (place-at t.readers.items c.deref.result.now c.args.number c.number.result c.in-Ok.index c.deref.ensures.value c.number.ensures.same c.in-Ok.ensures.found) (omega (arith, ap length c.deref.ensures.value, c.in-Ok.ensures.place))
-    (ap (λ r. handle_of (number_of t.of) t.name t.records.start t.records.items (parked_with c.args.size r)) c.index_mut-reader.ensures.value)
+    let k = rank c.in-Some.place t.rows.slots in
+    let x = (some_of (row_at c.in-Some.place t.rows.slots) c.in-Some.ensures.row).0 in
+    let lt : k < length (rows_of t.rows) = rank_within t.rows.slots c.in-Some.place c.in-Some.ensures.row in
+    set-seen (is_directory t.of) (number_of t.of) t.name t.records.start t.records.items t.counts.items (rows_of t.rows) c.self.invariant.loose c.args.number k (λ h. record h { parked = c.args.size }) (parked_with c.args.size (get_or (rows_of t.rows) k x)) x (rows_of c.park.new.self) (c.park.ensures.rows x) c.in-Some.ensures.found lt refl
     ∙ ap (λ v. on_numbered c.args.number (λ h. record h { parked = c.args.size }) v.handles) c.self.view_is

@@ -1,0 +1,15 @@
+use Rattle.std.proofs.Common.{◌<◌, ◌++◌, ◌∙◌, subst, sym, ap}
+use Rattle.std.specs.List.{AllByRecursion}
+use Rattle.notify_box.specs.Rising.{IsRising}
+use Rattle.engine_targets.specs.Readers.{Reader}
+use Rattle.engine_targets.specs.Rows.{number_in, rows_in, rows_of}
+use Rattle.engine_targets.proofs.Copying.{rising-before}
+use Rattle.engine_targets.proofs.copies.copy_all.Goals as goal
+
+pub push_reserved-requires-clause-above : goal.push_reserved-requires-clause-above
+push_reserved-requires-clause-above c =
+    let done = rows_of c.loop-first.copy in
+    let first = c.in-Some.first.row.now in
+    let behind = rows_in c.in-Some.first.behind.now in
+    subst (λ (x : Reader). AllByRecursion (λ (r : Reader). number_in r < number_in x) done) (sym c.in_ok-copy_one.ensures.ok)
+    (rising-before number_in done behind first (subst (IsRising number_in) (sym c.loop-first.invariant.rows ∙ ap (λ rs. done ++ rs) c.in-Some.ensures.some) c.requires))
