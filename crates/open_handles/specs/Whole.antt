@@ -211,6 +211,11 @@ pub record IsReadyFor (entries : List Entry) (w : Whole) (e : Entry) : Type 0 wh
   pub object : IsReadyAt entries (FoundObject e.record_of.object) w
   pub directory : IsReadyAt entries (FoundDirectory e.directory) w
 
+-- two records are of one object, in one directory
+pub record AreOfSame (one other : Entry) : Type 0 where
+  pub object : one.record_of.object ≡ other.record_of.object
+  pub directory : one.directory ≡ other.directory
+
 -- nothing but room for records is other, and of that none is lost
 pub record IsReserved (old new : Whole) : Type 0 where
   pub handles : handles_in new ≡ handles_in old

@@ -22,7 +22,7 @@ ghost use Rattle.pps_types.specs.WellFormed.{AreRising};
 ghost use Rattle.engine_targets.specs.Glances.{glanced, glance_on};
 ghost use Rattle.open_handles.specs.declared.handles.Opened.{Opened as OpenedAs};
 ghost use Rattle.open_handles.specs.declared.handles.Looked.{Looked as LookedAs};
-ghost use Rattle.open_handles.specs.Whole.{Whole, handles_in, handles_at, seats_at, site_at, name_at, room_at, kept_at, is_on, is_told, changed, IsShared, IsSharedAt, HasRoom, HasRoomIn, IsReadyAt, IsReadyFor, IsReserved, SuitsAt, KeepsSites, KeepsPlaces, KeepsRecords, KeepsTable};
+ghost use Rattle.open_handles.specs.Whole.{Whole, handles_in, handles_at, seats_at, site_at, name_at, room_at, kept_at, is_on, is_told, changed, IsShared, IsSharedAt, HasRoom, HasRoomIn, IsReadyAt, IsReadyFor, IsReserved, AreOfSame, SuitsAt, KeepsSites, KeepsPlaces, KeepsRecords, KeepsTable};
 
 use crate::change::{
     Change, change_in, close_in, offer_in, open_in, reserve_in, reserve_records_in,
@@ -62,6 +62,13 @@ fn row_number(opening: &Opening) -> u64
     ensures last { result + 1 < 2 ^ 64 }
 {
     u64::from(opening.number.number())
+}
+
+/// Whether two records are of one object, and so in one directory.
+fn is_of_same(one: &Entry, other: &Entry) -> bool
+    ensures { result ≡ true → AreOfSame one.now other.now }
+{
+    one.record().object == other.record().object && one.directory() == other.directory()
 }
 
 /// The row of a handle on an object or a directory.
@@ -680,6 +687,26 @@ impl Handles {
         self.reserve_at(Found::Directory(DirId::new(entry.directory())), entries)
     }
 
+    // The same, unless it is made since the record before it is of the same object: so many records of one object cost no
+    // more than one pass over its handles.
+    fn reserve_next(
+        &mut self,
+        before: Option<&Entry>,
+        entry: &Entry,
+        entries: &[Entry],
+    ) -> Result<(), AllocError>
+        requires { IfSome before (λ e. IsReadyFor entries.now self.old e.now) }
+        ensures reserved { IsReserved self.old self.new }
+        ensures ready { OnOk result (IsReadyFor entries.now self.new entry.now) }
+    {
+        if let Some(before) = before {
+            if is_of_same(before, entry) {
+                return Ok(());
+            }
+        }
+        self.reserve_for(entry, entries)
+    }
+
     /// Makes room for records that are told one after the other. What stands stays, and so does room that was made before.
     ///
     /// AllocError comes only where memory is wanting, and leaves what stands as it was.
@@ -691,8 +718,10 @@ impl Handles {
         ensures records { KeepsRecords self.old self.new }
         ensures room { OnOk result (HasRoom entries.now self.new) }
     {
+        let mut before = None;
         for entry in entries {
-            self.reserve_for(entry, entries)?;
+            self.reserve_next(before, entry, entries)?;
+            before = Some(entry);
         }
         Ok(())
     }

@@ -8,10 +8,11 @@ use Rattle.std.proofs.Common.{take}
 
 pub loop-entry-preserved : goal.loop-entry-preserved
 loop-entry-preserved c = record {
-  reserved = reserved_then c.args.self.now c.loop-entry.self c.reserve_for.new.self c.loop-entry.invariant.reserved c.reserve_for.ensures.reserved;
-  ready = all_more (IsReadyFor c.args.entries.now c.reserve_for.new.self) c.args.entries.now c.loop-entry.entry-index c.entry-item.result c.loop-entry-test.true c.entry-item.is
-      (ready_stays c.loop-entry.self c.reserve_for.new.self c.args.entries.now c.reserve_for.ensures.reserved (take c.loop-entry.entry-index c.args.entries.now) c.loop-entry.invariant.ready)
-      c.in_ok-reserve_for.ensures.ready;
+  reserved = reserved_then c.args.self.now c.loop-entry.self c.reserve_next.new.self c.loop-entry.invariant.reserved c.reserve_next.ensures.reserved;
+  ready = all_more (IsReadyFor c.args.entries.now c.reserve_next.new.self) c.args.entries.now c.loop-entry.entry-index c.entry-item.result c.loop-entry-test.true c.entry-item.is
+      (ready_stays c.loop-entry.self c.reserve_next.new.self c.args.entries.now c.reserve_next.ensures.reserved (take c.loop-entry.entry-index c.args.entries.now) c.loop-entry.invariant.ready)
+      c.in_ok-reserve_next.ensures.ready;
+  before = c.in_ok-reserve_next.ensures.ready;
 }
 
 pub returns-clause-room : goal.returns-clause-room
