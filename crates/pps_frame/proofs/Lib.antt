@@ -1,4 +1,6 @@
 pub mod Fronts
 pub mod Gathering
 pub mod Pieces
+pub mod Taken
 pub mod Streams
+pub mod Ending

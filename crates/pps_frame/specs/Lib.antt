@@ -1,3 +1,4 @@
 pub mod Front
+pub mod Faults
 pub mod Served
 pub mod Sent

@@ -49,6 +49,14 @@ MayEnd Clean tail left = Unit {0}
 MayEnd Truncated tail left = IsTail Truncated tail left
 MayEnd Malformed tail left = IsTail Malformed tail left
 
+-- No more could be read: all whole frames that were read are answered, and nothing else is written.
+pub record AnswersWhole (from to before after : Option (List ℕ)) (old new : Content) : Type 0 where
+  pub answered : List Answered
+  pub tail : List ℕ
+  pub served : Serves from to old new answered tail
+  pub behind : IsPartial tail
+  pub written : Appends before after (answers_of answered)
+
 -- The first whole frames that were read are taken, and a part of what answers them is written.
 pub record Stops (from to before after : Option (List ℕ)) (old new : Content) : Type 0 where
   pub answered : List Answered
@@ -62,7 +70,9 @@ pub record Stops (from to before after : Option (List ℕ)) (old new : Content) 
 -- what became of a stream
 abbrev pub Ran : (from to before after : Option (List ℕ)) → Content → Content → Result Ended RunError → Type 0
 Ran from to before after old new (Ok ended) = AnswersAll from to before after old new ended
-Ran from to before after old new (Err fault) = Stops from to before after old new
+Ran from to before after old new (Err ReadFault) = AnswersWhole from to before after old new
+Ran from to before after old new (Err OutOfMemory) = Stops from to before after old new
+Ran from to before after old new (Err WriteFault) = Stops from to before after old new
 
 -- after how many reads an input counts as one that can't be read
 abbrev pub most_reads : ℕ

@@ -1,8 +1,11 @@
 //! A stream of requests that comes in pieces.
-ghost use Rattle.std.specs.Prelude.{◌≡◌, ◌≤◌, ◌++◌, ◌↔◌, min, take, drop, [], true, false, length, IfOk, OnErr, IsErrOf};
+ghost use Rattle.std.specs.Prelude.{◌≡◌, ◌≤◌, ◌++◌, ◌↔◌, List, ℕ, Option, min, take, drop, [], true, false, length, IfOk, OnErr, IsErrOf};
+ghost use Rattle.std.specs.Io.KnownBytes.{IsAtEnd};
 ghost use Rattle.pps_types.specs.Frame.{Feeds, IsPartial};
 ghost use Rattle.pps_frame.specs.Front.{IsFirst, Takes, lacks, IsGathered};
+ghost use Rattle.pps_frame.specs.Served.{IsTail};
 
+use crate::ends::Ended;
 use crate::fault::FeedFault;
 use crate::reading::push_event;
 use crate::requests::BODY_MAX;
@@ -176,6 +179,17 @@ impl Decoder {
         ensures { result ≡ length self.now.rest }
     {
         self.held.len()
+    }
+
+    /// How a stream ended that has no more bytes than were fed.
+    pub(crate) fn ended(&self) -> Ended
+        ensures { (left : Option (List ℕ)) → IsAtEnd left → IsTail result self.now.rest left }
+    {
+        if self.held.is_empty() {
+            Ended::Clean
+        } else {
+            Ended::Truncated
+        }
     }
 
     /// Takes the next piece of the stream, and gives the requests that are whole now. The bytes of one that is whole

@@ -1,4 +1,10 @@
 //! How a stream ends.
+ghost use Rattle.std.specs.Prelude.{◌≡◌};
+ghost use Rattle.pps_frame.specs.declared.ends.RunError.TheVariants as faults;
+ghost use Rattle.pps_frame.specs.Faults.{of_answer};
+
+use pps_types::{AnswerFault, WriteFault};
+use std::alloc::AllocError;
 
 /// How a stream ended.
 #[derive(Clone, Copy, Debug, PartialEq, Eq)]
@@ -20,4 +26,31 @@ pub enum RunError {
     ReadFault,
     /// The writer failed, or took none of some bytes.
     WriteFault,
+}
+
+impl From<AllocError> for RunError {
+    ghost from_gives = { λ _ fault. fault ≡ faults.OutOfMemory };
+
+    fn from(_refused: AllocError) -> RunError {
+        RunError::OutOfMemory
+    }
+}
+
+impl From<AnswerFault> for RunError {
+    ghost from_gives = { λ answer fault. fault ≡ of_answer answer };
+
+    fn from(fault: AnswerFault) -> RunError {
+        match fault {
+            AnswerFault::OutOfMemory => RunError::OutOfMemory,
+            AnswerFault::WriteFault => RunError::WriteFault,
+        }
+    }
+}
+
+impl From<WriteFault> for RunError {
+    ghost from_gives = { λ _ fault. fault ≡ faults.WriteFault };
+
+    fn from(_fault: WriteFault) -> RunError {
+        RunError::WriteFault
+    }
 }

@@ -2,12 +2,12 @@
 #![tactic(auto)]
 
 mod answers;
+mod closing;
 mod decoder;
 mod ends;
 mod fault;
 mod reading;
 mod requests;
-mod sending;
 mod serving;
 
 pub use answers::encode_outcome;

@@ -4,7 +4,7 @@ use crate::digest::{Digest, Sums};
 use crate::fault::Fault;
 use pps_engine::Engine;
 use pps_frame::{encode_request, run};
-use pps_types::{Action, Bytes, Conn, Device, Event, Handle, Mode, Request};
+use pps_types::{Action, Bytes, Conn, Device, Event, Exchange, Handle, Mode, Request};
 use std::alloc::Global;
 
 /// Who may do what with what an open gives: `r`, `rw` and `rwc`.
@@ -129,11 +129,17 @@ impl Requests {
     }
 }
 
+// Serves a stream to a new service, and adds its answers to the sums.
+fn serve(alloc: Global, stream: &[u8], sums: &mut Digest) -> Result<(), Fault> {
+    let mut engine = Engine::new(alloc)?;
+    let mut exchange = Exchange::new(alloc, Device::new(stream), Device::new(sums))?;
+    run(alloc, &mut engine, &mut exchange)?;
+    Ok(())
+}
+
 /// What a new service answers.
 pub(crate) fn served(alloc: Global, requests: &Requests) -> Result<Sums, Fault> {
-    let mut engine = Engine::new(alloc)?;
-    let mut reader = Device::new(requests.stream.as_slice());
-    let mut writer = Device::new(Digest::new(alloc));
-    run(alloc, &mut engine, &mut reader, &mut writer)?;
-    Ok(writer.into_inner().finish()?)
+    let mut sums = Digest::new(alloc);
+    serve(alloc, requests.stream.as_slice(), &mut sums)?;
+    Ok(sums.finish()?)
 }

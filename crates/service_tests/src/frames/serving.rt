@@ -3,7 +3,7 @@
 use crate::scripts::new_engine;
 use pps_engine::Engine;
 use pps_frame::{Ended, RunError, run};
-use pps_types::Device;
+use pps_types::{Device, Exchange};
 use std::alloc::{AllocError, Global};
 use std::io;
 use std::io::{ErrorKind, Read, Write};
@@ -75,23 +75,18 @@ impl Write for Narrow {
 }
 
 /// Serves a stream to an engine, with a reader that gives so many bytes a read and fails after so many reads, and a writer
-/// that takes one byte a call and has room for so many. Gives how that ended, and what was written.
+/// that takes one byte a call and has room for so many. Gives how that ended.
 fn served(
     alloc: Global,
     engine: &mut Engine,
     bytes: &[u8],
     size: usize,
     reads: usize,
-    room: usize,
-) -> (Result<Ended, RunError>, Vec<u8>) {
-    let mut reader = Device::new(Slow { bytes, size, reads });
-    let mut writer = Device::new(Narrow {
-        taken: Vec::new(alloc),
-        room,
-    });
-    let ended = run(alloc, engine, &mut reader, &mut writer);
-    let Narrow { taken, .. } = writer.into_inner();
-    (ended, taken)
+    writer: &mut Narrow,
+) -> Result<Result<Ended, RunError>, AllocError> {
+    let reader = Slow { bytes, size, reads };
+    let mut exchange = Exchange::new(alloc, Device::new(reader), Device::new(writer))?;
+    Ok(run(alloc, engine, &mut exchange))
 }
 
 /// How a run has to end, and whether it has to write all of these answers.
@@ -112,10 +107,14 @@ fn assert_served(
 ) -> Result<(), AllocError> {
     let [size, reads, room] = devices;
     let mut engine = new_engine(alloc)?;
-    let (ended, written) = served(alloc, &mut engine, bytes, size, reads, room);
+    let mut writer = Narrow {
+        taken: Vec::new(alloc),
+        room,
+    };
+    let ended = served(alloc, &mut engine, bytes, size, reads, &mut writer)?;
     assert_eq!(rt; ended, wanted.ended);
-    assert!(rt; answers.starts_with(written.as_slice()));
-    assert!(rt; !wanted.is_whole || written.len() == answers.len());
+    assert!(rt; answers.starts_with(writer.taken.as_slice()));
+    assert!(rt; !wanted.is_whole || writer.taken.len() == answers.len());
     Ok(())
 }
 

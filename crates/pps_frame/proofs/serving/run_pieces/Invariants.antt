@@ -1,0 +1,21 @@
+use Rattle.std.proofs.Common.{◌≡◌, ◌<◌, false, length}
+use Rattle.pps_types.specs.Device.{device_inner, device_failed, device_reads, device_stalls}
+use Rattle.pps_types.specs.Exchange.{input_of, output_of, held_in}
+use Rattle.pps_types.specs.Frame.{IsPartial}
+use Rattle.pps_frame.specs.Served.{reads_from}
+use Rattle.pps_frame.specs.Sent.{Goes}
+use Rattle.pps_frame.proofs.serving.run_pieces.Given as goal
+
+abbrev pub invariant-pieces : goal.invariant-pieces
+invariant-pieces g l = record {
+  room : 0 < length l.buffer;
+  goes : Goes (g.R.Read.remaining (device_inner (input_of l.fn.exchange))) (g.R.Read.remaining (device_inner (input_of l.exchange)))
+      (g.W.Write.contents (device_inner (output_of l.fn.exchange))) (g.W.Write.contents (device_inner (output_of l.exchange))) (held_in l.exchange)
+      l.fn.engine.content l.engine.content l.decoder.rest;
+  partial : IsPartial l.decoder.rest;
+  sound : l.decoder.failed ≡ false;
+  reader : device_failed (input_of l.exchange) ≡ false;
+  writer : device_failed (output_of l.exchange) ≡ false;
+  reads : device_reads (input_of l.exchange) ≡ reads_from (device_reads (input_of l.fn.exchange)) l.counter;
+  stalls : device_stalls (output_of l.exchange) ≡ device_stalls (output_of l.fn.exchange);
+}
