@@ -101,6 +101,10 @@ pub(crate) enum Asked<'w> {
     Text(String),
 }
 
+/// What the help ends with.
+const EXAMPLE: &str =
+    "Example:\n  $ printf '1 attach\\n1 open rwc /gps\\n' | pps run\n  1 ok\n  1 handle 1";
+
 fn limit_option<'a>(alloc: Global) -> Arg<'a> {
     Arg::new(alloc, "limit")
         .long("limit")
@@ -183,8 +187,10 @@ fn whole_command<'a>(alloc: Global) -> Result<Command<'a>, AllocError> {
         .help("Print version")
         .action(ArgAction::Version);
     Command::new(alloc, "pps")
+        .bin_name("pps")?
         .version("0.1")
         .about("A Persistent Publish/Subscribe service")
+        .after_help(EXAMPLE)
         .disable_version_flag(true)
         .disable_help_subcommand(true)
         .subcommand_required(true)

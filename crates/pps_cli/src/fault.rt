@@ -46,6 +46,23 @@ impl Fault {
     }
 }
 
+impl Fault {
+    /// What may help whoever reads of the fault.
+    fn advice(self) -> &'static str {
+        match self {
+            Fault::BadLine { .. } => "a line is a connection and a command, as: 1 open rwc /gps",
+            Fault::BadCommandLine => "pps --help lists the commands and their options",
+            Fault::CannotReadInput => "what came whole before that is answered",
+            Fault::CannotWriteOutput =>
+                "see that whoever reads it goes on, or that its disk has room",
+            Fault::MalformedFrame =>
+                "a frame is a length of 4 bytes, the highest first, and a request",
+            Fault::CutFrame => "its length says that more bytes have to come",
+            Fault::OutOfMemory => "the program itself, and not only the service, needed more",
+        }
+    }
+}
+
 impl From<AllocError> for Fault {
     ghost from_gives = { λ _ fault. fault ≡ OutOfMemory };
 
@@ -84,6 +101,23 @@ impl Failure<'_> {
             | Failure::BadImage { .. }
             | Failure::Serve { .. } => 3,
             Failure::BadLineOf { .. } => 1,
+        }
+    }
+}
+
+impl Failure<'_> {
+    /// What may help whoever reads of the failure.
+    pub(crate) fn advice(self) -> &'static str {
+        match self {
+            Failure::Fault(fault) => fault.advice(),
+            Failure::CannotRead { .. } => "see that the file is there and may be read",
+            Failure::CannotWrite { .. } =>
+                "see that its folder is there, may be written, and has room",
+            Failure::BadImage { .. } => "an image is what --save wrote, unchanged",
+            Failure::BadLineOf { .. } => {
+                "a line is a connection, which is the place of its file, and a command"
+            }
+            Failure::Serve { .. } => "the sessions were not served to their end",
         }
     }
 }

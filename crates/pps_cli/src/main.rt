@@ -20,7 +20,7 @@ use std::alloc::Global;
 use std::convert::AsStr;
 use std::env;
 use std::fs::Files;
-use std::io::{ErrorKind, Read, Write};
+use std::io::{ErrorKind, IsTerminal, Read, Write};
 use std::process::ExitCode;
 use std::sync::Wait;
 use std::thread::Threads;
@@ -70,20 +70,24 @@ fn run_asked<'w, R: AllocGlobal + Files + Threads + Wait + Sync, S: AsStr, I: Re
     }
 }
 
-// Tells a failure in one line. That it can't be told changes nothing.
-fn tell<E: Write>(failure: Failure<'_>, errors: &mut E) -> u8 {
+// Reports a failure in one line, and on a terminal has a second one to explain it. That these can't be written changes
+// nothing.
+fn tell<E: Write + IsTerminal>(failure: Failure<'_>, errors: &mut E) -> u8 {
     let _ = writeln!(errors, "pps: {failure}");
+    if errors.is_terminal() {
+        let _ = writeln!(errors, "     {}", failure.advice());
+    }
     failure.status()
 }
 
 /// Does what the words of a command line ask for, the first of which is the program's name. It answers the exit status.
-fn run_words<R: AllocGlobal + Files + Threads + Wait + Sync, S: AsStr, I: Read, O: Write, E: Write>(
-    rt: &R,
-    words: &[S],
-    input: &mut I,
-    output: &mut O,
-    errors: &mut E,
-) -> u8 {
+fn run_words<
+    R: AllocGlobal + Files + Threads + Wait + Sync,
+    S: AsStr,
+    I: Read,
+    O: Write,
+    E: Write + IsTerminal,
+>(rt: &R, words: &[S], input: &mut I, output: &mut O, errors: &mut E) -> u8 {
     match run_asked(rt, words, input, output) {
         Ok(()) => 0,
         Err(failure) => tell(failure, errors),
