@@ -1,21 +1,27 @@
 //! Script files, served as sessions by several threads.
+ghost use Rattle.std.specs.Prelude.{◌≡◌, All, IfOk, OnErr, length, map};
+ghost use Rattle.pps_types.specs.Device.{device_inner, device_failed, device_stalls};
+ghost use Rattle.pps_types.specs.Writing.{Sends};
+ghost use Rattle.pps_dispatch.specs.History.{joined};
+ghost use Rattle.pps_cli.specs.Sessions.{AnswersFaultAre};
+ghost use Rattle.pps_session.specs.Named.{Names};
+ghost use Rattle.pps_session.specs.Printed.{sessions_text, connections_of};
+ghost use Rattle.pps_session.specs.Serving.{IsOfScript, AreOfScripts, PrintsAll, PrintsSome};
 
 use crate::command_line::ServeOptions;
 use crate::fault::{Failure, Fault};
+use crate::patient::Patient;
 use crate::whole_file::{Contents, write_whole};
 use pps_dispatch::{Gate, ServeError, Served, Session, distinct, serve};
 use pps_engine::Engine;
-use pps_frame::encode_request;
 use pps_lock::Segment;
-use pps_types::{Conn, Refusal};
-use script_lines::{ScriptLine, print_answer, read_line};
-use std::alloc::{AllocError, Global};
-use std::fs;
+use pps_session::{SessionFault, session_of, write_history, write_sessions};
+use pps_types::{AnswerFault, Conn, Device};
+use std::alloc::Global;
 use std::fs::{File, Files};
 use std::io::{ErrorKind, Read, Write};
 use std::sync::Wait;
 use std::thread::Threads;
-use text_parts::split_at_first;
 
 /// How many entries the trace has before it is cut.
 const TRACE_LIMIT: usize = 1_024;
@@ -46,67 +52,20 @@ fn read_file<'w, F: Files>(
     }
 }
 
-// Adds the frame of a line's request, if the line is one. It is a bad line where it is no line of a script, of another
-// connection, or a request that has no frame.
-fn push_frame(
-    alloc: Global,
-    frames: &mut Vec<u8>,
-    conn: Conn,
-    line: &[u8],
-) -> Result<bool, AllocError> {
-    let event = match read_line(alloc, line)? {
-        None => return Ok(false),
-        Some(ScriptLine::Nothing) => return Ok(true),
-        Some(ScriptLine::Command(event)) => event,
-    };
-    if event.conn != conn {
-        return Ok(false);
-    }
-    match encode_request(alloc, &event) {
-        Err(Refusal::OutOfMemory) => Err(AllocError),
-        Err(_) => Ok(false),
-        Ok(frame) => {
-            frames.extend_from_slice(frame.as_slice())?;
-            Ok(true)
-        }
-    }
-}
-
-// The frames of the requests of a script.
-fn frames_of<'w>(
-    alloc: Global,
-    conn: Conn,
-    file: &'w str,
-    text: &[u8],
-) -> Result<Vec<u8>, Failure<'w>> {
-    let mut frames = Vec::new(alloc);
-    let mut rest = text;
-    let mut number: u64 = 1;
-    'lines: while let Some((line, behind)) = split_at_first(b'\n', rest) {
-        if !push_frame(alloc, &mut frames, conn, line)? {
-            return Err(Failure::BadLineOf { file, line: number });
-        }
-        rest = behind;
-        number = number.saturating_add(1);
-    }
-    if !rest.is_empty() && !push_frame(alloc, &mut frames, conn, rest)? {
-        return Err(Failure::BadLineOf { file, line: number });
-    }
-    Ok(frames)
-}
-
 // The session of a script file.
 fn read_session<'w, F: Files>(
     alloc: Global,
     files: &F,
     conn: Conn,
     file: &'w str,
-) -> Result<Session, Failure<'w>> {
+) -> Result<Session, Failure<'w>>
+    ensures { IfOk result (λ session. IsOfScript conn session) }
+{
     let text = read_file(alloc, files, file)?;
-    let frames = frames_of(alloc, conn, file, text.as_slice())?;
-    match Session::from_frames(alloc, conn, frames.as_slice()) {
+    match session_of(alloc, conn, text.as_slice()) {
         Ok(session) => Ok(session),
-        Err(_) => Err(Failure::Fault(Fault::OutOfMemory)),
+        Err(SessionFault::BadLine { line }) => Err(Failure::BadLineOf { file, line }),
+        Err(SessionFault::OutOfMemory) => Err(Failure::Fault(Fault::OutOfMemory)),
     }
 }
 
@@ -115,7 +74,10 @@ fn read_sessions<'w, F: Files>(
     alloc: Global,
     files: &F,
     scripts: &[&'w str],
-) -> Result<Vec<Session>, Failure<'w>> {
+) -> Result<Vec<Session>, Failure<'w>>
+    ensures count { IfOk result (λ sessions. length sessions.items ≡ length scripts.now) }
+    ensures scripts { IfOk result (λ sessions. AreOfScripts sessions.items) }
+{
     let mut sessions = Vec::new(alloc);
     let mut conn: u16 = 0;
     'scripts: for file in scripts {
@@ -127,56 +89,27 @@ fn read_sessions<'w, F: Files>(
     Ok(sessions)
 }
 
-// Prints what a session was answered.
-fn print_session(
-    out: &mut Vec<u8>,
-    segments: &[Segment],
-    session: &Session,
-) -> Result<(), AllocError> {
-    'receipts: for receipt in session.receipts() {
-        let segment = segments.get(receipt.segment as usize);
-        let entry = match segment {
-            None => None,
-            Some(segment) => segment.entries().get(receipt.index as usize),
-        };
-        if let Some(entry) = entry {
-            print_answer(out, session.conn(), entry.reply())?;
-        }
-    }
-    Ok(())
-}
-
-// Writes the answers of all sessions, those of each behind its file's name.
-fn write_sessions<'w, O: Write>(
+// Writes what the sessions were answered, and says what it ended with.
+fn write_answers<'w, O: Write>(
     alloc: Global,
     scripts: &[&'w str],
     served: &Served,
-    output: &mut O,
-) -> Result<(), Fault> {
-    'sessions: for (file, session) in scripts.iter().zip(served.sessions.iter()) {
-        let number = session.conn().number();
-        let mut text = Vec::new(alloc);
-        let head = format!(in alloc; "session {number} {file}\n")?;
-        text.extend_from_slice(head.as_bytes())?;
-        print_session(&mut text, served.segments.as_slice(), session)?;
-        if output.write_all(text.as_slice()).is_err() {
-            return Err(Fault::CannotWriteOutput);
-        }
-    }
-    match output.flush() {
-        Err(_) => Err(Fault::CannotWriteOutput),
+    output: &mut Device<O>,
+) -> Result<(), Fault>
+    requires files { length scripts.now ≡ length served.now.sessions.items }
+    requires named { All (Names served.now.segments.items) served.now.sessions.items }
+    ensures bytes { Sends (O.contents (device_inner output.old)) (O.contents (device_inner output.new))
+        (sessions_text (map (λ file. file.now) scripts.now)
+        (connections_of served.now.sessions.items) (joined served.now.segments.items)) result }
+    ensures fault { AnswersFaultAre result (device_failed output.old) (device_failed output.new)
+        (device_stalls output.old) (device_stalls output.new) }
+{
+    let segments = served.segments.as_slice();
+    match write_sessions(alloc, scripts, segments, served.sessions.as_slice(), output) {
         Ok(()) => Ok(()),
+        Err(AnswerFault::OutOfMemory) => Err(Fault::OutOfMemory),
+        Err(AnswerFault::WriteFault) => Err(Fault::CannotWriteOutput),
     }
-}
-
-// Adds the connection of each message of a segment, one a line.
-fn push_connections(alloc: Global, out: &mut Vec<u8>, segment: &Segment) -> Result<(), AllocError> {
-    'entries: for entry in segment.entries() {
-        let number = entry.event().conn.number();
-        let line = format!(in alloc; "{number}\n")?;
-        out.extend_from_slice(line.as_bytes())?;
-    }
-    Ok(())
 }
 
 // The order in which messages were served.
@@ -192,19 +125,17 @@ impl Contents for History<'_> {
         output: &mut O,
         file: &'w str,
     ) -> Result<(), Failure<'w>> {
-        let mut text = Vec::new(alloc);
-        'segments: for segment in self.segments {
-            push_connections(alloc, &mut text, segment)?;
-        }
-        match output.write_all(text.as_slice()) {
-            Err(_) => Err(Failure::CannotWrite { file }),
+        let mut output = Device::new(Patient::new(output));
+        match write_history(alloc, self.segments, &mut output) {
             Ok(()) => Ok(()),
+            Err(AnswerFault::OutOfMemory) => Err(Failure::Fault(Fault::OutOfMemory)),
+            Err(AnswerFault::WriteFault) => Err(Failure::CannotWrite { file }),
         }
     }
 }
 
 // Writes the order in which the messages were served to a file, if one is named, as a whole.
-fn write_history<'w, F: Files>(
+fn save_history<'w, F: Files>(
     alloc: Global,
     files: &F,
     segments: &[Segment],
@@ -216,16 +147,37 @@ fn write_history<'w, F: Files>(
     }
 }
 
-// Writes what was served: the answers, and the order of the messages.
-fn write_served<'w, F: Files, O: Write>(
+// Reads the scripts, serves their sessions together, and writes their answers.
+fn serve_sessions<'w, R: Files + Threads + Wait + Sync, O: Write>(
+    rt: &R,
     alloc: Global,
-    files: &F,
     options: &ServeOptions<'w>,
-    served: &Served,
-    output: &mut O,
-) -> Result<(), Failure<'w>> {
-    write_sessions(alloc, options.scripts.as_slice(), served, output)?;
-    write_history(alloc, files, served.segments.as_slice(), options.history)
+    output: &mut Device<O>,
+) -> Result<Served, Failure<'w>>
+    ensures all { IfOk result (λ served.
+        PrintsAll (map (λ file. file.now) options.now.scripts.items) served.segments.items
+        (O.contents (device_inner output.old)) (O.contents (device_inner output.new))) }
+    ensures some { OnErr result (
+        PrintsSome (map (λ file. file.now) options.now.scripts.items)
+        (O.contents (device_inner output.old)) (O.contents (device_inner output.new))) }
+{
+    let scripts = options.scripts.as_slice();
+    let sessions = read_sessions(alloc, rt, scripts)?;
+    if !distinct(sessions.as_slice()) {
+        return Err(Failure::Serve { name: "Mismatch" });
+    }
+    let engine = Engine::new(alloc)?;
+    let workers = options.workers.count();
+    match serve(rt, alloc, engine, sessions, workers, TRACE_LIMIT, &OpenGate) {
+        Ok(served) => {
+            write_answers(alloc, scripts, &served, output)?;
+            Ok(served)
+        }
+        Err(ServeError::OutOfMemory) => Err(Failure::Serve {
+            name: "OutOfMemory",
+        }),
+        Err(ServeError::Mismatch) => Err(Failure::Serve { name: "Mismatch" }),
+    }
 }
 
 /// Reads the scripts, serves their sessions together, and writes their answers to the output, and the order of their
@@ -236,24 +188,7 @@ pub(crate) fn serve_scripts<'w, R: Files + Threads + Wait + Sync, O: Write>(
     options: &ServeOptions<'w>,
     output: &mut O,
 ) -> Result<(), Failure<'w>> {
-    let sessions = read_sessions(alloc, rt, options.scripts.as_slice())?;
-    if !distinct(sessions.as_slice()) {
-        return Err(Failure::Serve { name: "Mismatch" });
-    }
-    let engine = Engine::new(alloc)?;
-    match serve(
-        rt,
-        alloc,
-        engine,
-        sessions,
-        options.workers.count(),
-        TRACE_LIMIT,
-        &OpenGate,
-    ) {
-        Ok(served) => write_served(alloc, rt, options, &served, output),
-        Err(ServeError::OutOfMemory) => Err(Failure::Serve {
-            name: "OutOfMemory",
-        }),
-        Err(ServeError::Mismatch) => Err(Failure::Serve { name: "Mismatch" }),
-    }
+    let mut output = Device::new(Patient::new(output));
+    let served = serve_sessions(rt, alloc, options, &mut output)?;
+    save_history(alloc, rt, served.segments.as_slice(), options.history)
 }

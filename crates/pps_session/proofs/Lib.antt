@@ -1,0 +1,5 @@
+pub mod Lines
+pub mod Names
+pub mod Texts
+pub mod Served
+pub mod Regroup
