@@ -2,7 +2,7 @@
 
 use crate::scripts::Start::{LastHandle, LimitOf9, New};
 use crate::scripts::Step::{Crowds, HasLimit, Keeps, Lists, Owes, Plans, Runs, Says};
-use crate::scripts::{Step, events, new_engine, play};
+use crate::scripts::{Step, events, new_engine, play, same};
 use pps_engine::Engine;
 use pps_types::{Outcome, Refusal};
 use std::alloc::Global;
@@ -79,16 +79,32 @@ fn run_list(
     engine.run_list(&events)
 }
 
+/// The same, where the room for the answers is made before.
+fn run_reserved(
+    alloc: Global,
+    engine: &mut Engine,
+    lines: &[&[u8]],
+) -> Result<Vec<Result<Outcome, Refusal>>, Refusal> {
+    let events = events(alloc, lines)?;
+    let mut answers = Vec::with_capacity(alloc, events.len())?;
+    engine.run_reserved(&events, &mut answers);
+    Ok(answers)
+}
+
 #[test]
 fn lists_of_events_are_run(rt: HostRuntime) -> Result<(), Fail> {
-    let mut engine = new_engine(rt.alloc())?;
-    let answers = run_list(rt.alloc(), &mut engine, &RUN_AS_A_LIST)?;
     let wanted = [
         Ok(Outcome::Done),
         Err(Refusal::AlreadyAttached),
         Ok(Outcome::Empty),
     ];
+    let mut engine = new_engine(rt.alloc())?;
+    let answers = run_list(rt.alloc(), &mut engine, &RUN_AS_A_LIST)?;
     assert_eq!(rt; answers.as_slice(), wanted.as_slice());
+    let mut other = new_engine(rt.alloc())?;
+    let answers = run_reserved(rt.alloc(), &mut other, &RUN_AS_A_LIST)?;
+    assert_eq!(rt; answers.as_slice(), wanted.as_slice());
+    assert!(rt; same(&engine, &other));
     Ok(())
 }
 

@@ -28,7 +28,8 @@ pub(crate) enum Step {
     Runs,
     /// A command, and the line that its answer is printed as.
     Says,
-    /// A command that changes what the engine keeps, and the bytes that it answers. It is planned, and then carried out.
+    /// A command that changes what the engine keeps, and the bytes that it answers. It is planned twice, and the latest plan
+    /// is carried out.
     Plans,
     /// 256 objects are created in `/d`.
     Crowds,
@@ -157,7 +158,7 @@ pub(crate) fn events(alloc: Global, lines: &[&[u8]]) -> Result<Vec<Event>, Refus
     Ok(events)
 }
 
-/// Plans an event, sees that nothing has changed, and carries it out.
+/// Plans an event twice, sees that nothing has changed, and carries out the latest plan.
 fn carry_out(
     rt: &impl Abort,
     engine: &mut Engine,
@@ -165,8 +166,10 @@ fn carry_out(
     event: &Event,
     wanted: &Outcome,
 ) -> Result<(), Refusal> {
+    let first = engine.plan(event)?;
     let plan = engine.plan(event)?;
     assert!(rt; same(engine, before));
+    assert!(rt; *first.reply() == *wanted);
     assert!(rt; *plan.reply() == *wanted);
     assert!(rt; engine.commit(plan) == *wanted);
     assert!(rt; !same(engine, before));
