@@ -3,8 +3,9 @@
    was interrupted, ! where it was made to fail.
 
    FAILED, as "write out 3", makes the third such call fail, and "write out 3+" all later ones too; * stands for any thing that
-   it is on. Where HOW has "short", reads and writes take one byte; where it has "interrupted", every other one of them is
-   interrupted first. */
+   it is on. It fails with the error of the number ERROR, if there is one; with 0 a write takes nothing. Where HOW has "short",
+   reads and writes take one byte; where it has "ragged", now this and now that part; where it has "interrupted", every other
+   one of them is interrupted first; where it has "patience", nine of ten. */
 #define _GNU_SOURCE
 #include <dlfcn.h>
 #include <errno.h>
@@ -71,27 +72,42 @@ static int how(const char *word) {
 
 /* Whether this read or write is interrupted. Then it is noted so. */
 static int is_interrupted(const char *function, const char *on) {
-    if (!how("interrupted") || __sync_add_and_fetch(&turns, 1) % 2 == 0) return 0;
+    long turn = __sync_add_and_fetch(&turns, 1);
+    if (!(how("interrupted") && turn % 2 != 0) && !(how("patience") && turn % 10 != 0)) return 0;
     note(function, on, "~");
     return 1;
 }
 
-static size_t taken(size_t size) { return size > 1 && how("short") ? 1 : size; }
+/* How much of so many bytes is taken. */
+static size_t taken(size_t size) {
+    static unsigned long chance = 1;
+    if (size > 1 && how("short")) return 1;
+    if (size < 2 || !how("ragged")) return size;
+    chance = chance * 6364136223846793005 + 1442695040888963407;
+    size_t most = chance >> 62 && size > 9 ? 9 : size;
+    return 1 + (chance >> 33) % most;
+}
+
+static int error_of(int usual) {
+    const char *asked = getenv("ERROR");
+    return asked && *asked ? atoi(asked) : usual;
+}
 
 #define NEXT(function) static __typeof__(function) *next; if (!next) next = dlsym(RTLD_NEXT, #function)
 #define FAIL_AS(error, answer) do { errno = error; return answer; } while (0)
+#define FAIL(usual) do { errno = error_of(usual); return errno ? -1 : 0; } while (0)
 
 ssize_t read(int file, void *bytes, size_t size) {
     NEXT(read);
     if (is_interrupted("read", name_of(file))) FAIL_AS(EINTR, -1);
-    if (fails("read", name_of(file))) FAIL_AS(EIO, -1);
+    if (fails("read", name_of(file))) FAIL(EIO);
     return noted("read", name_of(file), next(file, bytes, taken(size)));
 }
 
 ssize_t write(int file, const void *bytes, size_t size) {
     NEXT(write);
     if (is_interrupted("write", name_of(file))) FAIL_AS(EINTR, -1);
-    if (fails("write", name_of(file))) FAIL_AS(ENOSPC, -1);
+    if (fails("write", name_of(file))) FAIL(ENOSPC);
     return noted("write", name_of(file), next(file, bytes, taken(size)));
 }
 

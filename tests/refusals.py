@@ -4,7 +4,8 @@ A message that is refused for want of memory has changed nothing. So of a run in
 other answers, what is said on standard error, the status and the files that are left have to be those of a run without these
 messages, in which nothing is refused. A message that needs no memory (docs/BEHAVIOUR.md) is never answered so. If the program
 itself is out of memory, its status is 3, its line says so, each answer that it printed is whole and as above, and the files
-are as they were.
+are as they were. Where one message is refused, the run is made once more with this message given twice: if the first of the two is
+refused there too, the second has to be answered as where nothing is refused, and so has all that comes after it.
 """
 
 import argparse
@@ -78,7 +79,7 @@ class Work:
 
     def __init__(self, name, lines, words, files, loaded):
         self.name, self.lines, self.words, self.files, self.loaded = name, lines, words, files, loaded
-        self.runs_without = {}
+        self.runs_without, self.works_with_twice = {}, {}
 
     def given(self, without):
         raise NotImplementedError
@@ -90,6 +91,10 @@ class Work:
         raise NotImplementedError
 
     def line_of_answer(self, answer):
+        raise NotImplementedError
+
+    def with_twice(self, at):
+        """The same work, with this message given twice."""
         raise NotImplementedError
 
     def run(self, without=frozenset(), refused="0"):
@@ -104,6 +109,18 @@ class Work:
 
     def count(self):
         return count(self.words, self.given(frozenset()), self.files, self.loaded)
+
+    def wrong_again(self, refused, at):
+        """What is wrong where the message at this place, which is refused for this allocation, is given again at once."""
+        if at not in self.works_with_twice:
+            self.works_with_twice[at] = self.with_twice(at)
+        work = self.works_with_twice[at]
+        right = work.run_without(frozenset([at]))
+        wanted = [*right.answers[:at], self.out_of_memory(at), *right.answers[at:]]
+        ended = work.run(refused=refused)
+        if ended.answers[at : at + 1] != [self.out_of_memory(at)]:
+            return ""  # with one message more the input takes other memory, so the refusal met something else
+        return "" if ended == right._replace(answers=wanted) else "given again, not as where nothing is refused"
 
     def wrong_of(self, refused):
         """What is wrong where these allocations are refused; nothing if all is right."""
@@ -120,7 +137,9 @@ class Work:
         if (ended.status, ended.errors) == (3, TOLD):
             is_right = ended.answers == wanted[: len(ended.answers)] and ended.left == self.files
             return "" if is_right else "out of memory, but other answers or files"
-        return "" if ended == right._replace(answers=wanted) else "not as without the messages that are refused"
+        if ended != right._replace(answers=wanted):
+            return "not as without the messages that are refused"
+        return self.wrong_again(refused, wanting[0]) if len(wanting) == 1 and refused.isdecimal() else ""
 
 
 def numbers(count, name, is_all):
@@ -153,7 +172,7 @@ def main(description, works, seconds, more=()):
         parser.add_argument(words, **options)
     parser.add_argument("paths", nargs="*", type=Path)
     asked = parser.parse_args()
-    begin(20 * seconds if asked.all else seconds)
+    begin((20 if asked.all else 1) * (seconds + 10 * getattr(asked, "random", 0)))
     refused = wrong = number = 0
     with tempfile.TemporaryDirectory() as folder, ThreadPoolExecutor(os.cpu_count()) as pool:
         loaded = compiled(folder, "tools/refuse.c")
