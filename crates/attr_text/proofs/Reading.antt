@@ -7,7 +7,7 @@ use Rattle.pps_types.specs.declared.refusal.Refusal.TheVariants.{BadText, TooLar
 use Rattle.pps_types.specs.declared.line.WriteLine.{WriteLine}
 use Rattle.pps_types.specs.Bytes.{split_at_first, is_empty, after_prefix, pieces, result_map}
 use Rattle.pps_types.specs.Text.{without_empty_end, lines_of, write_line, line_or, write_lines, with_header, text_after, text_of_lines, write_text}
-use Rattle.text_parts.proofs.Cuts.{pieces_of, pieces-split, split_at_first-shorter}
+use Rattle.pps_types.proofs.Cuts.{pieces_of, pieces-split, split_at_first-shorter}
 use Rattle.attr_text.specs.ReadWrite.{first_line_of, IsLinesRefusal, IsTextRefusal}
 
 -- ---- the first piece, and the pieces behind it

@@ -5,7 +5,7 @@ ghost use Rattle.memchr.specs.Find.{IsFirstByte, is_byte};
 ghost use Rattle.pps_types.specs.Bytes as bytes_words;
 ghost use Rattle.pps_types.specs.Text as text;
 
-use text_parts::split_at_first;
+use pps_types::split_at_first;
 
 const LINE_FEED: u8 = b'\n';
 

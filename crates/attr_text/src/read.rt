@@ -6,10 +6,9 @@ ghost use Rattle.pps_types.specs.Text as text;
 ghost use Rattle.attr_text.specs.ReadWrite.{first_line_of, IsLinesRefusal, IsTextRefusal};
 
 use crate::parts::{is_encoding, split_at_colon, split_at_line_feed};
-use pps_types::{Bytes, Mark, Refusal, WriteLine};
+use pps_types::{Bytes, Mark, Refusal, WriteLine, is_attribute_name};
 use std::alloc::{AllocError, Global};
 use std::marker::Model;
-use text_parts::is_attribute_name;
 
 /// The most bytes of a write.
 pub const WRITE_LIMIT: usize = 65_536;

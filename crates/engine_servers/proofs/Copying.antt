@@ -4,7 +4,7 @@ use Rattle.std.specs.List.{AllByRecursion}
 use Rattle.pps_types.specs.History.{Entry}
 use Rattle.pps_types.specs.Reading.{Open, reseen, style}
 use Rattle.pps_types.specs.Rests.{Seen, Owed}
-use Rattle.notify_box.specs.Rising.{IsRising, AllAbove}
+use Rattle.pps_types.specs.Rising.{IsRising, AllAbove}
 use Rattle.engine_targets.specs.declared.opening.Opening.{Opening}
 use Rattle.engine_targets.specs.Opened.{opened, armed_pulse}
 use Rattle.engine_targets.proofs.Alike.{armed-is, opening-is}

@@ -5,6 +5,10 @@ pub mod Roomed
 pub mod Given
 pub mod Waking
 pub mod Copying
-pub mod Seats
+pub mod Seating
 pub mod Overs
 pub mod Spans
+pub mod Shared
+pub mod SeatOvers
+pub mod Alike
+pub mod Glances

@@ -11,8 +11,8 @@ use Rattle.pps_types.specs.Reading.{Open}
 use Rattle.pps_types.specs.Rests.{Seen}
 use Rattle.pps_types.specs.Plan.{on_numbered, without_number}
 use Rattle.pps_types.proofs.Lists.{all-push, map-without_first}
-use Rattle.notify_box.specs.Rising.{IsPlaceOf, IsGapFor}
-use Rattle.notify_box.proofs.Edits.{rising_remove}
+use Rattle.pps_types.specs.Rising.{IsPlaceOf, IsGapFor}
+use Rattle.pps_types.proofs.RisingEdits.{rising_remove}
 use Rattle.engine_targets.proofs.Edits.{change_gap, without_gap, change_place, without_place, rising_set, rising_push, place_map, gap_map}
 use Rattle.engine_targets.proofs.Tallies.{all-at, all-set}
 use Rattle.engine_targets.specs.declared.opening.Opening.{Opening}

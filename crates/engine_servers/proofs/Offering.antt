@@ -11,7 +11,7 @@ use Rattle.pps_types.specs.Reading.{Open, Queue, style, visible, concerns, is_ch
 use Rattle.pps_types.specs.Rests.{Seen, Owed, keeps, pushed}
 use Rattle.pps_types.specs.Plan.{offered, offer}
 use Rattle.pps_types.proofs.Lists.{all-push}
-use Rattle.notify_box.specs.Rising.{AllAbove, IsRising}
+use Rattle.pps_types.specs.Rising.{AllAbove, IsRising}
 use Rattle.server_queue.specs.Senders.{client_messages}
 use Rattle.engine_targets.specs.Opened.{opened, armed_pulse}
 use Rattle.engine_targets.specs.declared.opening.Opening.{Opening}

@@ -8,7 +8,7 @@ use Rattle.pps_types.specs.declared.record.Kind.TheVariants.{Created, Change, Tr
 use Rattle.pps_types.specs.History.{Entry}
 use Rattle.pps_types.specs.Reading.{style, visible, reseen}
 use Rattle.pps_types.specs.Rests.{Owed}
-use Rattle.notify_box.specs.Rising.{AllAbove, IsRising}
+use Rattle.pps_types.specs.Rising.{AllAbove, IsRising}
 use Rattle.server_queue.specs.Senders.{client_messages}
 use Rattle.engine_targets.specs.Opened.{opened, armed_pulse}
 use Rattle.engine_targets.specs.declared.opening.Opening.{Opening}

@@ -12,7 +12,7 @@ use Rattle.pps_types.specs.Bytes.{is_empty}
 use Rattle.pps_types.specs.Filter.{Part}
 use Rattle.pps_types.specs.History.{Entry}
 use Rattle.pps_types.specs.Reading.{Shown, Queue, style, shown, shown_to_server, shown_to_client, with_lines}
-use Rattle.notify_box.specs.Rising.{AllAbove, IsPlaceOf, IsGapFor}
+use Rattle.pps_types.specs.Rising.{AllAbove, IsPlaceOf, IsGapFor}
 use Rattle.engine_servers.specs.declared.holder.Holder.{Holder}
 use Rattle.engine_servers.specs.Holders.{number_in, sees, IsQueued, IsOfClient, IsLed}
 use Rattle.engine_servers.specs.Spans.{FirstAre, RestAre, IsSpan, IsOther, IsBlind, IsUnseen}

@@ -8,7 +8,7 @@ use Rattle.pps_types.specs.Rests.{Seen, Owed}
 use Rattle.pps_types.specs.Checks.{is_client}
 use Rattle.server_queue.specs.Messages.{message_count}
 use Rattle.server_queue.specs.declared.sender.Sender.TheVariants.{Server}
-use Rattle.notify_box.specs.Rising.{IsRising}
+use Rattle.pps_types.specs.Rising.{IsRising}
 use Rattle.engine_targets.specs.declared.opening.Opening.{Opening}
 use Rattle.engine_targets.specs.declared.opening.Pulse.{Pulse}
 use Rattle.engine_targets.specs.Opened.{opened, armed_pulse}

@@ -7,3 +7,4 @@ pub mod Rooms
 pub mod Woken
 pub mod Held
 pub mod Spans
+pub mod Seated

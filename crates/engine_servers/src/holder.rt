@@ -1,7 +1,7 @@
 //! One handle of a server object.
 ghost use Rattle.std.specs.Prelude.{◌≡◌, true, ◌==◌, ◌<◌, ◌≤◌, find, length, option_map, IfOk, IfErr};
 ghost use Rattle.std.specs.Option.{option_copied};
-ghost use Rattle.notify_box.specs.Rising.{IsRising, IsPlaceOf, IsGapFor};
+ghost use Rattle.pps_types.specs.Rising.{IsRising, IsPlaceOf, IsGapFor};
 ghost use Rattle.engine_servers.specs.Holders.{number_in, is_full_client};
 
 use engine_targets::{Opening, Pulse};

@@ -1,7 +1,7 @@
 //! Where those handles stand that may be given records.
 ghost use Rattle.std.specs.Prelude.{◌≡◌, ℕ, length};
 ghost use Rattle.std.specs.List.{AllByRecursion};
-ghost use Rattle.notify_box.specs.Rising.{IsRising};
+ghost use Rattle.pps_types.specs.Rising.{IsRising};
 ghost use Rattle.engine_servers.specs.Holders.{IsQueued, IsOfClient, IsLed, number_in};
 ghost use Rattle.engine_servers.specs.Spans.{IsSpan, IsOther, IsBlind, IsUnseen};
 

@@ -2,7 +2,7 @@
 use Rattle.std.proofs.Common.{◌≡◌, ◌<◌, ℕ, zero, suc, ◌+◌, arith, List, [], ◌∷◌, ◌++◌, take, sym, ap, ◌∙◌, Some}
 use Rattle.std.specs.Prelude.{slice_get}
 use Rattle.std.specs.List.{AllByRecursion}
-use Rattle.notify_box.specs.Rising.{AllAbove, IsRising}
+use Rattle.pps_types.specs.Rising.{AllAbove, IsRising}
 
 module _ {X : Type 0} where
   -- one more is taken

@@ -3,7 +3,7 @@ use Rattle.std.proofs.Common.{◌≡◌, ℕ, zero, suc, ◌<◌, List, [], ◌�
 use Rattle.std.specs.List.{AllByRecursion, remove}
 use Rattle.std.proofs.lemmas.Bool.Decides.{nat_tests}
 use Rattle.pps_types.specs.Plan.{on_first, without_first}
-use Rattle.notify_box.specs.Rising.{AllAbove, IsRising, IsGapFor, IsPlaceOf}
+use Rattle.pps_types.specs.Rising.{AllAbove, IsRising, IsGapFor, IsPlaceOf}
 
 module _ {X : Type 0} (number : X → ℕ) where
   -- ---- above a number, it stands nowhere

@@ -3,8 +3,8 @@ use Rattle.std.proofs.Common.{◌≡◌, ℕ, zero, suc, ◌+◌, ◌-◌, ◌<�
 use Rattle.std.specs.List.{AllByRecursion, remove}
 use Rattle.std.proofs.lemmas.Bool.{false≢true}
 use Rattle.std.proofs.lemmas.List.{length-set, length-take}
-use Rattle.notify_box.specs.Rising.{AllAbove, IsRising, IsPlaceOf, IsGapFor}
-use Rattle.notify_box.proofs.Edits.{find_gap, find_place}
+use Rattle.pps_types.specs.Rising.{AllAbove, IsRising, IsPlaceOf, IsGapFor}
+use Rattle.pps_types.proofs.RisingEdits.{find_gap, find_place}
 use Rattle.engine_targets.specs.declared.row.HandleRow.{HandleRow}
 use Rattle.engine_targets.specs.declared.row.Slot.{Slot}
 use Rattle.engine_targets.specs.declared.row.Slot.TheVariants.{Row, Gap}

@@ -1,6 +1,6 @@
 -- A number that stands at a place of numbers that rise is alone there.
 use Rattle.std.proofs.Common.{◌≡◌, ℕ, zero, suc, ◌<◌, List, [], ◌∷◌, length, get_or, ap, ◌∙◌, subst, arith}
-use Rattle.notify_box.specs.Rising.{AllAbove, IsRising, IsPlaceOf}
+use Rattle.pps_types.specs.Rising.{AllAbove, IsRising, IsPlaceOf}
 
 module _ {X : Type 0} (number : X → ℕ) where
   above-at : (xs : List X) (n i : ℕ) (x : X) → AllAbove number n xs → i < length xs → get_or xs i x ≡ x → n < number x

@@ -5,7 +5,7 @@ use Rattle.std.proofs.lemmas.Bool.{cases_lt}
 use Rattle.std.proofs.lemmas.List.{length-drop, drop_all}
 use Rattle.pps_types.specs.History.{Entry}
 use Rattle.pps_types.specs.Owed.{is_of, rest_seen, longer, longest_rest}
-use Rattle.pps_types.proofs.Kept.{longest-length}
+use Rattle.service_laws.proofs.Kept.{longest-length}
 use Rattle.engine_targets.specs.declared.place.Place.{Place}
 use Rattle.engine_targets.specs.declared.place.Place.TheVariants.{News, Fresh, Over, Idle, At}
 use Rattle.engine_targets.specs.Readers.{Reader}

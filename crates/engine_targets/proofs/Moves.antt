@@ -13,8 +13,8 @@ use Rattle.pps_types.specs.Rests.{Seen}
 use Rattle.pps_types.specs.Plan.{offer, on_numbered, without_number}
 use Rattle.pps_types.specs.Owed.{in_chain, is_of, same_flag, rest_seen, longest}
 use Rattle.pps_types.proofs.Lists.{all-push, map-without_first}
-use Rattle.notify_box.specs.Rising.{IsRising, IsPlaceOf, IsGapFor}
-use Rattle.notify_box.proofs.Edits.{rising_remove}
+use Rattle.pps_types.specs.Rising.{IsRising, IsPlaceOf, IsGapFor}
+use Rattle.pps_types.proofs.RisingEdits.{rising_remove}
 use Rattle.engine_targets.specs.declared.place.Place.{Place}
 use Rattle.engine_targets.specs.declared.place.Place.TheVariants.{News, Fresh, Over, Idle, At}
 use Rattle.engine_targets.specs.Readers.{Reader}

@@ -11,8 +11,8 @@ use Rattle.pps_types.specs.Reading.{Open, Style, Full, Delta, Queue, style, is_f
 use Rattle.pps_types.specs.Rests.{News as SeenNews, Over as SeenOver, Owed, stand, keeps, pushed, seen_of, over_limit}
 use Rattle.pps_types.specs.Plan.{offered, offer}
 use Rattle.pps_types.specs.Owed.{same_flag, in_chain}
-use Rattle.pps_types.proofs.Offers.{visible-keeps}
-use Rattle.pps_types.proofs.Kept.{keeps-chain}
+use Rattle.service_laws.proofs.Offers.{visible-keeps}
+use Rattle.service_laws.proofs.Kept.{keeps-chain}
 use Rattle.engine_targets.specs.declared.place.Place.{Place}
 use Rattle.engine_targets.specs.declared.place.Place.TheVariants.{News, Fresh, Over, Idle, At}
 use Rattle.engine_targets.specs.Readers.{Reader}

@@ -4,7 +4,7 @@ use Rattle.pps_types.specs.History.{Entry}
 use Rattle.pps_types.specs.Reading.{Open, reseen}
 use Rattle.pps_types.specs.Rests.{Seen, News as SeenNews, Unread, Over as SeenOver, Owed}
 use Rattle.pps_types.specs.Plan.{on_numbered, caught_up, left}
-use Rattle.notify_box.specs.Rising.{IsPlaceOf}
+use Rattle.pps_types.specs.Rising.{IsPlaceOf}
 use Rattle.engine_targets.specs.declared.opening.Opening.{Opening}
 use Rattle.engine_targets.specs.declared.place.Place.{Place}
 use Rattle.engine_targets.specs.declared.place.Place.TheVariants.{News, Fresh, Over, Idle, At}

@@ -8,7 +8,7 @@ use Rattle.pps_types.specs.Reading.{Open, Style, Full, Delta, Queue, style, is_f
 use Rattle.pps_types.specs.Rests.{Seen, News as SeenNews, Unread, Over as SeenOver, Owed, stand, over_limit, seen_of}
 use Rattle.pps_types.specs.Owed.{same_flag}
 use Rattle.pps_types.specs.WellFormed.{IsWhole}
-use Rattle.notify_box.specs.Rising.{IsRising, AllAbove}
+use Rattle.pps_types.specs.Rising.{IsRising, AllAbove}
 use Rattle.engine_targets.specs.declared.place.Place.{Place}
 use Rattle.engine_targets.specs.declared.place.Place.TheVariants.{News, Fresh, Over, Idle, At}
 use Rattle.engine_targets.specs.Readers.{Reader}

@@ -1,7 +1,7 @@
 -- The handles on an object or a directory in rising number, and the gaps that closed ones leave among them.
 use Rattle.std.specs.Prelude.{◌≡◌, ℕ, zero, suc, ◌+◌, ◌*◌, ◌-◌, ◌<◌, ◌≤◌, ◌^◌, Bool, true, false, List, [], ◌∷◌, length, min, Option, Some, None, IsSome, slice_set, slice_index_or}
 use Rattle.std.specs.List.{AllByRecursion}
-use Rattle.notify_box.specs.Rising.{IsRising, IsGapFor, IsPlaceOf}
+use Rattle.pps_types.specs.Rising.{IsRising, IsGapFor, IsPlaceOf}
 use Rattle.engine_targets.specs.declared.opening.Pulse.{Pulse}
 use Rattle.engine_targets.specs.declared.row.HandleRow.{HandleRow}
 use Rattle.engine_targets.specs.declared.row.Slot.{Slot}

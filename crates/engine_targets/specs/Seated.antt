@@ -4,7 +4,7 @@ use Rattle.std.specs.List.{AllByRecursion}
 use Rattle.pps_types.specs.Reading.{Open, is_directory_kind}
 use Rattle.pps_types.specs.Rests.{Seen}
 use Rattle.pps_types.specs.WellFormed.{IsWhole}
-use Rattle.notify_box.specs.Rising.{IsRising}
+use Rattle.pps_types.specs.Rising.{IsRising}
 
 -- It is on the directory or the object of that number, and what it is owed is within its limit.
 pub record IsSeated (directory : Bool) (target : ℕ) (h : Open Seen) : Type 0 where

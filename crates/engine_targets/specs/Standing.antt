@@ -5,7 +5,7 @@ use Rattle.pps_types.specs.declared.found.Found.{Found}
 use Rattle.pps_types.specs.History.{Entry}
 use Rattle.pps_types.specs.Reading.{Open}
 use Rattle.pps_types.specs.Rests.{Seen}
-use Rattle.notify_box.specs.Rising.{IsRising}
+use Rattle.pps_types.specs.Rising.{IsRising}
 use Rattle.engine_targets.specs.Places.{IsReader}
 use Rattle.engine_targets.specs.Counts.{IsCounted, IsExact}
 use Rattle.engine_targets.specs.Readers.{Reader}

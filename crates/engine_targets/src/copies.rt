@@ -1,6 +1,6 @@
 //! Copies of what stands of a target, and whether the same stands of two.
 ghost use Rattle.std.specs.Prelude.{◌≡◌, ◌<◌, ◌^◌, ◌↔◌, map, IsTrue, IfOk, IfErr};
-ghost use Rattle.notify_box.specs.Rising.{IsRising};
+ghost use Rattle.pps_types.specs.Rising.{IsRising};
 ghost use Rattle.pps_types.specs.declared.refusal.Refusal.TheVariants.{OutOfMemory};
 ghost use Rattle.change_chain.specs.Span.{end_of};
 ghost use Rattle.engine_targets.specs.Alike.{place_from, reader_from};

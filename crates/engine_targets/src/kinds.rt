@@ -9,7 +9,7 @@ use pps_types::{Found, HandleKind, Kind};
 use server_queue::Entry;
 
 /// Whether the handle is of a directory: all of it, or its names alone.
-pub(crate) fn is_directory_kind(kind: HandleKind) -> bool
+pub fn is_directory_kind(kind: HandleKind) -> bool
     ensures { result ≡ reading.is_directory_kind kind }
 {
     matches!(kind, HandleKind::Directory { .. } | HandleKind::Names)
@@ -22,8 +22,8 @@ pub(crate) fn is_object_kind(kind: HandleKind) -> bool
     matches!(kind, HandleKind::Object { .. })
 }
 
-/// Whether it reads in full mode.
-pub(crate) fn is_full(kind: HandleKind) -> bool
+/// Whether a handle of that kind reads in full mode.
+pub fn is_full(kind: HandleKind) -> bool
     ensures { result ≡ reading.is_full_style (reading.style kind) }
 {
     matches!(
@@ -69,7 +69,7 @@ pub(crate) fn is_in_chain(of: Found, entry: &Entry) -> bool
 }
 
 /// The number of an object or a directory.
-pub(crate) fn number_of(of: Found) -> u64
+pub fn number_of(of: Found) -> u64
     ensures { result ≡ number_of of }
 {
     match of {

@@ -21,6 +21,7 @@ mod target;
 mod woken;
 
 pub use glance::Glance;
+pub use kinds::{is_directory_kind, is_full, number_of};
 pub use opening::{Opening, Pulse};
 pub use owed::Given;
 pub use row::{HandleRow, Slot};

@@ -1,7 +1,7 @@
 //! Slots in rising number: where a handle is among them, and the gaps that closed handles leave.
 ghost use Rattle.std.specs.Prelude.{◌≡◌, ◌<◌, ◌≤◌, ◌∷◌, [], true, length, filter, take, IfOk, IfErr, IfSome, IfNone, IsSome, Some, None, vec_len, vec_capacity};
 ghost use Rattle.std.specs.Option.{option_copied};
-ghost use Rattle.notify_box.specs.Rising.{IsRising, IsPlaceOf, IsGapFor};
+ghost use Rattle.pps_types.specs.Rising.{IsRising, IsPlaceOf, IsGapFor};
 ghost use Rattle.engine_targets.specs.Rows.{number_at, is_row, row_of, row_at, rows_in, on_row, with_progress, parked_with, armed_with, EndsInRow, IsAbsent, most_slots};
 ghost use Rattle.engine_targets.specs.declared.row.Slot.TheVariants.{Gap};
 

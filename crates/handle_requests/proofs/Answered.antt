@@ -11,20 +11,20 @@ use Rattle.pps_types.specs.Reading as reading
 use Rattle.pps_types.specs.Reading.{Open, is_directory_kind, Member}
 use Rattle.pps_types.specs.Rests.{Seen, is_over, answer}
 use Rattle.pps_types.specs.WellFormed.{AreRising}
-use Rattle.pps_types.specs.Content.{Content, Known, own_handle, object_numbered, attributes_of, member, members, everything, target_is_dead, read_answer}
+use Rattle.pps_types.specs.Content.{Content, LiveObject, own_handle, object_numbered, attributes_of, member, members, everything, target_is_dead, read_answer}
 use Rattle.engine_targets.specs.Opened.{handle_at, as_opened, number_of}
 use Rattle.open_handles.specs.Whole.{name_at}
-use Rattle.engine_tables.specs.Tables.{Tabled, content_in}
-use Rattle.engine_texts.specs.Whole.{Source, source_of}
-use Rattle.engine_texts.specs.Answered.{AnswersAreRead, Owes, answer_by, meant, refusal_in, wants_memory}
-use Rattle.engine_texts.specs.declared.answer.Answer.{Answer}
-use Rattle.engine_texts.specs.declared.answer.Fitted.{Fitted}
+use Rattle.service_state.specs.Tables.{Tabled, content_in}
+use Rattle.whole_texts.specs.Whole.{Source, source_of}
+use Rattle.whole_texts.specs.Answered.{AnswersAreRead, Owes, answer_by, meant, refusal_in, wants_memory}
+use Rattle.whole_texts.specs.declared.answer.Answer.{Answer}
+use Rattle.whole_texts.specs.declared.answer.Fitted.{Fitted}
 use Rattle.handle_requests.specs.declared.own.Own.{Own}
 use Rattle.handle_requests.specs.Own.{opened_as, IsOwn}
 use Rattle.handle_requests.specs.Directories.{directory_source}
 use Rattle.handle_requests.specs.Reads.{Refuses, takes_memory, IsReader}
 use Rattle.handle_requests.proofs.Owns.{own_numbered, own_known}
-use Rattle.engine_tables.proofs.Memory.{memory_or}
+use Rattle.service_state.proofs.Memory.{memory_or}
 
 -- an answer that wants memory takes it
 wanted : (a : reading.Answer) → wants_memory a ≡ true → takes_memory a ≡ true
@@ -90,7 +90,7 @@ module _ (c : Content) (o : Option (Open Seen)) (size : ℕ) (a : reading.Answer
 
 -- ---- what everything of an object is read from
 
-alive_told : (o : Option Known) → not (true && is_none o) ≡ is_some o
+alive_told : (o : Option LiveObject) → not (true && is_none o) ≡ is_some o
 alive_told None = refl
 alive_told (Some x) = refl
 
@@ -109,7 +109,7 @@ directory_source_of c h directory =
 
 module _ (t : Tabled) (next : ℕ) (rise : AreRising 0 (map (λ h. h.number) (content_in t).handles) next) (conn n : ℕ) (own : Own) (is : IsOwn t conn n own) where
   pub object_reader : own.opening.now.reads ≡ true → is_directory_kind own.opening.now.kind ≡ false → (over : Bool) → over ≡ option_map_or (λ (h : Open Seen). is_over h.seen) (handle_at n (content_in t).handles) false
-      → (known : Option Known) → known ≡ object_numbered (content_in t) (number_of own.found) → (m : Member) → m.name ≡ name_at own.found t.handles → m.lines ≡ map line_of (option_map_or (λ (o : Known). o.attributes) known [])
+      → (known : Option LiveObject) → known ≡ object_numbered (content_in t) (number_of own.found) → (m : Member) → m.name ≡ name_at own.found t.handles → m.lines ≡ map line_of (option_map_or (λ (o : LiveObject). o.attributes) known [])
       → (w : Source) → w ≡ record { kind = own.opening.now.kind; parts = own.opening.now.filter; over = over; alive = is_some known; members = m ∷ [] }
       → IfSome (own_handle (content_in t) conn n) (IsReader (content_in t) own.opening.now.wait w)
   object_reader reads plain over over-is known known-is m name lines w w-is =
@@ -148,7 +148,7 @@ module _ (t : Tabled) (next : ℕ) (rise : AreRising 0 (map (λ h. h.number) (co
       name-told = name ∙ sym (ap (λ (x : Open (Unit {0})). x.name) same)
 
       lines-told : m.lines ≡ map line_of (attributes_of (content_in t) h.target)
-      lines-told = lines ∙ ap (λ o. map line_of (option_map_or (λ (o : Known). o.attributes) o [])) known-told
+      lines-told = lines ∙ ap (λ o. map line_of (option_map_or (λ (o : LiveObject). o.attributes) o [])) known-told
 
       filter-told : own.opening.now.filter ≡ h.filter
       filter-told = sym (ap (λ (x : Open (Unit {0})). x.filter) same)
@@ -159,7 +159,7 @@ module _ (t : Tabled) (next : ℕ) (rise : AreRising 0 (map (λ h. h.number) (co
       alike = λ i. record { kind = sym kind-is i; parts = filter-told i; over = over-told i; alive = is_some (known-told i); members = record { name = name-told i; lines = lines-told i } ∷ [] }
 
   pub directory_reader : own.opening.now.reads ≡ true → is_directory_kind own.opening.now.kind ≡ true → (over : Bool) → over ≡ option_map_or (λ (h : Open Seen). is_over h.seen) (handle_at n (content_in t).handles) false
-      → (os : List (Option Known)) → filter_map (λ o. o) os ≡ members (content_in t) (number_of own.found)
+      → (os : List (Option LiveObject)) → filter_map (λ o. o) os ≡ members (content_in t) (number_of own.found)
       → IfSome (own_handle (content_in t) conn n) (IsReader (content_in t) own.opening.now.wait (directory_source own.opening.now.kind own.opening.now.filter over os))
   directory_reader reads directory over over-is os lent =
       let known = own_known (own_handle (content_in t) conn n) (opened_as t own) is in

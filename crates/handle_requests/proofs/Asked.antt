@@ -15,20 +15,20 @@ use Rattle.pps_types.specs.Outbox.{park_refusal}
 use Rattle.pps_types.specs.Content.{Content, own_handle, outbox_of, read_answer}
 use Rattle.pps_types.specs.Checks.{Check, Refuse, Memory, first_refusal, reaches_memory, refused, request_checks, answer_checks}
 use Rattle.pps_types.specs.Plan.{effect, read_effect}
-use Rattle.engine_texts.specs.Answered.{refusal_in, meant, moves_of}
-use Rattle.engine_texts.specs.declared.answer.Answer.{Answer}
-use Rattle.engine_texts.specs.declared.answer.Answer.TheVariants.{Everything, Blocks, Waits, Nothing}
-use Rattle.engine_texts.specs.declared.answer.Effect.{Effect}
-use Rattle.engine_texts.specs.declared.answer.Effect.TheVariants.{Parks}
-use Rattle.content_bounds.specs.Bounds.{IsBound}
-use Rattle.content_bounds.proofs.Effects.{bound-handle}
-use Rattle.content_bounds.proofs.Replies.{IsSmallNeed, small-read}
-use Rattle.engine_tables.specs.Refused.{Fails}
+use Rattle.whole_texts.specs.Answered.{refusal_in, meant, moves_of}
+use Rattle.whole_texts.specs.declared.answer.Answer.{Answer}
+use Rattle.whole_texts.specs.declared.answer.Answer.TheVariants.{Everything, Blocks, Waits, Nothing}
+use Rattle.whole_texts.specs.declared.answer.Effect.{Effect}
+use Rattle.whole_texts.specs.declared.answer.Effect.TheVariants.{Parks}
+use Rattle.service_laws.specs.Bounds.{IsBound}
+use Rattle.service_laws.proofs.BoundedEffects.{bound-handle}
+use Rattle.service_laws.proofs.BoundedReplies.{IsSmallNeed, small-read}
+use Rattle.service_state.specs.Refused.{Fails}
 use Rattle.handle_requests.specs.Reads.{Refuses, is_too_long, text_in, waits, IsRead, IsAnswered}
 use Rattle.engine_targets.specs.Opened.{as_opened}
 use Rattle.handle_requests.specs.declared.reading.ReadDone.{ReadDone}
 use Rattle.handle_requests.proofs.Owns.{own_is, own_known}
-use Rattle.engine_tables.proofs.Memory.{memory_or}
+use Rattle.service_state.proofs.Memory.{memory_or}
 
 -- the checks, by what they look at
 abbrev read_by : Bool → Bool → Bool → List Check → List Check

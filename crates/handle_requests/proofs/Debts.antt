@@ -9,10 +9,10 @@ use Rattle.pps_types.specs.Rests.{Seen, News, Unread, Over, Owed, answer, news_i
 use Rattle.pps_types.specs.Owed.{owed_in_seen}
 use Rattle.server_queue.specs.Reads.{needed}
 use Rattle.engine_targets.specs.Blocks.{owed_blocks, refused_for, first_len}
-use Rattle.engine_texts.specs.Answered.{Owes, refusal_in}
-use Rattle.engine_texts.specs.declared.answer.Fitted.{Fitted}
+use Rattle.whole_texts.specs.Answered.{Owes, refusal_in}
+use Rattle.whole_texts.specs.declared.answer.Fitted.{Fitted}
 use Rattle.handle_requests.specs.Reads.{Refuses, is_given_all}
-use Rattle.engine_tables.proofs.Memory.{memory_or}
+use Rattle.service_state.proofs.Memory.{memory_or}
 
 long_or : (k n : ℕ) → (n < k → ⊥) → nat_le k n ≡ true
 long_or k n short = by (nat_le k n) refl

@@ -9,9 +9,9 @@ use Rattle.pps_types.specs.Content.{news}
 use Rattle.pps_types.specs.WellFormed.{AreRising}
 use Rattle.engine_targets.specs.Opened.{as_opened, handle_at, number_of}
 use Rattle.engine_targets.specs.Glances.{Glanced, glanced, glance_on}
-use Rattle.engine_seats.specs.Seated.{handles_of, name_of}
+use Rattle.engine_servers.specs.Seated.{handles_of, name_of}
 use Rattle.open_handles.specs.Whole.{Whole, handles_in, name_at}
-use Rattle.engine_tables.specs.Tables.{Tabled}
+use Rattle.service_state.specs.Tables.{Tabled}
 use Rattle.handle_requests.specs.declared.own.Asked.{Asked}
 use Rattle.handle_requests.specs.Asked.{IsAsked}
 use Rattle.handle_requests.proofs.Owns.{own_among, own_parked, own_news}

@@ -6,3 +6,12 @@ pub mod Answered
 pub mod Asked
 pub mod Parts
 pub mod Glances
+pub mod Orphans
+pub mod Begins
+pub mod Plans
+pub mod Readied
+pub mod Backlogs
+pub mod Refusals
+pub mod Drafts
+pub mod Texts
+pub mod Writers

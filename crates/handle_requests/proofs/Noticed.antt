@@ -16,9 +16,9 @@ use Rattle.engine_targets.specs.Opened.{armed_pulse}
 use Rattle.engine_targets.specs.declared.opening.Pulse.{Pulse}
 use Rattle.handle_requests.specs.declared.notices.Notified.{Notified}
 use Rattle.handle_requests.specs.Notices.{notify_of, notice_of, IsNoticed}
-use Rattle.engine_tables.specs.Refused.{Fails}
+use Rattle.service_state.specs.Refused.{Fails}
 use Rattle.handle_requests.proofs.Owns.{own_is}
-use Rattle.engine_tables.proofs.Memory.{memory_or}
+use Rattle.service_state.proofs.Memory.{memory_or}
 
 -- the checks, by what they look at
 abbrev asked_by : Bool → Bool → Bool → Option Refusal → List Check

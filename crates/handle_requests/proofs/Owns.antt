@@ -7,9 +7,9 @@ use Rattle.std.proofs.lemmas.Bool.{eqb-true}
 use Rattle.pps_types.specs.Reading.{Open}
 use Rattle.pps_types.specs.Rests.{Seen}
 use Rattle.pps_types.specs.WellFormed.{AreRising}
-use Rattle.pps_types.proofs.Finds.{and-both}
+use Rattle.service_laws.proofs.Finds.{and-both}
 use Rattle.engine_targets.specs.Opened.{handle_at, as_opened}
-use Rattle.connection_laws.proofs.Lists.{passes, found-both, found-more}
+use Rattle.notify_box.proofs.ConnectionLists.{passes, found-both, found-more}
 
 -- the own handle among these
 abbrev pub own_among : List (Open Seen) → ℕ → ℕ → Option (Open Seen)

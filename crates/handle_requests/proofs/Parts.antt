@@ -6,8 +6,8 @@ use Rattle.pps_types.specs.declared.handle_kind.HandleKind.{HandleKind}
 use Rattle.pps_types.specs.declared.handle_kind.HandleKind.TheVariants.{Object as ObjectHandle, Directory as DirectoryHandle, Names as NamesHandle, Server as ServerHandle, Client as ClientHandle}
 use Rattle.pps_types.specs.Filter.{Part}
 use Rattle.pps_types.specs.Reading.{Member, is_directory_kind}
-use Rattle.pps_types.specs.Content.{Known, member}
-use Rattle.engine_texts.specs.Whole.{everything, print_one, print_opening}
+use Rattle.pps_types.specs.Content.{LiveObject, member}
+use Rattle.whole_texts.specs.Whole.{everything, print_one, print_opening}
 use Rattle.handle_requests.specs.Directories.{parts_of, directory_source}
 
 module _ {X : Type 0} where
@@ -38,13 +38,13 @@ no_part NamesHandle is parts over = append-nil (print_opening NamesHandle over)
 no_part ServerHandle is parts over = absurd (let no = is in cc)
 no_part ClientHandle is parts over = absurd (let no = is in cc)
 
-printed : (kind : HandleKind) (parts : Option (List Part)) (os : List (Option Known)) → concat (map (print_one kind parts false true) (map member (filter_map (λ o. o) os))) ≡ parts_of kind parts os
+printed : (kind : HandleKind) (parts : Option (List Part)) (os : List (Option LiveObject)) → concat (map (print_one kind parts false true) (map member (filter_map (λ o. o) os))) ≡ parts_of kind parts os
 printed kind parts [] = refl
 printed kind parts (None ∷ os) = printed kind parts os
 printed kind parts (Some o ∷ os) = ap (λ text. print_one kind parts false true (member o) ++ text) (printed kind parts os)
 
 -- of all
-pub all_parts : (kind : HandleKind) → is_directory_kind kind ≡ true → (parts : Option (List Part)) (over : Bool) (os : List (Option Known))
+pub all_parts : (kind : HandleKind) → is_directory_kind kind ≡ true → (parts : Option (List Part)) (over : Bool) (os : List (Option LiveObject))
     → everything (directory_source kind parts over os) ≡ print_opening kind over ++ parts_of kind parts os
 all_parts (ObjectHandle delta) is parts over os = absurd (let no = is in cc)
 all_parts (DirectoryHandle delta) is parts over os = ap (λ text. print_opening (DirectoryHandle delta) over ++ text) (printed (DirectoryHandle delta) parts os)
@@ -53,22 +53,22 @@ all_parts ServerHandle is parts over os = absurd (let no = is in cc)
 all_parts ClientHandle is parts over os = absurd (let no = is in cc)
 
 -- how long that is
-pub all_length : (kind : HandleKind) → is_directory_kind kind ≡ true → (parts : Option (List Part)) (over : Bool) (os : List (Option Known))
+pub all_length : (kind : HandleKind) → is_directory_kind kind ≡ true → (parts : Option (List Part)) (over : Bool) (os : List (Option LiveObject))
     → length (everything (directory_source kind parts over os)) ≡ length (print_opening kind over) + length (parts_of kind parts os)
 all_length kind is parts over os = ap length (all_parts kind is parts over os) ∙ length-append (print_opening kind over) (parts_of kind parts os)
 
-module _ (kind : HandleKind) (parts : Option (List Part)) (os : List (Option Known)) (i : ℕ) where
+module _ (kind : HandleKind) (parts : Option (List Part)) (os : List (Option LiveObject)) (i : ℕ) where
   -- what stands from a place on has the part of the object there
-  pub part_some : (o : Known) → slice_get os i ≡ Some (Some o)
+  pub part_some : (o : LiveObject) → slice_get os i ≡ Some (Some o)
       → length (parts_of kind parts (drop i os)) ≡ length (print_one kind parts false true (member o)) + length (parts_of kind parts (drop (i + 1) os))
   part_some o e = ap (λ l. length (parts_of kind parts l)) (from_place os i (Some o) e) ∙ length-append (print_one kind parts false true (member o)) (parts_of kind parts (drop (i + 1) os))
 
   pub part_none : slice_get os i ≡ Some None → length (parts_of kind parts (drop i os)) ≡ length (parts_of kind parts (drop (i + 1) os))
   part_none e = ap (λ l. length (parts_of kind parts l)) (from_place os i None e)
 
-module _ (os : List (Option Known)) (i : ℕ) where
+module _ (os : List (Option LiveObject)) (i : ℕ) where
   -- and the object there as a member
-  pub member_some : (o : Known) → slice_get os i ≡ Some (Some o) → map member (filter_map (λ o. o) (drop i os)) ≡ member o ∷ map member (filter_map (λ o. o) (drop (i + 1) os))
+  pub member_some : (o : LiveObject) → slice_get os i ≡ Some (Some o) → map member (filter_map (λ o. o) (drop i os)) ≡ member o ∷ map member (filter_map (λ o. o) (drop (i + 1) os))
   member_some o e = ap (λ l. map member (filter_map (λ o. o) l)) (from_place os i (Some o) e)
 
   pub member_none : slice_get os i ≡ Some None → map member (filter_map (λ o. o) (drop i os)) ≡ map member (filter_map (λ o. o) (drop (i + 1) os))

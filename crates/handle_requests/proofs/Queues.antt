@@ -7,11 +7,11 @@ use Rattle.pps_types.specs.declared.event.Request.TheVariants.{Receive}
 use Rattle.pps_types.specs.Outbox.{empty_outbox, first_of}
 use Rattle.pps_types.specs.Content.{Content, Connection, connection_numbered, queue_of}
 use Rattle.pps_types.specs.Plan.{effect, received}
-use Rattle.engine_connections.specs.Standing.{Standing, standing_in, outbox_of}
-use Rattle.connection_laws.specs.Connections.{standing_of}
-use Rattle.connection_laws.specs.Laws.{ConnectionsAreFound}
-use Rattle.connection_laws.proofs.Lists.{passes}
-use Rattle.engine_tables.specs.Tables.{Tabled, content_in, AreTied}
+use Rattle.notify_box.specs.Standing.{Standing, standing_in, outbox_of}
+use Rattle.notify_box.specs.Connections.{standing_of}
+use Rattle.notify_box.specs.ConnectionLaws.{ConnectionsAreFound}
+use Rattle.notify_box.proofs.ConnectionLists.{passes}
+use Rattle.service_state.specs.Tables.{Tabled, content_in, AreTied}
 
 pub queue_found : ConnectionsAreFound → (t : Tabled) → AreTied t → (conn : ℕ) → (outbox_of conn (standing_in t.connections)).items ≡ queue_of (content_in t) conn
 queue_found found t tied conn =

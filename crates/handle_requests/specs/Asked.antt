@@ -6,9 +6,9 @@ use Rattle.pps_types.specs.Rests.{Seen, is_over}
 use Rattle.pps_types.specs.Owed.{owed_in_seen}
 use Rattle.pps_types.specs.Content.{own_handle, news as has_news}
 use Rattle.engine_targets.specs.Opened.{handle_at}
-use Rattle.engine_seats.specs.Seated.{handles_of, name_of}
+use Rattle.engine_servers.specs.Seated.{handles_of, name_of}
 use Rattle.open_handles.specs.Whole.{handles_in, name_at}
-use Rattle.engine_tables.specs.Tables.{Tabled, content_in}
+use Rattle.service_state.specs.Tables.{Tabled, content_in}
 use Rattle.handle_requests.specs.declared.own.Asked.{Asked}
 
 -- It is of the open handle of that number. Where that is the connection's, news says whether it has news, and parked whether a

@@ -3,3 +3,9 @@ pub mod Asked
 pub mod Notices
 pub mod Reads
 pub mod Directories
+pub mod Told
+pub mod Begun
+pub mod Closed
+pub mod Addressed
+pub mod Backlogs
+pub mod Writes

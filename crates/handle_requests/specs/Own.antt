@@ -4,7 +4,7 @@ use Rattle.pps_types.specs.Reading.{Open}
 use Rattle.pps_types.specs.Content.{own_handle}
 use Rattle.engine_targets.specs.Opened.{opened, as_opened, number_of}
 use Rattle.open_handles.specs.Whole.{name_at}
-use Rattle.engine_tables.specs.Tables.{Tabled, content_in}
+use Rattle.service_state.specs.Tables.{Tabled, content_in}
 use Rattle.handle_requests.specs.declared.own.Own.{Own}
 
 -- what its open fixed, on what it is on

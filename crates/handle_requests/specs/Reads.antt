@@ -7,8 +7,8 @@ use Rattle.pps_types.specs.Reading.{Open, Answer, Everything, Blocks, Needs, Wai
 use Rattle.pps_types.specs.Rests.{Seen}
 use Rattle.pps_types.specs.Owed.{owed_in_seen}
 use Rattle.pps_types.specs.Content.{Content, own_handle, read_answer, news}
-use Rattle.engine_texts.specs.Answered.{refusal_in}
-use Rattle.engine_texts.specs.Whole.{Source, source_of}
+use Rattle.whole_texts.specs.Answered.{refusal_in}
+use Rattle.whole_texts.specs.Whole.{Source, source_of}
 
 -- the size that an answer needs is no number of 32 bits
 abbrev pub is_too_long : Answer → Bool

@@ -6,17 +6,17 @@ ghost use Rattle.pps_types.specs.Names.{refusal_of};
 ghost use Rattle.pps_types.specs.Reading as reading;
 ghost use Rattle.pps_types.specs.Content.{member};
 ghost use Rattle.pps_types.specs.declared.refusal.Refusal.TheVariants.{OutOfMemory};
-ghost use Rattle.engine_names.specs.Standing.{known_of};
-ghost use Rattle.engine_texts.specs.Whole.{everything, print_one, print_opening};
-ghost use Rattle.engine_texts.specs.Answered.{answer_by, meant, refusal_in};
+ghost use Rattle.name_table.specs.Standing.{known_of};
+ghost use Rattle.whole_texts.specs.Whole.{everything, print_one, print_opening};
+ghost use Rattle.whole_texts.specs.Answered.{answer_by, meant, refusal_in};
 ghost use Rattle.handle_requests.specs.Directories.{parts_of, directory_source};
 ghost use Rattle.handle_requests.specs.Reads.{takes_memory};
 
-use engine_names::{NamedObject, Objects};
-use engine_texts::{Answer, Fitted, Member, Whole, read_answer, too_small};
+use name_table::{NamedObject, Objects};
 use pps_filter::Filter;
 use pps_types::{HandleKind, Refusal};
 use std::alloc::{AllocError, Global};
+use whole_texts::{Answer, Fitted, Member, Whole, read_answer, too_small};
 
 // An alive object.
 fn member_of(object: &NamedObject) -> Member<'_>

@@ -1,16 +1,30 @@
-//! What is asked of one connection or of one of its handles: how it is checked, what it answers, and the memory that it
-//! takes ahead. Nothing that stands changes yet.
+//! What is asked of one connection or of one of its handles, as Attach, Detach, Read, Notify, Receive, Write and Close:
+//! how it is checked, what it answers, and the memory that it takes ahead. Nothing changes yet.
 #![tactic(auto)]
 
+mod address;
+mod backlog;
+mod closes;
 mod directories;
+mod draft;
+mod gathering;
+mod message;
 mod notices;
 mod outboxes;
 mod owed;
 mod own;
 mod reading;
+mod ready;
+mod room;
 mod sources;
+mod told;
+mod writer;
+mod writing;
 
+pub use closes::{Closing, close, detach};
+pub use gathering::{entries_in, tell};
 pub use notices::{Notified, notify};
 pub use outboxes::{attach, receive};
-pub use own::{Own, own_handle};
 pub use reading::{ReadDone, read};
+pub use room::{begin_ready, numbers_are_within};
+pub use writing::{Written, write};

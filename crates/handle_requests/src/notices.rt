@@ -8,16 +8,16 @@ ghost use Rattle.pps_types.specs.Checks as checking;
 ghost use Rattle.pps_types.specs.Plan as planning;
 ghost use Rattle.pps_types.specs.Outbox.{arms};
 ghost use Rattle.engine_targets.specs.Opened.{armed_pulse};
-ghost use Rattle.connection_laws.specs.Connections.{AreOwned};
-ghost use Rattle.engine_connections.specs.Standing.{CanArm};
-ghost use Rattle.engine_tables.specs.Tables.{content_in};
-ghost use Rattle.engine_tables.specs.Refused.{Fails};
+ghost use Rattle.notify_box.specs.Connections.{AreOwned};
+ghost use Rattle.notify_box.specs.Standing.{CanArm};
+ghost use Rattle.service_state.specs.Tables.{content_in};
+ghost use Rattle.service_state.specs.Refused.{Fails};
 ghost use Rattle.handle_requests.specs.Notices.{notify_of, notice_of, IsNoticed};
 
 use crate::own::own_asked;
-use engine_tables::Tables;
 use engine_targets::Pulse;
 use pps_types::{Action, Conn, Handle, Refusal};
+use service_state::Tables;
 
 /// The highest code of a pulse.
 const LAST_CODE: u8 = 127;

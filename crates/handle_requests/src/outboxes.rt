@@ -6,13 +6,12 @@ ghost use Rattle.pps_types.specs.Content as content;
 ghost use Rattle.pps_types.specs.Checks as checking;
 ghost use Rattle.pps_types.specs.Plan as planning;
 ghost use Rattle.pps_types.specs.Outbox.{empty_outbox, first_of};
-ghost use Rattle.engine_tables.specs.Tables.{content_in};
-ghost use Rattle.engine_tables.specs.Refused.{Fails};
+ghost use Rattle.service_state.specs.Tables.{content_in};
+ghost use Rattle.service_state.specs.Refused.{Fails};
 
-use connection_laws::connections_are_found;
-use engine_tables::Tables;
-use notify_box::Outbox;
+use notify_box::{Outbox, connections_are_found};
 use pps_types::{Conn, Item, Outcome, Refusal};
+use service_state::Tables;
 use std::alloc::Global;
 
 // Whether it is a number that a connection may have.

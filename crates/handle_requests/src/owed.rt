@@ -6,15 +6,15 @@ ghost use Rattle.pps_types.specs.Rests as rests;
 ghost use Rattle.pps_types.specs.Content as content;
 ghost use Rattle.pps_types.specs.Owed.{owed_in_seen};
 ghost use Rattle.engine_targets.specs.Opened.{handle_at};
-ghost use Rattle.engine_seats.specs.Seated.{handles_of};
-ghost use Rattle.engine_texts.specs.Answered.{Owes};
+ghost use Rattle.engine_servers.specs.Seated.{handles_of};
+ghost use Rattle.whole_texts.specs.Answered.{Owes};
 ghost use Rattle.handle_requests.specs.Reads.{Refuses};
 
 use crate::own::Asked;
 use engine_targets::Glance;
-use engine_texts::Fitted;
 use pps_types::{Handle, Refusal};
 use std::alloc::Global;
+use whole_texts::Fitted;
 
 // Whether a read of a reading handle gives everything.
 fn is_given_all(glance: &Glance<'_>) -> bool

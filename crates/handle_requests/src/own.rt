@@ -4,16 +4,16 @@ ghost use Rattle.pps_types.specs.Content as content;
 ghost use Rattle.std.specs.Option.{option_copied};
 ghost use Rattle.pps_types.specs.Reading as reading;
 ghost use Rattle.engine_targets.specs.Opened.{as_opened, number_of};
-ghost use Rattle.engine_tables.specs.Tables.{content_in};
+ghost use Rattle.service_state.specs.Tables.{content_in};
 ghost use Rattle.handle_requests.specs.declared.own.Asked.{Asked as AskedOf};
 ghost use Rattle.handle_requests.specs.Own.{opened_as};
 ghost use Rattle.handle_requests.specs.Asked.{IsAsked};
 
-use engine_seats::Seats;
-use engine_tables::Tables;
-use engine_targets::{Glance, Opening};
+use engine_servers::Seats;
+use engine_targets::{Glance, Opening, is_directory_kind, number_of};
 use pps_filter::Filter;
 use pps_types::{Conn, Found, Handle, HandleKind};
+use service_state::Tables;
 
 /// An open handle of a connection: the object or the directory that it is on, and what its open fixed.
 #[derive(Drop)]
@@ -41,20 +41,14 @@ impl<'a> Own<'a> {
     pub fn target(&self) -> u64
         ensures { result ≡ number_of self.now.found }
     {
-        match self.found {
-            Found::Object(object) => object.number(),
-            Found::Directory(directory) => directory.number(),
-        }
+        number_of(self.found)
     }
 
     /// Whether it reads a directory.
     pub fn is_on_directory(&self) -> bool
         ensures { result ≡ reading.is_directory_kind self.now.opening.now.kind }
     {
-        matches!(
-            self.opening.kind,
-            HandleKind::Directory { .. } | HandleKind::Names
-        )
+        is_directory_kind(self.opening.kind)
     }
 
     /// Which lines it is given. Without it, all.

@@ -8,23 +8,23 @@ ghost use Rattle.pps_types.specs.Rests as rests;
 ghost use Rattle.pps_types.specs.Content as content;
 ghost use Rattle.pps_types.specs.Checks as checking;
 ghost use Rattle.pps_types.specs.Plan as planning;
-ghost use Rattle.content_bounds.specs.Bounds.{IsBound};
-ghost use Rattle.connection_laws.specs.Connections.{AreOwned};
-ghost use Rattle.engine_connections.specs.Standing.{CanPark};
-ghost use Rattle.engine_texts.specs.Answered.{meant, moves_of};
-ghost use Rattle.engine_texts.specs.declared.answer.Effect.TheVariants.{Parks};
-ghost use Rattle.engine_tables.specs.Tables.{content_in};
+ghost use Rattle.service_laws.specs.Bounds.{IsBound};
+ghost use Rattle.notify_box.specs.Connections.{AreOwned};
+ghost use Rattle.notify_box.specs.Standing.{CanPark};
+ghost use Rattle.whole_texts.specs.Answered.{meant, moves_of};
+ghost use Rattle.whole_texts.specs.declared.answer.Effect.TheVariants.{Parks};
+ghost use Rattle.service_state.specs.Tables.{content_in};
 ghost use Rattle.handle_requests.specs.Own.{IsOwn};
 ghost use Rattle.handle_requests.specs.Asked.{IsAsked};
-ghost use Rattle.engine_tables.specs.Refused.{Fails};
+ghost use Rattle.service_state.specs.Refused.{Fails};
 ghost use Rattle.handle_requests.specs.Reads.{IsAnswered, text_in, waits};
 
 use crate::own::{Asked, own_asked};
 use crate::sources::{answer_of_directory, answer_of_object};
-use engine_tables::Tables;
-use engine_texts::{Answer, Effect};
 use pps_types::{Conn, Handle, Outcome, Refusal, SharedBytes};
+use service_state::Tables;
 use std::alloc::Global;
+use whole_texts::{Answer, Effect};
 
 /// The most bytes that a read may ask for.
 const READ_LIMIT: u32 = 17_000_000;

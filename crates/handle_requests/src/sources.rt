@@ -4,9 +4,9 @@ ghost use Rattle.std.specs.Option.{option_copied, option_map_or};
 ghost use Rattle.pps_types.specs.History.{line_of};
 ghost use Rattle.pps_types.specs.Reading as reading;
 ghost use Rattle.pps_types.specs.Content as content;
-ghost use Rattle.engine_names.specs.Standing.{known_of};
-ghost use Rattle.engine_texts.specs.Answered.{meant};
-ghost use Rattle.engine_tables.specs.Tables.{content_in};
+ghost use Rattle.name_table.specs.Standing.{known_of};
+ghost use Rattle.whole_texts.specs.Answered.{meant};
+ghost use Rattle.service_state.specs.Tables.{content_in};
 ghost use Rattle.handle_requests.specs.Own.{IsOwn};
 ghost use Rattle.handle_requests.specs.Asked.{IsAsked};
 ghost use Rattle.handle_requests.specs.Reads.{Refuses, IsReader};
@@ -14,16 +14,16 @@ ghost use Rattle.handle_requests.specs.Reads.{Refuses, IsReader};
 use crate::directories::answer_of;
 use crate::owed::owed_to;
 use crate::own::Asked;
-use engine_names::NamedObject;
-use engine_tables::Tables;
-use engine_texts::{Answer, Member, Whole, answers_are_read, read_answer};
+use name_table::NamedObject;
 use pps_types::{Conn, DirId, Handle, ObjId, Refusal};
+use service_state::Tables;
 use std::alloc::Global;
+use whole_texts::{Answer, Member, Whole, answers_are_read, read_answer};
 
 // An object under a name, alive or deleted.
 fn member_of<'a>(name: &'a [u8], known: Option<&'a NamedObject>) -> Member<'a>
     ensures name { result.name ≡ name.now }
-    ensures lines { result.lines ≡ map line_of (option_map_or (λ (o : content.Known). o.attributes) (option_map known_of (option_copied known.entry)) []) }
+    ensures lines { result.lines ≡ map line_of (option_map_or (λ (o : content.LiveObject). o.attributes) (option_map known_of (option_copied known.entry)) []) }
 {
     match known {
         Some(object) => Member::alive(name, object.attributes()),

@@ -13,10 +13,10 @@ use Rattle.pps_types.specs.declared.refusal.Refusal.{Refusal}
 use Rattle.pps_types.specs.Bytes.{is_empty, ◌>>=◌}
 use Rattle.pps_types.specs.Text.{print_lines}
 use Rattle.pps_types.specs.Names.{Path, same_path, parent, last_name, path_cmp, name_cmp, beyond, place, new_refusal, refusal_of}
-use Rattle.pps_types.specs.Content.{Directory, Known, Content, at, directory_at, object_at, members, subdirectories}
+use Rattle.pps_types.specs.Content.{Directory, LiveObject, Content, at, directory_at, object_at, members, subdirectories}
 use Rattle.pps_types.specs.Checks.{Check, Refuse, Memory, first_refusal, refused, object_checks, objects_beside, mkdir_checks}
 use Rattle.pps_types.specs.Plan.{Move, MakesDirectory, Creates, apply_all_seen, passes_last_number}
-use Rattle.pps_types.specs.Machine.{start, shown}
+use Rattle.pps_types.specs.Machine.{start, content_of}
 use Rattle.pps_types.specs.Image.{directory_path, saved_object, Image, Saved, SavedDirectory, SavedObject, SavedLine, path_of, same_sort, are_beside, has_parent, may_follow, saved, restored_object, started_seen, is_directory_entry, is_kept, as_line, restored_seen}
 use Rattle.pps_types.specs.Restore.{decided, with_numbers, restore_directory, restore_object, restore_line}
 use Rattle.pps_types.proofs.Lists.{fold-push}
@@ -24,8 +24,8 @@ use Rattle.image_laws.specs.Images.{is_new, is_saved_line, IsSavedPath}
 use Rattle.image_laws.proofs.Good.{IsEntry, AreEntries, IsGood}
 use Rattle.image_laws.proofs.Entries.{follow-parts}
 use Rattle.image_laws.proofs.Sorting.{any-sorted}
-use Rattle.image_laws.proofs.Started.{Held, content_of, nothing, restored_held, held_by, directories_of, objects_of, home-of, parent-last, restored-one, started-held}
-use Rattle.pps_types.proofs.Passes.{behind as first-passes}
+use Rattle.image_laws.proofs.Started.{Held, held_content, nothing, restored_held, held_by, directories_of, objects_of, home-of, parent-last, restored-one, started-held}
+use Rattle.service_laws.proofs.Passes.{behind as first-passes}
 use Rattle.image_laws.proofs.Saving.{parent-among, none-objects, none-directories, count-directories, count-objects, any-objects, all-pass, root-is, beside-home}
 use Rattle.image_laws.proofs.Restoring.{IsFine, fine-content, started-fine, count-saved}
 use Rattle.image_laws.proofs.Calls.{Leads, IsSmall, small-next, call-directory, call-creation, object-line-decides, length-sorted}
@@ -59,7 +59,7 @@ at-directory c p n e = by (directory_at c p) refl (object_at c p) e
         go true h rec = refl
         go false h rec = rec h
 
-    by : (o : Option Directory) → directory_at c p ≡ o → (k : Option Known) → Rattle.std.specs.Option.option_or (Rattle.std.specs.Prelude.option_map (λ (d : Directory). FoundDirectory d.number) o) (Rattle.std.specs.Prelude.option_map (λ (k : Known). FoundObject k.object.number) k) ≡ Some (FoundDirectory n) → Leads c p
+    by : (o : Option Directory) → directory_at c p ≡ o → (k : Option LiveObject) → Rattle.std.specs.Option.option_or (Rattle.std.specs.Prelude.option_map (λ (d : Directory). FoundDirectory d.number) o) (Rattle.std.specs.Prelude.option_map (λ (k : LiveObject). FoundObject k.object.number) k) ≡ Some (FoundDirectory n) → Leads c p
     by None is None e = absurd cc
     by None is (Some k) e = absurd cc
     by (Some d) is k e = found-any c.directories (ap is_some is)
@@ -85,9 +85,9 @@ new-leads c n ns h = by (place (at c) (n ∷ ns)) refl h
 
 -- ---- the parts of may_follow
 
-parent-in : (d : ℕ) (h : Held) (before : List Saved) (e : Saved) → saved (content_of d h) ≡ before → Leads (content_of d h) (parent (path_of e)) → has_parent before e ≡ true
+parent-in : (d : ℕ) (h : Held) (before : List Saved) (e : Saved) → saved (held_content d h) ≡ before → Leads (held_content d h) (parent (path_of e)) → has_parent before e ≡ true
 parent-in d h before e is leads =
-    let c = content_of d h in
+    let c = held_content d h in
     let test = λ (x : Saved). is_directory_entry x && same_path (path_of x) (parent (path_of e)) in
     ap (λ es. is_empty (parent (path_of e)) || list_any test es) (sym is)
     ∙ ap (λ t. is_empty (parent (path_of e)) || t) (any-sorted path_cmp path_of test (directories_of h.directories ++ objects_of c))
@@ -108,11 +108,11 @@ together before e some behind has beside all =
     and_from _ _ (and_from _ _ (and_from _ _ (and_from _ _ (ap not some) behind) has) (less-true _ 256 beside)) (less-true _ 65535 all)
 
 follows-directory : (d : ℕ) (h : Held) (before : List Saved) (n : List ℕ) (ns : Path) → IsFine d h before → list_all (λ x. is_lt (path_cmp (path_of x) (n ∷ ns))) before ≡ true
-    → is_ok (restore_directory (content_of d h) (n ∷ ns)) ≡ true → may_follow before (SavedDirectory (n ∷ ns)) ≡ true
+    → is_ok (restore_directory (held_content d h) (n ∷ ns)) ≡ true → may_follow before (SavedDirectory (n ∷ ns)) ≡ true
 follows-directory d h before n ns fine behind ok =
     let path = n ∷ ns in
     let e = SavedDirectory path in
-    let c = content_of d h in
+    let c = held_content d h in
     let none = front-passes (mkdir_checks c path) (Refuse (passes_last_number (apply_all_seen (MakesDirectory path ∷ []) c)) Refusal.TableFull ∷ []) (decided-ok c (MakesDirectory path ∷ []) (first_refusal (with_numbers c (MakesDirectory path ∷ []) (mkdir_checks c path))) ok) in
     let one = known-passes (new_refusal (at c) path) (Refuse (nat_le 256 (length (subdirectories c (parent path)))) Refusal.TableFull ∷ Refuse (nat_lt 65535 (length h.directories)) Refusal.TableFull ∷ []) none in
     let two = first-passes (nat_le 256 (length (subdirectories c (parent path)))) Refusal.TableFull (Refuse (nat_lt 65535 (length h.directories)) Refusal.TableFull ∷ []) one.1 in
@@ -129,13 +129,13 @@ follows-directory d h before n ns fine behind ok =
     together before e refl behind (parent-in d h before e fine.saves (new-leads c n ns one.0)) (omega arith) (omega arith)
 
 follows-object : (d : ℕ) (h : Held) (before : List Saved) (n : List ℕ) (ns : Path) → IsFine d h before → list_all (λ x. is_lt (path_cmp (path_of x) (n ∷ ns))) before ≡ true
-    → is_ok (restore_object (content_of d h) (n ∷ ns)) ≡ true → may_follow before (SavedObject (n ∷ ns) []) ≡ true
+    → is_ok (restore_object (held_content d h) (n ∷ ns)) ≡ true → may_follow before (SavedObject (n ∷ ns) []) ≡ true
 follows-object d h before n ns fine behind ok =
     let path = n ∷ ns in
     let e = SavedObject path [] in
-    let c = content_of d h in
+    let c = held_content d h in
     let o = restored_object c path in
-    let k : Known = record { object = o; attributes = [] } in
+    let k : LiveObject = record { object = o; attributes = [] } in
     let none = front-passes (refused (new_refusal (at c) path) ++ object_checks c path) (Refuse (passes_last_number (apply_all_seen (Creates o ∷ []) c)) Refusal.TableFull ∷ []) (decided-ok c (Creates o ∷ []) (first_refusal (with_numbers c (Creates o ∷ []) (refused (new_refusal (at c) path) ++ object_checks c path))) ok) in
     let one = known-passes (new_refusal (at c) path) (object_checks c path) none in
     let two = first-passes (nat_le 256 (objects_beside c path)) Refusal.TableFull (Refuse (nat_le 65535 (length h.objects)) Refusal.TableFull ∷ []) one.1 in
@@ -145,7 +145,7 @@ follows-object d h before n ns fine behind ok =
     let home = home-of d h path fine.held leads in
     let where_is : o.directory ≡ home.number = ap (λ n. unwrap_or n 0) home.is in
     let objects : objects_beside c path ≡ length (members c home.number) = ap (λ n. option_map_or (λ d. length (members c d)) n 0) home.is in
-    let crowd_is = length-sorted name_cmp (λ (k : Known). k.object.name) (filter (λ k. eqb k.object.directory home.number) h.objects) in
+    let crowd_is = length-sorted name_cmp (λ (k : LiveObject). k.object.name) (filter (λ k. eqb k.object.directory home.number) h.objects) in
     let room : length (filter (λ k. eqb k.object.directory home.number) h.objects) < 256 = (let r = less-of 256 (objects_beside c path) two.0 in omega arith) in
     let few = less-of 65535 (length h.objects) three.0 in
     let is : saved_object c k ≡ e = (λ i. SavedObject (directory_path c (where_is i) ++ last_name path ∷ []) []) ∙ ap (λ p. SavedObject (p ++ last_name path ∷ []) []) home.path_is ∙ ap (λ p. SavedObject p []) (parent-last n ns) in
@@ -176,7 +176,7 @@ small-all d h before [] small all = small
 small-all d h before (e ∷ es) small all = small-all d (restored_held d h e) (before ++ e ∷ []) es (small-next d h before e small all.0) all.1
 
 module _ (i : Image) (is : IsGood i) where
-  stands : started_seen i ≡ content_of i.default_limit (held_by i.default_limit nothing i.entries)
+  stands : started_seen i ≡ held_content i.default_limit (held_by i.default_limit nothing i.entries)
   stands = (started-held 65536 i is.entries).is
 
   small : IsSmall (held_by i.default_limit nothing i.entries)
@@ -211,8 +211,8 @@ module _ (i : Image) (is : IsGood i) where
       let d = i.default_limit in
       let fine = started-fine i is in
       let h = held_by d nothing i.entries in
-      let more : started_seen (record { default_limit = d; entries = i.entries ++ SavedObject (n ∷ ns) lines ∷ [] }) ≡ content_of d (restored_held d h (SavedObject (n ∷ ns) lines)) =
-      fold-push restored_seen (shown (start 1 d)) i.entries (SavedObject (n ∷ ns) lines)
+      let more : started_seen (record { default_limit = d; entries = i.entries ++ SavedObject (n ∷ ns) lines ∷ [] }) ≡ held_content d (restored_held d h (SavedObject (n ∷ ns) lines)) =
+      fold-push restored_seen (content_of (start 1 d)) i.entries (SavedObject (n ∷ ns) lines)
       ∙ ap (λ c. restored_seen c (SavedObject (n ∷ ns) lines)) stands
       ∙ restored-one d 65536 h i.entries (SavedObject (n ∷ ns) lines) fine.held e in
       sym (ap (λ c. is_ok (restore_line c (n ∷ ns) (as_line l))) more ∙ object-line-decides d h i.entries n ns lines l fine small e named few)

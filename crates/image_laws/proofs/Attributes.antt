@@ -14,7 +14,7 @@ use Rattle.pps_types.specs.Image.{SavedLine, saved_line}
 use Rattle.image_laws.specs.Images.{is_saved_line, is_new}
 use Rattle.image_laws.specs.Savable.{AreAttributes, AreSavable}
 use Rattle.image_laws.proofs.Texts.{IsWritten}
-use Rattle.text_parts.proofs.Same.{same-sym}
+use Rattle.pps_types.proofs.SameBytes.{same-sym}
 
 -- ---- names
 

@@ -17,23 +17,23 @@ use Rattle.pps_types.specs.Bytes.{same, ◌>>=◌}
 use Rattle.pps_types.specs.Text.{print_lines}
 use Rattle.pps_types.specs.Names.{Path, same_path, parent, last_name, beyond, place, find_at, new_refusal, name_cmp, sorted_by, insert_by}
 use Rattle.pps_types.specs.History.{text_length}
-use Rattle.pps_types.specs.Content.{Object, Directory, Known, Content, at, object_at, parent_number, members, subdirectories}
+use Rattle.pps_types.specs.Content.{Object, Directory, LiveObject, Content, at, object_at, parent_number, members, subdirectories}
 use Rattle.pps_types.specs.Checks.{Check, Refuse, Memory, first_refusal, refused, objects_beside, object_checks, mkdir_checks}
-use Rattle.pps_types.specs.Plan.{Move, Creates, Happens, MakesDirectory, entry_of, apply_all_seen, passes_last_number}
-use Rattle.pps_types.specs.Machine.{start, shown}
+use Rattle.pps_types.specs.Plan.{Move, Creates, AppendsRecord, MakesDirectory, entry_of, apply_all_seen, passes_last_number}
+use Rattle.pps_types.specs.Machine.{start, content_of}
 use Rattle.pps_types.specs.Image.{directory_path, Saved, SavedDirectory, SavedObject, SavedLine, path_of, may_follow, restored_object, Image, as_line, started_seen}
 use Rattle.pps_types.specs.Restore.{with_numbers, decided, restored_by, restore_directory, restore_object, restore_line, restore_lines, restore_entry, restore_entries, attributes_at, line_moves, line_checks}
 use Rattle.pps_types.proofs.Lists.{append-nil}
-use Rattle.pps_types.proofs.Rising.{rising-below}
-use Rattle.pps_types.proofs.Trees.{same_path-is, path-itself, same-itself}
+use Rattle.service_laws.proofs.Rising.{rising-below}
+use Rattle.service_laws.proofs.Trees.{same_path-is, path-itself, same-itself}
 use Rattle.image_laws.specs.Images.{is_new, is_saved_line, AreLines}
 use Rattle.image_laws.specs.Savable.{object_path}
 use Rattle.image_laws.proofs.Good.{IsEntry, AreEntries, IsGood}
 use Rattle.image_laws.proofs.Places.{places}
-use Rattle.text_parts.proofs.Same.{same-is}
+use Rattle.pps_types.proofs.SameBytes.{same-is}
 use Rattle.image_laws.proofs.Entries.{follow-parts}
 use Rattle.image_laws.proofs.Printed.{count-push}
-use Rattle.image_laws.proofs.Started.{Held, content_of, nothing, known_with, with_directory, restored_held, held_by, IsHome, home-of, parent-there, parent-last, lines-applied, put-new, started-held, restored_attribute}
+use Rattle.image_laws.proofs.Started.{Held, held_content, nothing, known_with, with_directory, restored_held, held_by, IsHome, home-of, parent-there, parent-last, lines-applied, put-new, started-held, restored_attribute}
 use Rattle.image_laws.proofs.Restoring.{text-same, same-length, IsFine, fine-content, fine-next, nothing-fine, less-all, other-directories, other-objects}
 
 -- ---- paths that lead to a directory
@@ -123,7 +123,7 @@ find-none p (x ∷ ds) h =
     rw (not-true (same_path x.path p) parts.0) (find-none p ds parts.1)
 
 -- no object of that name in that directory, where its path is another's
-object-none : (c : Content) (p : Path) (name : List ℕ) (number : ℕ) (os : List Known) → directory_path c number ++ name ∷ [] ≡ p → list_all (λ q. not (same_path q p)) (map (object_path c) os) ≡ true
+object-none : (c : Content) (p : Path) (name : List ℕ) (number : ℕ) (os : List LiveObject) → directory_path c number ++ name ∷ [] ≡ p → list_all (λ q. not (same_path q p)) (map (object_path c) os) ≡ true
     → find (λ o. eqb o.object.directory number && same o.object.name name) os ≡ None
 object-none c p name number [] is h = refl
 object-none c p name number (o ∷ os) is h =
@@ -148,14 +148,14 @@ find-last test (y ∷ xs) x none is = by (test y) none (λ h. find-last test xs 
 
 pub record IsFree (d : ℕ) (h : Held) (n : List ℕ) (ns : Path) : Type 0 where
   pub number : ℕ
-  pub parent_is : parent_number (content_of d h) (n ∷ ns) ≡ Some number
+  pub parent_is : parent_number (held_content d h) (n ∷ ns) ≡ Some number
   pub leads : list_any (λ x. same_path x.path (parent (n ∷ ns))) h.directories ≡ true
   pub no_directory : find (λ x. same_path x.path (n ∷ ns)) h.directories ≡ None
   pub no_object : find (λ o. eqb o.object.directory number && same o.object.name (last_name (n ∷ ns))) h.objects ≡ None
 
 pub free : (d : ℕ) (h : Held) (before : List Saved) (n : List ℕ) (ns : Path) (e : Saved) → path_of e ≡ n ∷ ns → IsFine d h before → may_follow before e ≡ true → IsFree d h n ns
 free d h before n ns e path fine f =
-    let c = content_of d h in
+    let c = held_content d h in
     let follows = follow-parts before e f in
     let less = less-all c before e fine.saves follows in
     let leads = parent-there d h before e fine.held fine.saves follows.parent in
@@ -163,21 +163,21 @@ free d h before n ns e path fine f =
     of home (subst (λ p. list_all (λ q. not (same_path q p)) (map (λ x. x.path) h.directories) ≡ true) path (other-directories (path_of e) h.directories follows.some less.0))
     (subst (λ p. list_all (λ q. not (same_path q p)) (map (object_path c) h.objects) ≡ true) path (other-objects c (path_of e) h.objects fine.kept less.1).0) leads
   where
-    of : IsHome d h (path_of e) → list_all (λ q. not (same_path q (n ∷ ns))) (map (λ x. x.path) h.directories) ≡ true → list_all (λ q. not (same_path q (n ∷ ns))) (map (object_path (content_of d h)) h.objects) ≡ true
+    of : IsHome d h (path_of e) → list_all (λ q. not (same_path q (n ∷ ns))) (map (λ x. x.path) h.directories) ≡ true → list_all (λ q. not (same_path q (n ∷ ns))) (map (object_path (held_content d h)) h.objects) ≡ true
         → list_any (λ x. same_path x.path (parent (path_of e))) h.directories ≡ true → IsFree d h n ns
     of home dirs objs leads = record {
       number = home.number;
-      parent_is = subst (λ p. parent_number (content_of d h) p ≡ Some home.number) path home.is;
+      parent_is = subst (λ p. parent_number (held_content d h) p ≡ Some home.number) path home.is;
       leads = subst (λ p. list_any (λ x. same_path x.path (parent p)) h.directories ≡ true) path leads;
       no_directory = find-none (n ∷ ns) h.directories dirs;
-      no_object = object-none (content_of d h) (n ∷ ns) (last_name (n ∷ ns)) home.number h.objects (ap (λ p. p ++ last_name (n ∷ ns) ∷ []) (home.path_is ∙ ap parent path) ∙ parent-last n ns) objs;
+      no_object = object-none (held_content d h) (n ∷ ns) (last_name (n ∷ ns)) home.number h.objects (ap (λ p. p ++ last_name (n ∷ ns) ∷ []) (home.path_is ∙ ap parent path) ∙ parent-last n ns) objs;
     }
 
 -- it is no place of anything
-pub not-taken : (d : ℕ) (h : Held) (before : List Saved) (n : List ℕ) (ns : Path) → IsFine d h before → IsFree d h n ns → new_refusal (at (content_of d h)) (n ∷ ns) ≡ None
+pub not-taken : (d : ℕ) (h : Held) (before : List Saved) (n : List ℕ) (ns : Path) → IsFine d h before → IsFree d h n ns → new_refusal (at (held_content d h)) (n ∷ ns) ≡ None
 not-taken d h before n ns fine f =
-    let c = content_of d h in
-    let placed = place-parent c (places (content_of d h) (fine-content d h before fine)).parents n ns f.leads in
+    let c = held_content d h in
+    let placed = place-parent c (places (held_content d h) (fine-content d h before fine)).parents n ns f.leads in
     let none : at c (n ∷ ns) ≡ None = rw (f.no_directory, f.parent_is, f.no_object) refl in
     rw (placed, none) refl
 
@@ -205,7 +205,7 @@ small-next d h before (SavedDirectory path) small e =
     let f = small.records in
     record { objects = a; directories = omega (arith, length-append h.directories (record { number = h.next_directory; path = path } ∷ [])); records = f }
 small-next d h before (SavedObject path lines) small e =
-    let o = restored_object (content_of d h) path in
+    let o = restored_object (held_content d h) path in
     let a = small.objects in
     let b = small.directories in
     let f = small.records in
@@ -213,7 +213,7 @@ small-next d h before (SavedObject path lines) small e =
     let few = e.2 in
     record { objects = omega arith; directories = b; records = omega arith }
 
-numbers-left : (d : ℕ) (h : Held) (before : List Saved) → IsFine d h before → IsSmall h → passes_last_number (content_of d h) ≡ false
+numbers-left : (d : ℕ) (h : Held) (before : List Saved) → IsFine d h before → IsSmall h → passes_last_number (held_content d h) ≡ false
 numbers-left d h before fine small =
     let a = small.objects in
     let b = small.directories in
@@ -230,18 +230,18 @@ le-false a b h = grind (arith, nat_tests)
 lt-false : (a b : ℕ) → b ≤ a → nat_lt a b ≡ false
 lt-false a b h = grind (arith, nat_tests)
 
-pub call-directory : (d : ℕ) (h : Held) (before : List Saved) (path : Path) → IsFine d h before → IsSmall h → IsEntry 65536 before (SavedDirectory path) → restore_directory (content_of d h) path ≡ Ok (content_of d (with_directory h path))
+pub call-directory : (d : ℕ) (h : Held) (before : List Saved) (path : Path) → IsFine d h before → IsSmall h → IsEntry 65536 before (SavedDirectory path) → restore_directory (held_content d h) path ≡ Ok (held_content d (with_directory h path))
 call-directory d h before [] fine small e = absurd (let f = (follow-parts before (SavedDirectory []) e.1).some in cc)
 call-directory d h before (n ∷ ns) fine small e =
     let path = n ∷ ns in
-    let c = content_of d h in
+    let c = held_content d h in
     let added : Directory = record { number = h.next_directory; path = path } in
     let after = fine-next d h before (SavedDirectory path) fine e in
     let more = count-push (λ (x : Directory). not (same_path x.path []) && same_path (parent x.path) (parent path)) h.directories added in
     let own = path-itself (parent path) in
     let room : length (subdirectories c (parent path)) < 256 = (let b = after.bound.branches (parent path) in let m = rw own at more in omega arith) in
     let few : length h.directories ≤ 65535 = (let b = after.can.directories in omega (arith, length-append h.directories (added ∷ []))) in
-    restored-ok c (content_of d (with_directory h path)) (MakesDirectory path ∷ []) (mkdir_checks c path)
+    restored-ok c (held_content d (with_directory h path)) (MakesDirectory path ∷ []) (mkdir_checks c path)
     (rw (not-taken d h before n ns fine (free d h before n ns (SavedDirectory path) refl fine e.1), le-false 256 (length (subdirectories c (parent path))) room, lt-false 65535 (length h.directories) few) refl)
     refl (numbers-left d (with_directory h path) (before ++ SavedDirectory path ∷ []) after (small-next d h before (SavedDirectory path) small e))
 
@@ -255,9 +255,9 @@ not-there (x ∷ before) l h = by (same x.name l.name) h (not-there before l)
     by true h rec = absurd cc
     by false h rec = rec h
 
-module _ (d next_object next_directory : ℕ) (olds : List Known) (o : Object) (directories : List Directory) (n : List ℕ) (ns : Path) where
+module _ (d next_object next_directory : ℕ) (olds : List LiveObject) (o : Object) (directories : List Directory) (n : List ℕ) (ns : Path) where
   abbrev standing : ℕ → List SavedLine → Content
-  standing records before = content_of d (record { records = records; objects = olds ++ known_with o before ∷ []; next_object = next_object; directories = directories; next_directory = next_directory })
+  standing records before = held_content d (record { records = records; objects = olds ++ known_with o before ∷ []; next_object = next_object; directories = directories; next_directory = next_directory })
 
   module _
       (older : AllByRecursion (λ k. k.object.number < o.number) olds)
@@ -278,15 +278,15 @@ module _ (d next_object next_directory : ℕ) (olds : List Known) (o : Object) (
     found-there records before =
         let placed = place-parent (standing records before) parents n ns leads in
         let is : at (standing records before) (n ∷ ns) ≡ Some (FoundObject o.number) =
-        ap (λ x. option_or (option_map (λ (x : Directory). FoundDirectory x.number) x) (option_map (λ (k : Known). FoundObject k.object.number) (object_at (standing records before) (n ∷ ns)))) no_directory
-        ∙ ap (option_map (λ (k : Known). FoundObject k.object.number)) (object-there records before) in
+        ap (λ x. option_or (option_map (λ (x : Directory). FoundDirectory x.number) x) (option_map (λ (k : LiveObject). FoundObject k.object.number) (object_at (standing records before) (n ∷ ns)))) no_directory
+        ∙ ap (option_map (λ (k : LiveObject). FoundObject k.object.number)) (object-there records before) in
         rw (placed, is) refl
 
     call-line : (records : ℕ) (before : List SavedLine) (l : SavedLine) → AreLines 65536 before (l ∷ []) → length before + 1 ≤ 1024 → records + 1 < 2 ^ 60 → restore_line (standing records before) (n ∷ ns) (as_line l) ≡ Ok (standing (records + 1) (before ++ l ∷ []))
     call-line records before l h few some =
         let c = standing records before in
         let there = object-there records before in
-        let moves : line_moves c (n ∷ ns) (as_line l) ≡ Happens (entry_of o (Change (as_line l ∷ [])) None) ∷ [] = rw there refl in
+        let moves : line_moves c (n ∷ ns) (as_line l) ≡ AppendsRecord (entry_of o (Change (as_line l ∷ [])) None) ∷ [] = rw there refl in
         let attributes : attributes_at c (n ∷ ns) ≡ map restored_attribute before = rw there refl in
         let added = put-new before l h.1 in
         let short : nat_lt 1024 (length (map restored_attribute (before ++ l ∷ []))) ≡ false =
@@ -362,21 +362,21 @@ module _ {X : Type 0} {K : Type 0} (cmp : K → K → Ordering) (key : X → K) 
   length-sorted (x ∷ xs) = length-insert x (sorted_by cmp key xs) ∙ ap suc (length-sorted xs)
 
 abbrev pub created : ℕ → Held → Object → Content
-created d h o = content_of d (record h { records = h.records + 1; objects = h.objects ++ known_with o [] ∷ []; next_object = h.next_object + 1 })
+created d h o = held_content d (record h { records = h.records + 1; objects = h.objects ++ known_with o [] ∷ []; next_object = h.next_object + 1 })
 
 pub call-creation : (d : ℕ) (h : Held) (before : List Saved) (n : List ℕ) (ns : Path) (lines : List SavedLine) → IsFine d h before → IsSmall h → IsEntry 65536 before (SavedObject (n ∷ ns) lines)
-    → restore_object (content_of d h) (n ∷ ns) ≡ Ok (created d h (restored_object (content_of d h) (n ∷ ns)))
+    → restore_object (held_content d h) (n ∷ ns) ≡ Ok (created d h (restored_object (held_content d h) (n ∷ ns)))
 call-creation d h before n ns lines fine small e =
     let path = n ∷ ns in
-    let c = content_of d h in
+    let c = held_content d h in
     let o = restored_object c path in
     let f = free d h before n ns (SavedObject path []) refl fine e.1 in
     let where_is : o.directory ≡ f.number = ap (λ n. unwrap_or n 0) f.parent_is in
     let after = fine-next d h before (SavedObject path lines) fine e in
-    let more = count-push (λ (k : Known). eqb k.object.directory f.number) h.objects (known_with o lines) in
+    let more = count-push (λ (k : LiveObject). eqb k.object.directory f.number) h.objects (known_with o lines) in
     let own : eqb o.directory f.number ≡ true = eq-eqb o.directory f.number where_is in
     let room : length (filter (λ k. eqb k.object.directory f.number) h.objects) < 256 = (let b = after.bound.crowds f.number in let m = rw own at more in omega arith) in
-    let beside : length (members c f.number) < 256 = (let s = length-sorted name_cmp (λ (k : Known). k.object.name) (filter (λ k. eqb k.object.directory f.number) h.objects) in omega arith) in
+    let beside : length (members c f.number) < 256 = (let s = length-sorted name_cmp (λ (k : LiveObject). k.object.name) (filter (λ k. eqb k.object.directory f.number) h.objects) in omega arith) in
     let objects : objects_beside c path ≡ length (members c f.number) = ap (λ n. option_map_or (λ d. length (members c d)) n 0) f.parent_is in
     let few : length h.objects < 65535 = (let b = after.can.objects in omega (arith, length-append h.objects (known_with o lines ∷ []))) in
     let a = small.objects in
@@ -389,10 +389,10 @@ call-creation d h before n ns lines fine small e =
     refl (small-numbers (h.records + 1) (h.next_object + 1) h.next_directory (omega arith) (omega arith) (omega arith))
 
 pub call-object : (d : ℕ) (h : Held) (before : List Saved) (n : List ℕ) (ns : Path) (lines : List SavedLine) → IsFine d h before → IsSmall h → IsEntry 65536 before (SavedObject (n ∷ ns) lines)
-    → restore_entry (content_of d h) (SavedObject (n ∷ ns) lines) ≡ Ok (content_of d (restored_held d h (SavedObject (n ∷ ns) lines)))
+    → restore_entry (held_content d h) (SavedObject (n ∷ ns) lines) ≡ Ok (held_content d (restored_held d h (SavedObject (n ∷ ns) lines)))
 call-object d h before n ns lines fine small e =
     let path = n ∷ ns in
-    let c = content_of d h in
+    let c = held_content d h in
     let o = restored_object c path in
     let f = free d h before n ns (SavedObject path []) refl fine e.1 in
     let where_is : o.directory ≡ f.number = ap (λ n. unwrap_or n 0) f.parent_is in
@@ -404,15 +404,15 @@ call-object d h before n ns lines fine small e =
     let few_lines = e.2 in
     ap (λ r. r >>= (λ c. restore_lines c path lines)) (call-creation d h before n ns lines fine small e)
     ∙ call-lines d (h.next_object + 1) h.next_directory h.objects o h.directories n ns
-    (rising-below (λ k. k.object.number) 0 h.next_object h.objects fine.held.objects_rise) (places (content_of d h) (fine-content d h before fine)).parents f.leads
+    (rising-below (λ k. k.object.number) 0 h.next_object h.objects fine.held.objects_rise) (places (held_content d h) (fine-content d h before fine)).parents f.leads
     (f.parent_is ∙ ap Some (sym where_is)) f.no_directory (subst (λ m. find (λ k. eqb k.object.directory m && same k.object.name (last_name path)) h.objects ≡ None) (sym where_is) f.no_object) refl
     (omega arith) (omega arith) (h.records + 1) [] lines e.3 (omega arith) (omega arith)
 
 pub object-line-decides : (d : ℕ) (h : Held) (before : List Saved) (n : List ℕ) (ns : Path) (lines : List SavedLine) (l : SavedLine) → IsFine d h before → IsSmall h → IsEntry 65536 before (SavedObject (n ∷ ns) lines) → is_saved_line l ≡ true → length lines < 1024
-    → is_ok (restore_line (content_of d (restored_held d h (SavedObject (n ∷ ns) lines))) (n ∷ ns) (as_line l)) ≡ (is_new lines l && nat_le (length (print_lines (map as_line (lines ++ l ∷ [])))) 65536)
+    → is_ok (restore_line (held_content d (restored_held d h (SavedObject (n ∷ ns) lines))) (n ∷ ns) (as_line l)) ≡ (is_new lines l && nat_le (length (print_lines (map as_line (lines ++ l ∷ [])))) 65536)
 object-line-decides d h before n ns lines l fine small e is fewer =
     let path = n ∷ ns in
-    let c = content_of d h in
+    let c = held_content d h in
     let o = restored_object c path in
     let f = free d h before n ns (SavedObject path []) refl fine e.1 in
     let where_is : o.directory ≡ f.number = ap (λ n. unwrap_or n 0) f.parent_is in
@@ -422,25 +422,25 @@ object-line-decides d h before n ns lines l fine small e is fewer =
     let r = small.records in
     let k = fine.can.directories in
     line-decides d (h.next_object + 1) h.next_directory h.objects o h.directories n ns
-    (rising-below (λ k. k.object.number) 0 h.next_object h.objects fine.held.objects_rise) (places (content_of d h) (fine-content d h before fine)).parents f.leads
+    (rising-below (λ k. k.object.number) 0 h.next_object h.objects fine.held.objects_rise) (places (held_content d h) (fine-content d h before fine)).parents f.leads
     (f.parent_is ∙ ap Some (sym where_is)) f.no_directory (subst (λ m. find (λ k. eqb k.object.directory m && same k.object.name (last_name path)) h.objects ≡ None) (sym where_is) f.no_object) refl
     (omega arith) (omega arith) ((h.records + 1) + length lines) lines l is (omega arith) (omega arith)
 
 -- ---- all entries
 
-pub call-entry : (d : ℕ) (h : Held) (before : List Saved) (e : Saved) → IsFine d h before → IsSmall h → IsEntry 65536 before e → restore_entry (content_of d h) e ≡ Ok (content_of d (restored_held d h e))
+pub call-entry : (d : ℕ) (h : Held) (before : List Saved) (e : Saved) → IsFine d h before → IsSmall h → IsEntry 65536 before e → restore_entry (held_content d h) e ≡ Ok (held_content d (restored_held d h e))
 call-entry d h before (SavedDirectory path) fine small e = call-directory d h before path fine small e
 call-entry d h before (SavedObject [] lines) fine small e = absurd (let f = (follow-parts before (SavedObject [] []) e.1).some in cc)
 call-entry d h before (SavedObject (n ∷ ns) lines) fine small e = call-object d h before n ns lines fine small e
 
-call-entries : (d : ℕ) (h : Held) (before es : List Saved) → IsFine d h before → IsSmall h → AreEntries 65536 before es → restore_entries (content_of d h) es ≡ Ok (content_of d (held_by d h es))
+call-entries : (d : ℕ) (h : Held) (before es : List Saved) → IsFine d h before → IsSmall h → AreEntries 65536 before es → restore_entries (held_content d h) es ≡ Ok (held_content d (held_by d h es))
 call-entries d h before [] fine small all = refl
 call-entries d h before (e ∷ es) fine small all =
     ap (λ r. r >>= (λ c. restore_entries c es)) (call-entry d h before e fine small all.0)
     ∙ call-entries d (restored_held d h e) (before ++ e ∷ []) es (fine-next d h before e fine all.0) (small-next d h before e small all.0) all.1
 
 -- what an image starts is what the calls leave, one for each directory, object and line, from the empty service
-pub calls-start : (i : Image) → IsGood i → restore_entries (shown (start 1 i.default_limit)) i.entries ≡ Ok (started_seen i)
+pub calls-start : (i : Image) → IsGood i → restore_entries (content_of (start 1 i.default_limit)) i.entries ≡ Ok (started_seen i)
 calls-start i h =
     call-entries i.default_limit nothing [] i.entries (nothing-fine i.default_limit h.least h.most) (record { objects = refl; directories = refl; records = omega arith }) h.entries
     ∙ ap Ok (sym (started-held 65536 i h.entries).is)

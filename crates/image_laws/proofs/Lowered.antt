@@ -11,7 +11,7 @@ use Rattle.pps_types.specs.Bytes.{is_digit, pieces}
 use Rattle.pps_types.specs.Text.{continues_name, is_attribute_name, set_line, print_lines}
 use Rattle.pps_types.specs.Names.{Path}
 use Rattle.pps_types.specs.Image.{SavedLine, SavedObject, as_line, print_path, text_line, Image, Loaded, Position, First, Between, Within, Behind, plain_number, may_follow, in_object, object_line, set_of, attribute_line, line_read, read_lines}
-use Rattle.text_parts.proofs.Decimals.{decimal-digits}
+use Rattle.pps_types.proofs.Decimals.{decimal-digits}
 use Rattle.image_laws.specs.Images.{is_plain, are_plain, joined, read_all, is_new, IsSavedPath, object_head, LowersCount, BeginAnImage}
 use Rattle.image_laws.proofs.Lines.{pieces-some, read_all-append}
 use Rattle.image_laws.proofs.Numbers.{plain_number-decimal}

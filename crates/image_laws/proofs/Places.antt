@@ -5,13 +5,13 @@ use Rattle.std.specs.List.{list_all, list_any, AllByRecursion}
 use Rattle.std.proofs.lemmas.Bool.{and_from}
 use Rattle.std.proofs.lemmas.List.Folds.{list_all-append}
 use Rattle.pps_types.specs.Names.{Name, Path, same_path, parent}
-use Rattle.pps_types.specs.Content.{Directory, Known, Content, directory_at, object_at, object_in}
+use Rattle.pps_types.specs.Content.{Directory, LiveObject, Content, directory_at, object_at, object_in}
 use Rattle.pps_types.specs.WellFormed.{AreRising, IsContent, directory_numbered}
 use Rattle.pps_types.specs.Image.{directory_path}
-use Rattle.pps_types.proofs.Finds.{some-of, all-both, all-imp, all-find, find-true}
-use Rattle.pps_types.proofs.PathEnds.{parent-push, last_name-push}
-use Rattle.pps_types.proofs.Rising.{rising-above}
-use Rattle.pps_types.proofs.Trees.{same_path-is}
+use Rattle.service_laws.proofs.Finds.{some-of, all-both, all-imp, all-find, find-true}
+use Rattle.service_laws.proofs.PathEnds.{parent-push, last_name-push}
+use Rattle.service_laws.proofs.Rising.{rising-above}
+use Rattle.service_laws.proofs.Trees.{same_path-is}
 use Rattle.image_laws.specs.Savable.{object_path}
 
 -- no two are the same
@@ -50,7 +50,7 @@ pub home-path : (c : Content) (n : ℕ) (d : Directory) → directory_numbered c
 home-path c n d e = let f = found-first (λ (d : Directory). eqb d.number n) c.directories d e in rw f.1 refl
 
 -- an object is what stands at its path
-object-there : (c : Content) (p : Path) (n : Name) (d : Directory) (o : Known) → directory_at c p ≡ Some d → object_in c n d.number ≡ Some o → object_at c (p ++ n ∷ []) ≡ Some o
+object-there : (c : Content) (p : Path) (n : Name) (d : Directory) (o : LiveObject) → directory_at c p ≡ Some d → object_in c n d.number ≡ Some o → object_at c (p ++ n ∷ []) ≡ Some o
 object-there c [] n d o e f = ap (λ k. option_and_then (object_in c n) (option_map (λ (d : Directory). d.number) k)) e ∙ f
 object-there c (m ∷ ms) n d o e f =
     (λ i. option_and_then (object_in c (last_name-push (m ∷ ms) n i)) (option_map (λ (d : Directory). d.number) (directory_at c (parent-push (m ∷ ms) n i))))
@@ -76,13 +76,13 @@ module _ (c : Content) (w : IsContent c) where
       let one : x.0 ≡ y.0 = cc in
       sym x.1 ∙ ap (λ (d : Directory). d.number) one ∙ y.1
 
-  object-at : (o : Known) → (object_in c o.object.name o.object.directory ≡ Some o) × (is_some (directory_numbered c o.object.directory) ≡ true) → object_at c (object_path c o) ≡ Some o
+  object-at : (o : LiveObject) → (object_in c o.object.name o.object.directory ≡ Some o) × (is_some (directory_numbered c o.object.directory) ≡ true) → object_at c (object_path c o) ≡ Some o
   object-at o h =
       let d = home o.object.directory h.1 in
       ap (λ p. object_at c (p ++ o.object.name ∷ [])) d.3 ∙ object-there c d.0.path o.object.name d.0 o d.2 (ap (object_in c o.object.name) d.1 ∙ h.0)
 
-  objects-at : AllByRecursion (λ (o : Known). object_at c (object_path c o) ≡ Some o) c.objects
-  objects-at = all-imp (λ (o : Known). (object_in c o.object.name o.object.directory ≡ Some o) × (is_some (directory_numbered c o.object.directory) ≡ true)) (λ o. object_at c (object_path c o) ≡ Some o) object-at c.objects
+  objects-at : AllByRecursion (λ (o : LiveObject). object_at c (object_path c o) ≡ Some o) c.objects
+  objects-at = all-imp (λ (o : LiveObject). (object_in c o.object.name o.object.directory ≡ Some o) × (is_some (directory_numbered c o.object.directory) ≡ true)) (λ o. object_at c (object_path c o) ≡ Some o) object-at c.objects
       (all-both _ _ c.objects w.tree.names w.tree.places)
 
 -- ---- apart
@@ -109,7 +109,7 @@ apart-append [] qs a others b = b
 apart-append (p ∷ ps) qs a others b = (list_all-append (λ q. not (same_path p q)) ps qs ∙ and_from _ _ a.0 others.0, apart-append ps qs a.1 others.1 b)
 
 -- where no object stands at a path, it is none of theirs
-apart-free : (c : Content) (p : Path) → object_at c p ≡ None → (os : List Known) → AllByRecursion (λ (o : Known). object_at c (object_path c o) ≡ Some o) os → list_all (λ q. not (same_path p q)) (map (object_path c) os) ≡ true
+apart-free : (c : Content) (p : Path) → object_at c p ≡ None → (os : List LiveObject) → AllByRecursion (λ (o : LiveObject). object_at c (object_path c o) ≡ Some o) os → list_all (λ q. not (same_path p q)) (map (object_path c) os) ≡ true
 apart-free c p free [] owns = refl
 apart-free c p free (o ∷ os) owns = and_from _ _ (by (same_path p (object_path c o)) refl) (apart-free c p free os owns.1)
   where
@@ -117,7 +117,7 @@ apart-free c p free (o ∷ os) owns = and_from _ _ (by (same_path p (object_path
     by false e = refl
     by true e = absurd (let none = sym free ∙ ap (object_at c) (same_path-is p (object_path c o) e) ∙ owns.0 in cc)
 
-apart-frees : (c : Content) (ds : List Directory) → AllByRecursion (λ (d : Directory). object_at c d.path ≡ None) ds → AllByRecursion (λ (o : Known). object_at c (object_path c o) ≡ Some o) c.objects
+apart-frees : (c : Content) (ds : List Directory) → AllByRecursion (λ (d : Directory). object_at c d.path ≡ None) ds → AllByRecursion (λ (o : LiveObject). object_at c (object_path c o) ≡ Some o) c.objects
     → AllByRecursion (λ p. list_all (λ q. not (same_path p q)) (map (object_path c) c.objects) ≡ true) (map (λ (d : Directory). d.path) ds)
 apart-frees c [] free owns = tt
 apart-frees c (d ∷ ds) free owns = (apart-free c d.path free.0 c.objects owns, apart-frees c ds free.1 owns)
@@ -128,6 +128,6 @@ places c w = record {
   apart = apart-append (map (λ d. d.path) c.directories) (map (object_path c) c.objects)
       (apart-own (λ (d : Directory). d.number) (λ d. d.path) (directory_at c) 0 c.next_directory c.directories w.order.directories_rise w.tree.paths)
       (apart-frees c c.directories w.tree.free (objects-at c w))
-      (apart-own (λ (o : Known). o.object.number) (object_path c) (object_at c) 0 c.next_object c.objects w.order.objects_rise (objects-at c w));
+      (apart-own (λ (o : LiveObject). o.object.number) (object_path c) (object_at c) 0 c.next_object c.objects w.order.objects_rise (objects-at c w));
   parents = all-imp (λ (d : Directory). is_some (directory_at c (parent d.path)) ≡ true) (λ d. list_any (λ x. same_path x.path (parent d.path)) c.directories ≡ true) (λ d. any-found (λ (x : Directory). same_path x.path (parent d.path)) c.directories) c.directories w.tree.parents;
 }

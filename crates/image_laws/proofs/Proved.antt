@@ -6,14 +6,14 @@ use Rattle.std.specs.Fmt.{decimal, digits}
 use Rattle.std.specs.Result.{is_ok}
 use Rattle.std.specs.Ordering.{is_lt}
 use Rattle.pps_types.specs.Names.{path_cmp}
-use Rattle.pps_types.specs.Machine.{start, shown}
+use Rattle.pps_types.specs.Machine.{start, content_of}
 use Rattle.pps_types.specs.Image.{SavedLine, Saved, SavedDirectory, SavedObject, saved, text_line, print_saved, image_text, image, Image, started, First, Behind, path_of, as_line}
 use Rattle.pps_types.specs.Restore.{restore_directory, restore_object, restore_line}
-use Rattle.pps_types.proofs.WellSteps.{basis-in}
-use Rattle.pps_types.proofs.Law.{start-made}
-use Rattle.pps_types.proofs.ImageStarts.{images-start}
-use Rattle.content_bounds.specs.Bounds.{IsBound}
-use Rattle.content_bounds.proofs.Events.{bounds-stay}
+use Rattle.service_laws.proofs.WellSteps.{basis-in}
+use Rattle.service_laws.proofs.Law.{start-made}
+use Rattle.service_laws.proofs.ImageStarts.{images-start}
+use Rattle.service_laws.specs.Bounds.{IsBound}
+use Rattle.service_laws.proofs.BoundedEvents.{bounds-stay}
 use Rattle.image_laws.specs.Images.{AreLines}
 use Rattle.image_laws.specs.Laws.{is_newer, OnlyImagesAreRead, JustImagesAreRead, ReadImagesArePrintable, TextsAreRead, StartsHoldTheEntries, SavedIsReadAgain, SavingStays, RunsAreReadAgain, StartsAreWithinBounds, ReadersGoLineByLine, CallsStartIt, CallsDecide, ReadIsSavedAlike}
 use Rattle.image_laws.specs.Savable.{CanBeSaved}
@@ -63,10 +63,10 @@ cut bytes i h = h.text ∙ append_assoc (text_line h.head) (flat_map print_saved
 image-cut : (d : ℕ) (es : List Saved) → image_text d es ≡ text_line (codes "PPSIMAGE 2 " ++ decimal d) ++ rest_of es
 image-cut d es = append_assoc (text_line (codes "PPSIMAGE 2 " ++ decimal d)) (flat_map print_saved es) (text_line (codes "E " ++ decimal (length es)))
 
-started-image : (longest : ℕ) (i : Image) → AreEntries longest [] i.entries → image (shown (started i)) ≡ image_text i.default_limit i.entries
+started-image : (longest : ℕ) (i : Image) → AreEntries longest [] i.entries → image (content_of (started i)) ≡ image_text i.default_limit i.entries
 started-image longest i all = let h = started-saves longest i all in ap image (images-start.stands i) ∙ (λ j. image_text (h.1 j) (h.0 j))
 
-only-newer : (bytes : List ℕ) (i : Image) → IsRead bytes i → is_newer bytes ≡ true → image (shown (started i)) ≡ bytes
+only-newer : (bytes : List ℕ) (i : Image) → IsRead bytes i → is_newer bytes ≡ true → image (content_of (started i)) ≡ bytes
 only-newer bytes i h newer =
     ⊎_elim
     (λ v. absurd (let e = sym newer ∙ ap is_newer (cut bytes i h) ∙ older-not h.head (rest_of i.entries) h.longest i.default_limit v in cc))
@@ -77,7 +77,7 @@ spelled : codes "PPSIMAGE 2 " ++ decimal 256 ≡ codes "PPSIMAGE 2 256"
 unfolding digits
 spelled = refl
 
-only-older : (bytes : List ℕ) (i : Image) → IsRead bytes i → (is_newer bytes ≡ true → ⊥) → (i.default_limit ≡ 256) × (rest : List ℕ) × (bytes ≡ text_line (codes "PPSIMAGE 1") ++ rest) × (image (shown (started i)) ≡ text_line (codes "PPSIMAGE 2 256") ++ rest)
+only-older : (bytes : List ℕ) (i : Image) → IsRead bytes i → (is_newer bytes ≡ true → ⊥) → (i.default_limit ≡ 256) × (rest : List ℕ) × (bytes ≡ text_line (codes "PPSIMAGE 1") ++ rest) × (image (content_of (started i)) ≡ text_line (codes "PPSIMAGE 2 256") ++ rest)
 only-older bytes i h older =
     ⊎_elim
     (λ v. (

@@ -10,23 +10,23 @@ use Rattle.pps_types.specs.Text.{print_lines}
 use Rattle.pps_types.specs.Names.{Path, same_path, parent, last_name, path_cmp}
 use Rattle.pps_types.specs.OpenText.{are_names}
 use Rattle.pps_types.specs.History.{line_of}
-use Rattle.pps_types.specs.Content.{Object, Directory, Known, Content, subdirectories}
+use Rattle.pps_types.specs.Content.{Object, Directory, LiveObject, Content, subdirectories}
 use Rattle.pps_types.specs.WellFormed.{IsContent}
 use Rattle.pps_types.specs.Image.{SavedLine, Saved, SavedDirectory, SavedObject, path_of, as_line, saved_line, directory_path, is_kept, saved_object, saved, Image, same_sort, are_beside, may_follow, AreFollowing, IsImage, restored_object, restored_seen, started_seen}
 use Rattle.pps_types.proofs.Lists.{all-push, fold-push, append-nil}
-use Rattle.pps_types.proofs.Trees.{same_path-is, path-itself}
-use Rattle.pps_types.proofs.ImageStarts.{started-content}
-use Rattle.content_bounds.specs.Bounds.{IsBoundObject, crowd, IsBound}
+use Rattle.service_laws.proofs.Trees.{same_path-is, path-itself}
+use Rattle.service_laws.proofs.ImageStarts.{started-content}
+use Rattle.service_laws.specs.Bounds.{IsBoundObject, crowd, IsBound}
 use Rattle.image_laws.specs.Images.{is_new, AreLines, IsSavedPath}
 use Rattle.image_laws.specs.Savable.{object_path, AreAttributes, AreSavable, CanBeSaved}
 use Rattle.image_laws.proofs.Good.{IsEntry, AreEntries, IsGood}
-use Rattle.pps_types.proofs.PathEnds.{parent-push}
-use Rattle.content_bounds.proofs.Paths.{last-short}
+use Rattle.service_laws.proofs.PathEnds.{parent-push}
+use Rattle.service_laws.proofs.BoundedPaths.{last-short}
 use Rattle.image_laws.proofs.Paths.{names-of}
 use Rattle.image_laws.proofs.Entries.{MayFollow, follow-parts}
 use Rattle.image_laws.proofs.Printed.{count-push}
 use Rattle.image_laws.proofs.Sorting.{count-sorted}
-use Rattle.image_laws.proofs.Started.{Held, content_of, nothing, restored_attribute, known_with, with_directory, restored_held, IsHeld, restored-one, next, nothing-held, home-of, parent-there, path-stays, behind-all, directories_of, objects_of, map-push, parent-last, held_by}
+use Rattle.image_laws.proofs.Started.{Held, held_content, nothing, restored_attribute, known_with, with_directory, restored_held, IsHeld, restored-one, next, nothing-held, home-of, parent-there, path-stays, behind-all, directories_of, objects_of, map-push, parent-last, held_by}
 use Rattle.image_laws.proofs.Sorted.{lt-other}
 use Rattle.image_laws.proofs.Saving.{count-append, all-pass}
 
@@ -71,7 +71,7 @@ more-directories p t f (d ∷ ds) = by (t d) refl (is_empty d.path) (p (SavedDir
     by true y false true root x h = rw x (omega arith)
     by true y false false root x h = absurd (let e = sym x ∙ (f d y).0 in cc)
 
-more-objects : (c : Content) (p : Saved → Bool) (t : Known → Bool) (os : List Known) → AllByRecursion (λ o. is_kept o ≡ true) os → AllByRecursion (λ o. t o ≡ true → p (saved_object c o) ≡ true) os → length (filter t os) ≤ length (filter p (objects_of (record c { objects = os })))
+more-objects : (c : Content) (p : Saved → Bool) (t : LiveObject → Bool) (os : List LiveObject) → AllByRecursion (λ o. is_kept o ≡ true) os → AllByRecursion (λ o. t o ≡ true → p (saved_object c o) ≡ true) os → length (filter t os) ≤ length (filter p (objects_of (record c { objects = os })))
 more-objects c p t [] kept f = omega arith
 more-objects c p t (o ∷ os) kept f = rw (kept.0) (by (t o) refl (p (saved_object c o)) refl f.0 (more-objects c p t os kept.1 f.1))
   where
@@ -118,7 +118,7 @@ other-directories x (d ∷ ds) some h = by (is_empty d.path) refl h (other-direc
         let parts = and_parts (is_lt (path_cmp d.path x)) (list_all (λ e. is_lt (path_cmp (path_of e) x)) (directories_of ds)) h in
         and_from _ _ (other-less d.path x parts.0).front (rec parts.1)
 
-pub other-objects : (c : Content) (x : Path) (os : List Known) → AllByRecursion (λ o. is_kept o ≡ true) os → list_all (λ e. is_lt (path_cmp (path_of e) x)) (objects_of (record c { objects = os })) ≡ true
+pub other-objects : (c : Content) (x : Path) (os : List LiveObject) → AllByRecursion (λ o. is_kept o ≡ true) os → list_all (λ e. is_lt (path_cmp (path_of e) x)) (objects_of (record c { objects = os })) ≡ true
     → (list_all (λ q. not (same_path q x)) (map (object_path c) os) ≡ true) × (list_all (λ q. not (same_path x q)) (map (object_path c) os) ≡ true)
 other-objects c x [] kept h = (refl, refl)
 other-objects c x (o ∷ os) kept h =
@@ -131,11 +131,11 @@ other-objects c x (o ∷ os) kept h =
 
 pub record IsFine (d : ℕ) (h : Held) (before : List Saved) : Type 0 where
   pub held : IsHeld h
-  pub saves : saved (content_of d h) ≡ before
-  pub bound : IsBound (content_of d h)
-  pub can : CanBeSaved (content_of d h)
+  pub saves : saved (held_content d h) ≡ before
+  pub bound : IsBound (held_content d h)
+  pub can : CanBeSaved (held_content d h)
   pub follows : IsImage (record { default_limit = d; entries = before })
-  pub starts : started_seen (record { default_limit = d; entries = before }) ≡ content_of d h
+  pub starts : started_seen (record { default_limit = d; entries = before }) ≡ held_content d h
   pub kept : AllByRecursion (λ o. is_kept o ≡ true) h.objects
   pub counted : length h.directories ≡ length (filter (λ d. not (is_empty d.path)) h.directories) + 1
 
@@ -149,7 +149,7 @@ less-all c before e is follows =
 pub count-saved : (c : Content) (before : List Saved) (p : Saved → Bool) → saved c ≡ before → length (filter p before) ≡ length (filter p (directories_of c.directories)) + length (filter p (objects_of c))
 count-saved c before p is = ap (λ es. length (filter p es)) (sym is) ∙ count-sorted path_cmp path_of p (directories_of c.directories ++ objects_of c) ∙ count-append p (directories_of c.directories) (objects_of c)
 
-paths-stay : (d : ℕ) (h : Held) (path : Path) (os : List Known) → AllByRecursion (λ o. o.object.directory < h.next_directory) os → AllByRecursion (λ o. IsSavedPath (object_path (content_of d h) o)) os → AllByRecursion (λ o. IsSavedPath (object_path (content_of d (with_directory h path)) o)) os
+paths-stay : (d : ℕ) (h : Held) (path : Path) (os : List LiveObject) → AllByRecursion (λ o. o.object.directory < h.next_directory) os → AllByRecursion (λ o. IsSavedPath (object_path (held_content d h) o)) os → AllByRecursion (λ o. IsSavedPath (object_path (held_content d (with_directory h path)) o)) os
 paths-stay d h path [] all paths = tt
 paths-stay d h path (o ∷ os) all paths = (subst (λ p. IsSavedPath (p ++ o.object.name ∷ [])) (sym (path-stays d h path o.object.directory all.0)) paths.0, paths-stay d h path os all.1 paths.1)
 
@@ -161,16 +161,16 @@ following-push : (before es : List Saved) (e : Saved) → AreFollowing before es
 following-push before [] e all follows = (subst (λ xs. may_follow xs e ≡ true) (append-nil before) follows, tt)
 following-push before (x ∷ es) e all follows = (all.0, following-push (before ++ x ∷ []) es e all.1 (subst (λ xs. may_follow xs e ≡ true) (sym (append_assoc before (x ∷ []) es)) follows))
 
-starts-next : (d : ℕ) (h : Held) (before : List Saved) (e : Saved) → IsHeld h → started_seen (record { default_limit = d; entries = before }) ≡ content_of d h → IsEntry 65536 before e
-    → started_seen (record { default_limit = d; entries = before ++ e ∷ [] }) ≡ content_of d (restored_held d h e)
-starts-next d h before e held is entry = fold-push restored_seen (content_of d nothing) before e ∙ ap (λ c. restored_seen c e) is ∙ restored-one d 65536 h before e held entry
+starts-next : (d : ℕ) (h : Held) (before : List Saved) (e : Saved) → IsHeld h → started_seen (record { default_limit = d; entries = before }) ≡ held_content d h → IsEntry 65536 before e
+    → started_seen (record { default_limit = d; entries = before ++ e ∷ [] }) ≡ held_content d (restored_held d h e)
+starts-next d h before e held is entry = fold-push restored_seen (held_content d nothing) before e ∙ ap (λ c. restored_seen c e) is ∙ restored-one d 65536 h before e held entry
 
-pub fine-content : (d : ℕ) (h : Held) (before : List Saved) → IsFine d h before → IsContent (content_of d h)
+pub fine-content : (d : ℕ) (h : Held) (before : List Saved) → IsFine d h before → IsContent (held_content d h)
 fine-content d h before fine = subst IsContent fine.starts (started-content (record { default_limit = d; entries = before }) fine.follows)
 
 fine-directory : (d : ℕ) (h : Held) (before : List Saved) (path : Path) → IsFine d h before → IsEntry 65536 before (SavedDirectory path) → IsFine d (with_directory h path) (before ++ SavedDirectory path ∷ [])
 fine-directory d h before path fine e =
-    let c = content_of d h in
+    let c = held_content d h in
     let entry = SavedDirectory path in
     let added : Directory = record { number = h.next_directory; path = path } in
     let follows = follow-parts before entry e.1 in
@@ -212,22 +212,22 @@ fine-directory d h before path fine e =
       counted = omega arith;
     }
   where
-    branch : (p : Path) → length (subdirectories (content_of d (with_directory h path)) p) ≡ length (subdirectories (content_of d h) p) + cond (not (same_path path []) && same_path (parent path) p) 1 0 → length (subdirectories (content_of d (with_directory h path)) p) ≤ 256
+    branch : (p : Path) → length (subdirectories (held_content d (with_directory h path)) p) ≡ length (subdirectories (held_content d h) p) + cond (not (same_path path []) && same_path (parent path) p) 1 0 → length (subdirectories (held_content d (with_directory h path)) p) ≤ 256
     branch p is = by (not (same_path path []) && same_path (parent path) p) refl is
       where
         entry : Saved
         entry = SavedDirectory path
 
-        room : same_path (parent path) p ≡ true → length (subdirectories (content_of d h) p) < 256
+        room : same_path (parent path) p ≡ true → length (subdirectories (held_content d h) p) < 256
         room here =
             let q : parent path ≡ p = same_path-is (parent path) p here in
             let fewer = more-directories (are_beside (SavedDirectory path)) (λ x. not (same_path x.path []) && same_path (parent x.path) p)
             (λ x t. let b = and_parts (not (same_path x.path [])) (same_path (parent x.path) p) t in (subst (λ q. same_path (parent x.path) q ≡ true) (sym q) b.1, not-root-is x.path b.0)) h.directories in
-            let total = count-saved (content_of d h) before (are_beside (SavedDirectory path)) fine.saves in
+            let total = count-saved (held_content d h) before (are_beside (SavedDirectory path)) fine.saves in
             let few = (follow-parts before (SavedDirectory path) e.1).beside in
             omega arith
 
-        by : (t : Bool) → (not (same_path path []) && same_path (parent path) p) ≡ t → length (subdirectories (content_of d (with_directory h path)) p) ≡ length (subdirectories (content_of d h) p) + cond t 1 0 → length (subdirectories (content_of d (with_directory h path)) p) ≤ 256
+        by : (t : Bool) → (not (same_path path []) && same_path (parent path) p) ≡ t → length (subdirectories (held_content d (with_directory h path)) p) ≡ length (subdirectories (held_content d h) p) + cond t 1 0 → length (subdirectories (held_content d (with_directory h path)) p) ≤ 256
         by true here is = let f = room (and_parts (not (same_path path [])) (same_path (parent path) p) here).1 in omega arith
         by false here is = let f = fine.bound.branches p in omega arith
 
@@ -235,7 +235,7 @@ fine-object : (d : ℕ) (h : Held) (before : List Saved) (n : List ℕ) (ns : Pa
     → IsFine d (restored_held d h (SavedObject (n ∷ ns) lines)) (before ++ SavedObject (n ∷ ns) lines ∷ [])
 fine-object d h before n ns lines fine e =
     let path = n ∷ ns in
-    let c = content_of d h in
+    let c = held_content d h in
     let entry = SavedObject path lines in
     let follows = follow-parts before (SavedObject path []) e.1 in
     let step = next d 65536 h before entry fine.held fine.saves e in
@@ -257,7 +257,7 @@ fine-object d h before n ns lines fine e =
       bound = record {
         handles_end = bound.handles_end;
         objects = all-push IsBoundObject h.objects k bound.objects (name-short path e.0.0, subst (λ ls. length (print_lines ls) ≤ 65536) (sym (text-same lines)) (text-fits 65536 [] lines (omega arith) e.3));
-        crowds = λ m. crowds m (count-push (λ (x : Known). eqb x.object.directory m) h.objects k) (λ here. subst (λ p. p ≡ parent path) (ap (directory_path c) (sym where_is ∙ here)) home.path_is);
+        crowds = λ m. crowds m (count-push (λ (x : LiveObject). eqb x.object.directory m) h.objects k) (λ here. subst (λ p. p ≡ parent path) (ap (directory_path c) (sym where_is ∙ here)) home.path_is);
         directories = bound.directories;
         branches = bound.branches;
         handles = tt;
@@ -278,27 +278,27 @@ fine-object d h before n ns lines fine e =
       counted = fine.counted;
     }
   where
-    any-sort : (c : Content) (path : Path) (os : List Known) → AllByRecursion (λ (o : Known). true ≡ true → same_sort (SavedObject path []) (saved_object c o) ≡ true) os
+    any-sort : (c : Content) (path : Path) (os : List LiveObject) → AllByRecursion (λ (o : LiveObject). true ≡ true → same_sort (SavedObject path []) (saved_object c o) ≡ true) os
     any-sort c path [] = tt
     any-sort c path (o ∷ os) = (λ t. refl, any-sort c path os)
 
     -- those in the directory are beside
-    beside : (m : ℕ) → directory_path (content_of d h) m ≡ parent (n ∷ ns) → (os : List Known) → AllByRecursion (λ (o : Known). eqb o.object.directory m ≡ true → are_beside (SavedObject (n ∷ ns) []) (saved_object (content_of d h) o) ≡ true) os
+    beside : (m : ℕ) → directory_path (held_content d h) m ≡ parent (n ∷ ns) → (os : List LiveObject) → AllByRecursion (λ (o : LiveObject). eqb o.object.directory m ≡ true → are_beside (SavedObject (n ∷ ns) []) (saved_object (held_content d h) o) ≡ true) os
     beside m is [] = tt
     beside m is (o ∷ os) = (
-      λ here. let q : parent (object_path (content_of d h) o) ≡ parent (n ∷ ns) = parent-push (directory_path (content_of d h) o.object.directory) o.object.name ∙ ap (directory_path (content_of d h)) (eqb-true o.object.directory m here) ∙ is in
+      λ here. let q : parent (object_path (held_content d h) o) ≡ parent (n ∷ ns) = parent-push (directory_path (held_content d h) o.object.directory) o.object.name ∙ ap (directory_path (held_content d h)) (eqb-true o.object.directory m here) ∙ is in
           ap (λ p. same_path p (parent (n ∷ ns))) q ∙ path-itself (parent (n ∷ ns)),
       beside m is os,
     )
 
-    crowds : (m : ℕ) → crowd (restored_held d h (SavedObject (n ∷ ns) lines)).objects m ≡ crowd h.objects m + cond (eqb (restored_object (content_of d h) (n ∷ ns)).directory m) 1 0
-        → ((restored_object (content_of d h) (n ∷ ns)).directory ≡ m → directory_path (content_of d h) m ≡ parent (n ∷ ns)) → crowd (restored_held d h (SavedObject (n ∷ ns) lines)).objects m ≤ 256
-    crowds m is here = by (eqb (restored_object (content_of d h) (n ∷ ns)).directory m) refl is
+    crowds : (m : ℕ) → crowd (restored_held d h (SavedObject (n ∷ ns) lines)).objects m ≡ crowd h.objects m + cond (eqb (restored_object (held_content d h) (n ∷ ns)).directory m) 1 0
+        → ((restored_object (held_content d h) (n ∷ ns)).directory ≡ m → directory_path (held_content d h) m ≡ parent (n ∷ ns)) → crowd (restored_held d h (SavedObject (n ∷ ns) lines)).objects m ≤ 256
+    crowds m is here = by (eqb (restored_object (held_content d h) (n ∷ ns)).directory m) refl is
       where
-        by : (t : Bool) → eqb (restored_object (content_of d h) (n ∷ ns)).directory m ≡ t → crowd (restored_held d h (SavedObject (n ∷ ns) lines)).objects m ≡ crowd h.objects m + cond t 1 0 → crowd (restored_held d h (SavedObject (n ∷ ns) lines)).objects m ≤ 256
+        by : (t : Bool) → eqb (restored_object (held_content d h) (n ∷ ns)).directory m ≡ t → crowd (restored_held d h (SavedObject (n ∷ ns) lines)).objects m ≡ crowd h.objects m + cond t 1 0 → crowd (restored_held d h (SavedObject (n ∷ ns) lines)).objects m ≤ 256
         by true at is =
-            let fewer = more-objects (content_of d h) (are_beside (SavedObject (n ∷ ns) [])) (λ x. eqb x.object.directory m) h.objects fine.kept (beside m (here (eqb-true _ m at)) h.objects) in
-            let total = count-saved (content_of d h) before (are_beside (SavedObject (n ∷ ns) [])) fine.saves in
+            let fewer = more-objects (held_content d h) (are_beside (SavedObject (n ∷ ns) [])) (λ x. eqb x.object.directory m) h.objects fine.kept (beside m (here (eqb-true _ m at)) h.objects) in
+            let total = count-saved (held_content d h) before (are_beside (SavedObject (n ∷ ns) [])) fine.saves in
             let few = (follow-parts before (SavedObject (n ∷ ns) []) e.1).beside in
             omega arith
         by false at is = let f = fine.bound.crowds m in omega arith

@@ -28,22 +28,22 @@ use Rattle.pps_types.specs.History.{Attribute, apply_line, resolve, message_line
 use Rattle.pps_types.specs.Reading.{Open, is_directory_kind, Answer, Everything, Blocks, Needs, TargetGone, Waits, Nothing}
 use Rattle.pps_types.specs.Rests.{Seen}
 use Rattle.pps_types.specs.Outbox.{first_of}
-use Rattle.pps_types.specs.Content.{Directory, Known, Content, directory_at, parent_number, object_at, object_in, object_numbered, attributes_of, at, subdirectories, own_handle, handles_of, is_attached, queue_of, news, read_answer}
+use Rattle.pps_types.specs.Content.{Directory, LiveObject, Content, directory_at, parent_number, object_at, object_in, object_numbered, attributes_of, at, subdirectories, own_handle, handles_of, is_attached, queue_of, news, read_answer}
 use Rattle.pps_types.specs.Checks.{Refuse, Memory, first_refusal, refused, parsed, letters_fit, mode_fits, handle_checks, all_checks, object_checks, name_checks, open_checks, on_handle, Addressee, Everyone, OneClient, Nobody, addressee, own_header, limit_checks, changed, text_checks, write_checks, on_path, mkdir_checks, checks}
 use Rattle.pps_types.specs.WellFormed.{directory_numbered}
-use Rattle.pps_types.specs.Plan.{Move, Creates, Happens, Opens, MakesDirectory, apply_all_seen, entry_of, touched, new_object, preparing, new_handle, opening, found_object, read_effect, sent, written_kind, on_target, writing, parting, closing, closings, unlinking, received, with_path, with_result, effect, fired, late_reply, late_replies, had_news, settling_handle, settling, passes_last_number, all_checks_of, decided, plan, step_seen}
+use Rattle.pps_types.specs.Plan.{Move, Creates, AppendsRecord, Opens, MakesDirectory, apply_all_seen, entry_of, touched, new_object, preparing, new_handle, opening, found_object, read_effect, sent, written_kind, on_target, writing, parting, closing, closings, unlinking, received, with_path, with_result, effect, fired, late_reply, late_replies, had_news, settling_handle, settling, passes_last_number, all_checks_of, decided, plan, step_seen}
 use Rattle.pps_types.specs.Image.{directory_path}
-use Rattle.pps_types.proofs.Finds.{all-find, all-imp, some-of}
-use Rattle.pps_types.proofs.Rising.{only-one, found-each}
-use Rattle.pps_types.proofs.Fits.{IsFree, fit-append, safe-fit}
-use Rattle.pps_types.proofs.Trees.{above-of, path-of}
-use Rattle.pps_types.proofs.Holders.{Basis}
-use Rattle.pps_types.proofs.Passes.{all-pass, none-fails, passes-both, behind, place-at, free-place, settling-safe, object-found, effect-fit}
-use Rattle.pps_types.proofs.Settlings.{all-append, all-or, all-cond}
-use Rattle.pps_types.proofs.Orders.{ordered}
-use Rattle.pps_types.proofs.Effects.{accepted}
-use Rattle.content_bounds.specs.Bounds.{IsBoundHandle, IsBound}
-use Rattle.content_bounds.proofs.Texts.{OfOk}
+use Rattle.service_laws.proofs.Finds.{all-find, all-imp, some-of}
+use Rattle.service_laws.proofs.Rising.{only-one, found-each}
+use Rattle.service_laws.proofs.Fits.{IsFree, fit-append, safe-fit}
+use Rattle.service_laws.proofs.Trees.{above-of, path-of}
+use Rattle.service_laws.proofs.Holders.{Basis}
+use Rattle.service_laws.proofs.Passes.{all-pass, none-fails, passes-both, behind, place-at, free-place, settling-safe, object-found, effect-fit}
+use Rattle.service_laws.proofs.Settlings.{all-append, all-or, all-cond}
+use Rattle.service_laws.proofs.Orders.{ordered}
+use Rattle.service_laws.proofs.Effects.{accepted}
+use Rattle.service_laws.specs.Bounds.{IsBoundHandle, IsBound}
+use Rattle.service_laws.proofs.BoundedTexts.{OfOk}
 use Rattle.image_laws.specs.Images.{IsSavedPath}
 use Rattle.image_laws.specs.Savable.{AreSavable, CanBeSaved}
 use Rattle.image_laws.proofs.Places.{home-path}
@@ -96,7 +96,7 @@ read-quiet h size (Needs need) = tt
 read-quiet h size TargetGone = tt
 read-quiet h size Nothing = tt
 
-unlinking-quiet : (o : Option Known) (d : Option Directory) → AreQuiet (unlinking o d)
+unlinking-quiet : (o : Option LiveObject) (d : Option Directory) → AreQuiet (unlinking o d)
 unlinking-quiet (Some o) d = ((λ c. tt), tt)
 unlinking-quiet None (Some d) = ((λ c. tt), tt)
 unlinking-quiet None None = tt
@@ -119,20 +119,20 @@ few-within attributes p =
 
 -- a change of lines that have a printing, whose result is within the limit
 change-savable : (c : Content) (b : Basis c) (s : CanBeSaved c) (h : Open Seen) (text : WriteText) → AllByRecursion IsWritten text.lines → length (changed c h text) ≤ 1024
-    → (o : Known) → object_numbered c h.target ≡ Some o → LeavesSavable c o.object.number (Change (resolve (attributes_of c h.target) text.lines))
+    → (o : LiveObject) → object_numbered c h.target ≡ Some o → LeavesSavable c o.object.number (Change (resolve (attributes_of c h.target) text.lines))
 change-savable c b s h text written le o e =
-    all-imp (λ (p : Known). p.object.number ≡ o.object.number → p ≡ o) (λ p. p.object.number ≡ o.object.number → AreSavable (fold apply_line p.attributes ls)) (λ p only own. subst (λ p. AreSavable (fold apply_line p.attributes ls)) (sym (only own)) few) c.objects
-    (only-one (λ (p : Known). p.object.number) (λ p. eqb p.object.number h.target) 0 c.next_object c.objects b.order.1 o e)
+    all-imp (λ (p : LiveObject). p.object.number ≡ o.object.number → p ≡ o) (λ p. p.object.number ≡ o.object.number → AreSavable (fold apply_line p.attributes ls)) (λ p only own. subst (λ p. AreSavable (fold apply_line p.attributes ls)) (sym (only own)) few) c.objects
+    (only-one (λ (p : LiveObject). p.object.number) (λ p. eqb p.object.number h.target) 0 c.next_object c.objects b.order.1 o e)
   where
     ls : List Line
     ls = resolve (attributes_of c h.target) text.lines
 
     same : attributes_of c h.target ≡ o.attributes
-    same = ap (λ f. option_map_or (λ (o : Known). o.attributes) f []) e
+    same = ap (λ f. option_map_or (λ (o : LiveObject). o.attributes) f []) e
 
     few : AreSavable (fold apply_line o.attributes ls)
     few = (
-      lines-attributes o.attributes ls (all-find (λ (o : Known). AreSavable o.attributes) (λ o. eqb o.object.number h.target) c.objects o s.attributes e).0 (resolve-setting (attributes_of c h.target) text.lines written),
+      lines-attributes o.attributes ls (all-find (λ (o : LiveObject). AreSavable o.attributes) (λ o. eqb o.object.number h.target) c.objects o s.attributes e).0 (resolve-setting (attributes_of c h.target) text.lines written),
       subst (λ attributes. length (fold apply_line attributes ls) ≤ 1024) same le,
     )
 
@@ -146,8 +146,8 @@ written-saving : (c : Content) → Basis c → CanBeSaved c → (h : Open Seen) 
 written-saving c b s h (ObjectHandle delta) text plain written p =
     go (object_numbered c h.target) (change-savable c b s h text written (few-within (changed c h text) (passes-both (own_header h.name text.header) (limit_checks (changed c h text)) p).1))
   where
-    go : (f : Option Known) → ((o : Known) → f ≡ Some o → LeavesSavable c o.object.number (Change (resolve (attributes_of c h.target) text.lines)))
-        → AreSaving c (option_map_or (λ o. Happens (entry_of o.object (Change (resolve (attributes_of c h.target) text.lines)) (Some h.number)) ∷ []) f [])
+    go : (f : Option LiveObject) → ((o : LiveObject) → f ≡ Some o → LeavesSavable c o.object.number (Change (resolve (attributes_of c h.target) text.lines)))
+        → AreSaving c (option_map_or (λ o. AppendsRecord (entry_of o.object (Change (resolve (attributes_of c h.target) text.lines)) (Some h.number)) ∷ []) f [])
     go None few = tt
     go (Some o) few = (few o refl, tt)
 written-saving c b s h ServerHandle text plain written p = quiet-saving _ c (sent-quiet c h (addressee h.name text.header) (map message_line text.lines))
@@ -203,14 +203,14 @@ mkdir-saving c text p = go (path_text text) refl p
 -- ---- Open
 
 -- an object deleted is one less
-deleted-fewer : (o : Known) (test : Known → Bool) (os : List Known) → find test os ≡ Some o → length (filter_map (touched (entry_of o.object Deleted None)) os) < length os
+deleted-fewer : (o : LiveObject) (test : LiveObject → Bool) (os : List LiveObject) → find test os ≡ Some o → length (filter_map (touched (entry_of o.object Deleted None)) os) < length os
 deleted-fewer o test [] e = absurd (let h = e in cc)
 deleted-fewer o test (x ∷ xs) e = by (test x) e (deleted-fewer o test xs) (fewer-objects (touched (entry_of o.object Deleted None)) xs)
   where
     gone : x ≡ o → touched (entry_of o.object Deleted None) x ≡ None
     gone is = ap (touched (entry_of o.object Deleted None)) is ∙ ap (λ t. cond t None (Some o)) (eq-eqb o.object.number o.object.number refl)
 
-    more : (t : Option Known) (ys : List Known) → length (cons_option t ys) ≤ length ys + 1
+    more : (t : Option LiveObject) (ys : List LiveObject) → length (cons_option t ys) ≤ length ys + 1
     more None ys = omega arith
     more (Some y) ys = omega arith
 
@@ -224,7 +224,7 @@ module _ (c : Content) (b : Basis c) (s : CanBeSaved c) (mode : Mode) (spec : Op
   new-path k some e = subst IsSavedPath (sym (ap (λ m. directory_path c m ++ last_name spec.names ∷ []) (unwrap-of (parent_number c spec.names) k e) ∙ made-path c b spec.names k some e)) text
 
   -- another's place is taken, or the object is opened as it is
-  found-saving : (o : Known) → object_at c spec.names ≡ Some o → AreSaving c (preparing c mode spec (Some o))
+  found-saving : (o : LiveObject) → object_at c spec.names ≡ Some o → AreSaving c (preparing c mode spec (Some o))
   found-saving o e = go spec.server (is_some o.object.server) mode.t
     where
       there : (k : ℕ) × (parent_number c spec.names ≡ Some k) × (object_in c (last_name spec.names) k ≡ Some o)
@@ -238,9 +238,9 @@ module _ (c : Content) (b : Basis c) (s : CanBeSaved c) (mode : Mode) (spec : Op
           by (n ∷ ns) e = refl
 
       room : length (filter_map (touched (entry_of o.object Deleted None)) c.objects) < 65535
-      room = let less = deleted-fewer o (λ (x : Known). eqb x.object.directory there.0 && same x.object.name (last_name spec.names)) c.objects there.2 in omega (arith, less, s.objects)
+      room = let less = deleted-fewer o (λ (x : LiveObject). eqb x.object.directory there.0 && same x.object.name (last_name spec.names)) c.objects there.2 in omega (arith, less, s.objects)
 
-      go : (a k t : Bool) → AreSaving c (cond a (Happens (entry_of o.object Deleted None) ∷ Creates (new_object c spec) ∷ []) (cond k (Happens (entry_of o.object (Opened c.next_handle) None) ∷ []) (cond t (Happens (entry_of o.object Truncated None) ∷ []) [])))
+      go : (a k t : Bool) → AreSaving c (cond a (AppendsRecord (entry_of o.object Deleted None) ∷ Creates (new_object c spec) ∷ []) (cond k (AppendsRecord (entry_of o.object (Opened c.next_handle) None) ∷ []) (cond t (AppendsRecord (entry_of o.object Truncated None) ∷ []) [])))
       go true k t = (tt, ((new-path there.0 some there.1, room), tt))
       go false true t = (tt, tt)
       go false false true = (tt, tt)
@@ -251,7 +251,7 @@ module _ (c : Content) (b : Basis c) (s : CanBeSaved c) (mode : Mode) (spec : Op
   none-saving all (Some (FoundDirectory number)) placed none p = absurd (let no = (all-pass (name_checks c mode spec (Some (FoundDirectory number))) p).1.0 in cc)
   none-saving all (Some (FoundObject number)) placed none p = absurd (no (directory_at c spec.names) (object_at c spec.names) none (place-at (at c) spec.names (Some (FoundObject number)) placed))
     where
-      no : (d : Option Directory) (o : Option Known) → o ≡ None → option_or (option_map (λ (d : Directory). FoundDirectory d.number) d) (option_map (λ (o : Known). FoundObject o.object.number) o) ≡ Some (FoundObject number) → ⊥
+      no : (d : Option Directory) (o : Option LiveObject) → o ≡ None → option_or (option_map (λ (d : Directory). FoundDirectory d.number) d) (option_map (λ (o : LiveObject). FoundObject o.object.number) o) ≡ Some (FoundObject number) → ⊥
       no None None e f = absurd (let h = f in cc)
       no None (Some o) e f = absurd (let h = e in cc)
       no (Some d) o e f = absurd (let h = f in cc)
@@ -290,7 +290,7 @@ opening-saving c b s conn mode spec text p =
     by true all found e q = subst (λ a. AreSaving c (cond a [] (Creates (new_object c spec) ∷ []))) (sym all) tt
     by false all found e q = stands (object_at c spec.names) refl
       where
-        stands : (o : Option Known) → object_at c spec.names ≡ o → AreSaving c (preparing c mode spec o)
+        stands : (o : Option LiveObject) → object_at c spec.names ≡ o → AreSaving c (preparing c mode spec o)
         stands None f = none-saving c b s mode spec (text all) all found e f q
         stands (Some o) f = found-saving c b s mode spec (text all) o f
 

@@ -4,13 +4,13 @@ use Rattle.pps_types.specs.declared.event.Event.{Event}
 use Rattle.pps_types.specs.Outcome.{Reply, is_marked}
 use Rattle.pps_types.specs.Content.{Content}
 use Rattle.pps_types.specs.WellFormed.{IsContent}
-use Rattle.pps_types.specs.Plan.{Move, Attaches, Leaves, Creates, Happens, Opens, Closes, CatchesUp, Passes, Parks, Arms, Queues, Takes, MakesDirectory, RemovesDirectory, apply_seen, apply_all_seen, plan, step_seen}
-use Rattle.pps_types.specs.Machine.{Machine, IsMachine, shown, step, marked_step}
+use Rattle.pps_types.specs.Plan.{Move, Attaches, Leaves, Creates, AppendsRecord, Opens, Closes, CatchesUp, Advances, Parks, Arms, Queues, Takes, MakesDirectory, RemovesDirectory, apply_seen, apply_all_seen, plan, step_seen}
+use Rattle.pps_types.specs.Machine.{Machine, IsMachine, content_of, step, marked_step}
 use Rattle.pps_types.specs.Runs.{Answered, after, after_seen, after_answered, end_of}
-use Rattle.pps_types.proofs.WellSteps.{basis-in, step-content}
-use Rattle.pps_types.proofs.Law.{step-shown, step-made}
-use Rattle.content_bounds.specs.Bounds.{IsBound}
-use Rattle.content_bounds.proofs.Events.{bounds-stay}
+use Rattle.service_laws.proofs.WellSteps.{basis-in, step-content}
+use Rattle.service_laws.proofs.Law.{step-shown, step-made}
+use Rattle.service_laws.specs.Bounds.{IsBound}
+use Rattle.service_laws.proofs.BoundedEvents.{bounds-stay}
 use Rattle.image_laws.specs.Laws.{IsReadAgain, IsReadLater}
 use Rattle.image_laws.specs.Savable.{CanBeSaved}
 use Rattle.image_laws.proofs.SavedEvents.{step-saved}
@@ -26,11 +26,11 @@ limit-kept : (x : Move) (c : Content) → (apply_seen x c).default_limit ≡ c.d
 limit-kept (Attaches conn) c = refl
 limit-kept (Leaves conn) c = refl
 limit-kept (Creates o) c = refl
-limit-kept (Happens e) c = refl
+limit-kept (AppendsRecord e) c = refl
 limit-kept (Opens h) c = refl
 limit-kept (Closes number) c = refl
 limit-kept (CatchesUp number) c = refl
-limit-kept (Passes number count) c = refl
+limit-kept (Advances number count) c = refl
 limit-kept (Parks number size) c = refl
 limit-kept (Arms number pulse) c = refl
 limit-kept (Queues conn item) c = refl
@@ -51,18 +51,18 @@ limit-step c e = limit-after (plan c e).1 c
 -- what stands of it can be saved, with that limit
 pub record IsSaving (limit : ℕ) (m : Machine) : Type 0 where
   pub made : IsMachine m
-  pub bound : IsBound (shown m)
-  pub can : CanBeSaved (shown m)
-  pub keeps : (shown m).default_limit ≡ limit
+  pub bound : IsBound (content_of m)
+  pub can : CanBeSaved (content_of m)
+  pub keeps : (content_of m).default_limit ≡ limit
 
 step-saving : (limit : ℕ) (m : Machine) (e : Event) → IsSaving limit m → IsSaving limit (step m e).1
 step-saving limit m e s =
-    let is : (step_seen (shown m) e).1 ≡ shown (step m e).1 = sym (ap (λ (r : Reply × Content). r.1) (step-shown m s.made e)) in
+    let is : (step_seen (content_of m) e).1 ≡ content_of (step m e).1 = sym (ap (λ (r : Reply × Content). r.1) (step-shown m s.made e)) in
     record {
       made = step-made m s.made e;
-      bound = subst IsBound is (bounds-stay.stays (shown m) s.made.standing s.bound e);
-      can = subst CanBeSaved is (step-saved (shown m) e (basis-in (shown m) s.made.standing) s.bound s.can);
-      keeps = ap (λ (c : Content). c.default_limit) (sym is) ∙ limit-step (shown m) e ∙ s.keeps;
+      bound = subst IsBound is (bounds-stay.stays (content_of m) s.made.standing s.bound e);
+      can = subst CanBeSaved is (step-saved (content_of m) e (basis-in (content_of m) s.made.standing) s.bound s.can);
+      keeps = ap (λ (c : Content). c.default_limit) (sym is) ∙ limit-step (content_of m) e ∙ s.keeps;
     }
 
 after-saving : (limit : ℕ) (es : List Event) (m : Machine) → IsSaving limit m → IsSaving limit (after m es)
@@ -74,8 +74,8 @@ end-saving limit [] m s = s
 end-saving limit (x ∷ xs) m s = end-saving limit xs (after_answered m x)
     (elim (is_marked x.reply) as (λ b. IsSaving limit (marked_step m x.event b).1) [ true ↦ s | false ↦ step-saving limit m x.event s ])
 
-reads-again : (limit : ℕ) (m : Machine) → IsSaving limit m → IsReadAgain limit (shown m)
-reads-again limit m s = subst (λ n. IsReadAgain n (shown m)) s.keeps (image-read (shown m) s.made.standing s.bound s.can)
+reads-again : (limit : ℕ) (m : Machine) → IsSaving limit m → IsReadAgain limit (content_of m)
+reads-again limit m s = subst (λ n. IsReadAgain n (content_of m)) s.keeps (image-read (content_of m) s.made.standing s.bound s.can)
 
 pub read-later : (m : Machine) → IsSaving m.default_limit m → IsReadLater m
 read-later m s = record {

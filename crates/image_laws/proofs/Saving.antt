@@ -8,15 +8,15 @@ use Rattle.pps_types.specs.Bytes.{same, is_empty}
 use Rattle.pps_types.specs.Text.{print_line, print_lines}
 use Rattle.pps_types.specs.Names.{Path, same_path, parent}
 use Rattle.pps_types.specs.History.{Attribute, line_of, persistent, text_length}
-use Rattle.pps_types.specs.Content.{Directory, Known, Content, directory_at}
+use Rattle.pps_types.specs.Content.{Directory, LiveObject, Content, directory_at}
 use Rattle.pps_types.specs.WellFormed.{IsContent}
 use Rattle.pps_types.specs.Image.{SavedLine, Saved, SavedDirectory, SavedObject, path_of, as_line, saved_line, directory_path, is_kept, saved_object, saved, image, is_directory_entry, same_sort, has_parent, are_beside, read_image}
 use Rattle.pps_types.proofs.Lists.{append-nil}
-use Rattle.pps_types.proofs.Finds.{is-some}
-use Rattle.pps_types.proofs.PathEnds.{parent-push}
-use Rattle.pps_types.proofs.Trees.{same_path-is}
-use Rattle.content_bounds.specs.Bounds.{IsBoundObject, IsBound}
-use Rattle.content_bounds.proofs.Lists.{filter-push}
+use Rattle.service_laws.proofs.Finds.{is-some}
+use Rattle.service_laws.proofs.PathEnds.{parent-push}
+use Rattle.service_laws.proofs.Trees.{same_path-is}
+use Rattle.service_laws.specs.Bounds.{IsBoundObject, IsBound}
+use Rattle.service_laws.proofs.BoundedLists.{filter-push}
 use Rattle.image_laws.specs.Images.{is_new, AreLines, IsSavedPath}
 use Rattle.image_laws.specs.Savable.{object_path, AreAttributes, AreSavable, CanBeSaved}
 use Rattle.image_laws.proofs.Good.{IsGood}
@@ -27,33 +27,33 @@ use Rattle.image_laws.proofs.Sorted.{IsWell, sorted-entries}
 abbrev pub directories_of : List Directory → List Saved
 directories_of ds = map (λ d. SavedDirectory d.path) (filter (λ d. not (is_empty d.path)) ds)
 
-abbrev pub objects_of : Content → List Known → List Saved
+abbrev pub objects_of : Content → List LiveObject → List Saved
 objects_of c os = map (saved_object c) (filter is_kept os)
 
 -- ---- apart
 
 module _ (c : Content) where
-  all-objects : (p : Path → Bool) (os : List Known) → list_all p (map (object_path c) os) ≡ true → list_all p (map path_of (objects_of c os)) ≡ true
+  all-objects : (p : Path → Bool) (os : List LiveObject) → list_all p (map (object_path c) os) ≡ true → list_all p (map path_of (objects_of c os)) ≡ true
   all-objects p [] h = refl
   all-objects p (o ∷ os) h =
       let parts = and_parts (p (object_path c o)) (list_all p (map (object_path c) os)) h in
       elim (is_kept o) as (λ b. list_all p (map path_of (map (saved_object c) (cond b (o ∷ filter is_kept os) (filter is_kept os)))) ≡ true)
       [ true ↦ and_from _ _ parts.0 (all-objects p os parts.1) | false ↦ all-objects p os parts.1 ]
 
-  all-entries : (p : Path → Bool) (ds : List Directory) (os : List Known) → list_all p (map (λ d. d.path) ds ++ map (object_path c) os) ≡ true → list_all p (map path_of (directories_of ds ++ objects_of c os)) ≡ true
+  all-entries : (p : Path → Bool) (ds : List Directory) (os : List LiveObject) → list_all p (map (λ d. d.path) ds ++ map (object_path c) os) ≡ true → list_all p (map path_of (directories_of ds ++ objects_of c os)) ≡ true
   all-entries p [] os h = all-objects p os h
   all-entries p (d ∷ ds) os h =
       let parts = and_parts (p d.path) (list_all p (map (λ d. d.path) ds ++ map (object_path c) os)) h in
       elim (not (is_empty d.path)) as (λ b. list_all p (map path_of (map (λ (d : Directory). SavedDirectory d.path) (cond b (d ∷ filter (λ d. not (is_empty d.path)) ds) (filter (λ d. not (is_empty d.path)) ds)) ++ objects_of c os)) ≡ true)
       [ true ↦ and_from _ _ parts.0 (all-entries p ds os parts.1) | false ↦ all-entries p ds os parts.1 ]
 
-  apart-objects : (os : List Known) → AreApart (map (object_path c) os) → AreApart (map path_of (objects_of c os))
+  apart-objects : (os : List LiveObject) → AreApart (map (object_path c) os) → AreApart (map path_of (objects_of c os))
   apart-objects [] h = tt
   apart-objects (o ∷ os) h =
       elim (is_kept o) as (λ b. AreApart (map path_of (map (saved_object c) (cond b (o ∷ filter is_kept os) (filter is_kept os)))))
       [ true ↦ (all-objects (λ q. not (same_path (object_path c o) q)) os h.0, apart-objects os h.1) | false ↦ apart-objects os h.1 ]
 
-  apart-entries : (ds : List Directory) (os : List Known) → AreApart (map (λ d. d.path) ds ++ map (object_path c) os) → AreApart (map path_of (directories_of ds ++ objects_of c os))
+  apart-entries : (ds : List Directory) (os : List LiveObject) → AreApart (map (λ d. d.path) ds ++ map (object_path c) os) → AreApart (map path_of (directories_of ds ++ objects_of c os))
   apart-entries [] os h = apart-objects os h
   apart-entries (d ∷ ds) os h =
       elim (not (is_empty d.path)) as (λ b. AreApart (map path_of (map (λ (d : Directory). SavedDirectory d.path) (cond b (d ∷ filter (λ d. not (is_empty d.path)) ds) (filter (λ d. not (is_empty d.path)) ds)) ++ objects_of c os)))
@@ -96,7 +96,7 @@ count-append p (x ∷ xs) ys =
     [ true ↦ (let h = count-append p xs ys in omega arith) | false ↦ count-append p xs ys ]
 
 -- no object is of a directory's sort, and no directory of an object's
-pub none-objects : (p : Saved → Bool) (c : Content) → ((path : Path) (lines : List SavedLine) → p (SavedObject path lines) ≡ false) → (os : List Known) → filter p (map (saved_object c) os) ≡ []
+pub none-objects : (p : Saved → Bool) (c : Content) → ((path : Path) (lines : List SavedLine) → p (SavedObject path lines) ≡ false) → (os : List LiveObject) → filter p (map (saved_object c) os) ≡ []
 none-objects p c not_it [] = refl
 none-objects p c not_it (o ∷ os) = rw (not_it (object_path c o) (map saved_line (persistent o.attributes))) (none-objects p c not_it os)
 
@@ -118,7 +118,7 @@ count-directories p t f (d ∷ ds) = by (is_empty d.path) (p (SavedDirectory d.p
     by false false true root x y h = rw x (omega arith)
     by false false false root x y h = rw x h
 
-pub count-objects : (c : Content) (p : Saved → Bool) (t : Known → Bool) (os : List Known) → AllByRecursion (λ o. p (saved_object c o) ≡ true → t o ≡ true) os → length (filter p (objects_of c os)) ≤ length (filter t os)
+pub count-objects : (c : Content) (p : Saved → Bool) (t : LiveObject → Bool) (os : List LiveObject) → AllByRecursion (λ o. p (saved_object c o) ≡ true → t o ≡ true) os → length (filter p (objects_of c os)) ≤ length (filter t os)
 count-objects c p t [] f = omega arith
 count-objects c p t (o ∷ os) f = by (is_kept o) (p (saved_object c o)) (t o) refl refl f.0 (count-objects c p t os f.1)
   where
@@ -135,7 +135,7 @@ pub all-pass : {X : Type 0} (xs : List X) → length (filter (λ x. true) xs) �
 all-pass [] = refl
 all-pass (x ∷ xs) = ap suc (all-pass xs)
 
-pub any-objects : (c : Content) (p : Saved → Bool) (os : List Known) → AllByRecursion (λ (o : Known). p (saved_object c o) ≡ true → true ≡ true) os
+pub any-objects : (c : Content) (p : Saved → Bool) (os : List LiveObject) → AllByRecursion (λ (o : LiveObject). p (saved_object c o) ≡ true → true ≡ true) os
 any-objects c p [] = tt
 any-objects c p (o ∷ os) = (λ h. refl, any-objects c p os)
 
@@ -268,7 +268,7 @@ push-some (m ∷ p) n = refl
 
 module _ (c : Content) (w : IsContent c) where
   -- those beside an object lie in its directory
-  pub beside-home : (o : Known) → is_some (find (λ d. eqb d.number o.object.directory) c.directories) ≡ true → (os : List Known) → AllByRecursion (λ o. is_some (find (λ d. eqb d.number o.object.directory) c.directories) ≡ true) os
+  pub beside-home : (o : LiveObject) → is_some (find (λ d. eqb d.number o.object.directory) c.directories) ≡ true → (os : List LiveObject) → AllByRecursion (λ o. is_some (find (λ d. eqb d.number o.object.directory) c.directories) ≡ true) os
       → AllByRecursion (λ k. are_beside (saved_object c o) (saved_object c k) ≡ true → eqb k.object.directory o.object.directory ≡ true) os
   beside-home o h [] all = tt
   beside-home o h (k ∷ os) all = (
@@ -281,7 +281,7 @@ module _ (c : Content) (content : IsContent c) (bound : IsBound c) (can : CanBeS
   placed : ArePlaced c
   placed = places c content
 
-  object-well : (o : Known) → IsBoundObject o → is_some (find (λ d. eqb d.number o.object.directory) c.directories) ≡ true → IsSavedPath (object_path c o) → AreSavable o.attributes → IsWell (all_entries c) (saved_object c o)
+  object-well : (o : LiveObject) → IsBoundObject o → is_some (find (λ d. eqb d.number o.object.directory) c.directories) ≡ true → IsSavedPath (object_path c o) → AreSavable o.attributes → IsWell (all_entries c) (saved_object c o)
   object-well o sized h path attributes = record {
     path_is = path;
     some = push-some (directory_path c o.object.directory) o.object.name;
@@ -308,7 +308,7 @@ module _ (c : Content) (content : IsContent c) (bound : IsBound c) (can : CanBeS
     lines_are = lines-well [] o.attributes attributes.0 (let h = persistent-shorter o.attributes in omega (arith, sized.1));
   }
 
-  objects-well : (os : List Known) → AllByRecursion IsBoundObject os → AllByRecursion (λ o. is_some (find (λ d. eqb d.number o.object.directory) c.directories) ≡ true) os → AllByRecursion (λ o. IsSavedPath (object_path c o)) os
+  objects-well : (os : List LiveObject) → AllByRecursion IsBoundObject os → AllByRecursion (λ o. is_some (find (λ d. eqb d.number o.object.directory) c.directories) ≡ true) os → AllByRecursion (λ o. IsSavedPath (object_path c o)) os
       → AllByRecursion (λ o. AreSavable o.attributes) os → AllByRecursion (IsWell (all_entries c)) (objects_of c os)
   objects-well [] sized homes paths attributes = tt
   objects-well (o ∷ os) sized homes paths attributes =

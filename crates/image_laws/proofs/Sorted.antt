@@ -13,7 +13,7 @@ use Rattle.std.proofs.lemmas.List.Folds.{list_all-append}
 use Rattle.pps_types.specs.Bytes.{is_empty}
 use Rattle.pps_types.specs.Names.{Name, Path, same_path, parent, name_cmp, path_cmp, insert_by, sorted_by}
 use Rattle.pps_types.specs.Image.{Saved, SavedDirectory, SavedObject, path_of, is_directory_entry, same_sort, has_parent, are_beside, may_follow, SavedLine}
-use Rattle.pps_types.proofs.Trees.{same_path-is, path-itself}
+use Rattle.service_laws.proofs.Trees.{same_path-is, path-itself}
 use Rattle.image_laws.specs.Images.{AreLines, IsSavedPath}
 use Rattle.image_laws.proofs.Good.{IsEntry, AreEntries}
 use Rattle.image_laws.proofs.Places.{AreApart}

@@ -8,19 +8,19 @@ use Rattle.pps_types.specs.declared.record.Kind.TheVariants.{Change}
 use Rattle.pps_types.specs.Bytes.{same, is_empty}
 use Rattle.pps_types.specs.Names.{Path, same_path, parent, last_name, path_cmp, sorted_by}
 use Rattle.pps_types.specs.History.{Attribute, Entry, put, persistent}
-use Rattle.pps_types.specs.Content.{Object, Directory, Known, Content, parent_number}
+use Rattle.pps_types.specs.Content.{Object, Directory, LiveObject, Content, parent_number}
 use Rattle.pps_types.specs.WellFormed.{AreRising}
-use Rattle.pps_types.specs.Plan.{Move, Happens, entry_of, touched, apply_all_seen}
-use Rattle.pps_types.specs.Machine.{start, shown}
+use Rattle.pps_types.specs.Plan.{Move, AppendsRecord, entry_of, touched, apply_all_seen}
+use Rattle.pps_types.specs.Machine.{start, content_of}
 use Rattle.pps_types.specs.Image.{SavedLine, Saved, SavedDirectory, SavedObject, path_of, as_line, saved_line, directory_path, is_kept, saved_object, saved, Image, is_directory_entry, has_parent, restored_object, restored_seen, started_seen}
 use Rattle.pps_types.proofs.Lists.{all-push, all-weaken, append-nil}
-use Rattle.pps_types.proofs.Finds.{all-find}
-use Rattle.pps_types.proofs.Rising.{rising-push, rising-below}
-use Rattle.pps_types.proofs.Trees.{same_path-is}
-use Rattle.content_bounds.proofs.Lists.{filter-push}
+use Rattle.service_laws.proofs.Finds.{all-find}
+use Rattle.service_laws.proofs.Rising.{rising-push, rising-below}
+use Rattle.service_laws.proofs.Trees.{same_path-is}
+use Rattle.service_laws.proofs.BoundedLists.{filter-push}
 use Rattle.image_laws.specs.Images.{is_new, AreLines}
 use Rattle.image_laws.proofs.Good.{IsEntry, AreEntries}
-use Rattle.text_parts.proofs.Same.{same-sym}
+use Rattle.pps_types.proofs.SameBytes.{same-sym}
 use Rattle.image_laws.proofs.Entries.{MayFollow, follow-parts}
 use Rattle.image_laws.proofs.Sorting.{paths_total, all-sorted, any-sorted, sorted-last}
 
@@ -28,18 +28,18 @@ use Rattle.image_laws.proofs.Sorting.{paths_total, all-sorted, any-sorted, sorte
 
 pub record Held : Type 0 where
   pub records : ℕ
-  pub objects : List Known
+  pub objects : List LiveObject
   pub next_object : ℕ
   pub directories : List Directory
   pub next_directory : ℕ
 
-abbrev pub content_of : ℕ → Held → Content
-content_of d h = record { default_limit = d; records = h.records; objects = h.objects; next_object = h.next_object; directories = h.directories; next_directory = h.next_directory; handles = []; next_handle = 1; connections = [] }
+abbrev pub held_content : ℕ → Held → Content
+held_content d h = record { default_limit = d; records = h.records; objects = h.objects; next_object = h.next_object; directories = h.directories; next_directory = h.next_directory; handles = []; next_handle = 1; connections = [] }
 
 abbrev pub nothing : Held
 nothing = record { records = 0; objects = []; next_object = 0; directories = record { number = 0; path = [] } ∷ []; next_directory = 1 }
 
-pub begins : (d : ℕ) → shown (start 1 d) ≡ content_of d nothing
+pub begins : (d : ℕ) → content_of (start 1 d) ≡ held_content d nothing
 begins d = refl
 
 -- ---- the lines of an object
@@ -57,33 +57,33 @@ put-new (x ∷ before) l h = rw (same-sym l.name x.name) (by (same x.name l.name
     by false h rec = ap (λ rest. restored_attribute x ∷ rest) (rec h)
 
 -- a record of one object leaves the others as they are
-touched-others : (e : Entry) (olds : List Known) (k : Known) → AllByRecursion (λ o. o.object.number < e.record_of.object) olds → filter_map (touched e) (olds ++ k ∷ []) ≡ olds ++ cons_option (touched e k) []
+touched-others : (e : Entry) (olds : List LiveObject) (k : LiveObject) → AllByRecursion (λ o. o.object.number < e.record_of.object) olds → filter_map (touched e) (olds ++ k ∷ []) ≡ olds ++ cons_option (touched e k) []
 touched-others e [] k all = refl
 touched-others e (o ∷ olds) k all =
     let other : eqb e.record_of.object o.object.number ≡ false = ne_eqb _ _ (λ is. absurd (omega (arith, all.0, is))) in
     rw other (ap (λ rest. o ∷ rest) (touched-others e olds k all.1))
 
 abbrev pub line_moves : Object → List SavedLine → List Move
-line_moves o lines = map (λ l. Happens (entry_of o (Change (as_line l ∷ [])) None)) lines
+line_moves o lines = map (λ l. AppendsRecord (entry_of o (Change (as_line l ∷ [])) None)) lines
 
-abbrev pub known_with : Object → List SavedLine → Known
+abbrev pub known_with : Object → List SavedLine → LiveObject
 known_with o lines = record { object = o; attributes = map restored_attribute lines }
 
-pub lines-applied : (d longest records next_object next_directory : ℕ) (olds : List Known) (o : Object) (directories : List Directory) (before lines : List SavedLine) → AllByRecursion (λ k. k.object.number < o.number) olds → AreLines longest before lines
-    → apply_all_seen (line_moves o lines) (content_of d (record { records = records; objects = olds ++ known_with o before ∷ []; next_object = next_object; directories = directories; next_directory = next_directory }))
-    ≡ content_of d (record { records = records + length lines; objects = olds ++ known_with o (before ++ lines) ∷ []; next_object = next_object; directories = directories; next_directory = next_directory })
+pub lines-applied : (d longest records next_object next_directory : ℕ) (olds : List LiveObject) (o : Object) (directories : List Directory) (before lines : List SavedLine) → AllByRecursion (λ k. k.object.number < o.number) olds → AreLines longest before lines
+    → apply_all_seen (line_moves o lines) (held_content d (record { records = records; objects = olds ++ known_with o before ∷ []; next_object = next_object; directories = directories; next_directory = next_directory }))
+    ≡ held_content d (record { records = records + length lines; objects = olds ++ known_with o (before ++ lines) ∷ []; next_object = next_object; directories = directories; next_directory = next_directory })
 lines-applied d longest records next_object next_directory olds o directories before [] all h =
     let none : records ≡ records + 0 = omega arith in
-    λ i. content_of d (record { records = none i; objects = olds ++ known_with o (sym (append-nil before) i) ∷ []; next_object = next_object; directories = directories; next_directory = next_directory })
+    λ i. held_content d (record { records = none i; objects = olds ++ known_with o (sym (append-nil before) i) ∷ []; next_object = next_object; directories = directories; next_directory = next_directory })
 lines-applied d longest records next_object next_directory olds o directories before (l ∷ lines) all h =
     let e : Entry = entry_of o (Change (as_line l ∷ [])) None in
     let own : eqb o.number o.number ≡ true = eq-eqb o.number o.number refl in
     let changed : filter_map (touched e) (olds ++ known_with o before ∷ []) ≡ olds ++ known_with o (before ++ l ∷ []) ∷ [] =
     touched-others e olds (known_with o before) all ∙ (rw own (ap (λ attributes. olds ++ record { object = o; attributes = attributes } ∷ []) (put-new before l h.1))) in
     let more : (records + 1) + length lines ≡ records + length (l ∷ lines) = omega arith in
-    ap (λ objects. apply_all_seen (line_moves o lines) (content_of d (record { records = records + 1; objects = objects; next_object = next_object; directories = directories; next_directory = next_directory }))) changed
+    ap (λ objects. apply_all_seen (line_moves o lines) (held_content d (record { records = records + 1; objects = objects; next_object = next_object; directories = directories; next_directory = next_directory }))) changed
     ∙ lines-applied d longest (records + 1) next_object next_directory olds o directories (before ++ l ∷ []) lines all h.3
-    ∙ (λ i. content_of d (record { records = more i; objects = olds ++ known_with o (append_assoc before (l ∷ []) lines i) ∷ []; next_object = next_object; directories = directories; next_directory = next_directory }))
+    ∙ (λ i. held_content d (record { records = more i; objects = olds ++ known_with o (append_assoc before (l ∷ []) lines i) ∷ []; next_object = next_object; directories = directories; next_directory = next_directory }))
 
 -- what is saved of them
 saved-again : (lines : List SavedLine) → map saved_line (persistent (map restored_attribute lines)) ≡ lines
@@ -100,7 +100,7 @@ with_object h o lines = record h { records = (h.records + 1) + length lines; obj
 
 abbrev pub restored_held : ℕ → Held → Saved → Held
 restored_held d h (SavedDirectory path) = with_directory h path
-restored_held d h (SavedObject path lines) = with_object h (restored_object (content_of d h) path) lines
+restored_held d h (SavedObject path lines) = with_object h (restored_object (held_content d h) path) lines
 
 -- the root stands first
 abbrev pub HasRoot : List Directory → Type 0
@@ -115,10 +115,10 @@ pub record IsHeld (h : Held) : Type 0 where
   pub root : HasRoot h.directories
   pub follow : 1 ≤ h.next_directory
 
-pub restored-one : (d longest : ℕ) (h : Held) (before : List Saved) (e : Saved) → IsHeld h → IsEntry longest before e → restored_seen (content_of d h) e ≡ content_of d (restored_held d h e)
+pub restored-one : (d longest : ℕ) (h : Held) (before : List Saved) (e : Saved) → IsHeld h → IsEntry longest before e → restored_seen (held_content d h) e ≡ held_content d (restored_held d h e)
 restored-one d longest h before (SavedDirectory path) held is = refl
 restored-one d longest h before (SavedObject path lines) held is =
-    lines-applied d longest (h.records + 1) (h.next_object + 1) h.next_directory h.objects (restored_object (content_of d h) path) h.directories [] lines
+    lines-applied d longest (h.records + 1) (h.next_object + 1) h.next_directory h.objects (restored_object (held_content d h) path) h.directories [] lines
     (rising-below (λ o. o.object.number) 0 h.next_object h.objects held.objects_rise) is.3
 
 -- ---- it holds of what follows
@@ -162,8 +162,8 @@ path-numbered test low high (x ∷ ds) d r e = by (test x) e (path-numbered test
 -- the directory of a path
 pub record IsHome (d : ℕ) (h : Held) (path : Path) : Type 0 where
   pub number : ℕ
-  pub is : parent_number (content_of d h) path ≡ Some number
-  pub path_is : directory_path (content_of d h) number ≡ parent path
+  pub is : parent_number (held_content d h) path ≡ Some number
+  pub path_is : directory_path (held_content d h) number ≡ parent path
   pub below : number < h.next_directory
   pub there : is_some (find (λ x. eqb x.number number) h.directories) ≡ true
 
@@ -207,11 +207,11 @@ any-directory c path e =
     (sym (any-sorted path_cmp path_of (λ x. is_directory_entry x && same_path (path_of x) path) (map (λ d. SavedDirectory d.path) (filter (λ d. not (is_empty d.path)) c.directories) ++ map (saved_object c) (filter is_kept c.objects))) ∙ e)
     (within c.directories)
   where
-    no-object : (os : List Known) → list_any (λ x. is_directory_entry x && same_path (path_of x) path) (map (saved_object c) os) ≡ false
+    no-object : (os : List LiveObject) → list_any (λ x. is_directory_entry x && same_path (path_of x) path) (map (saved_object c) os) ≡ false
     no-object [] = refl
     no-object (o ∷ os) = no-object os
 
-    split : (xs : List Saved) (os : List Known) → list_any (λ x. is_directory_entry x && same_path (path_of x) path) (xs ++ map (saved_object c) os) ≡ true → (list_any (λ x. is_directory_entry x && same_path (path_of x) path) xs ≡ true → list_any (λ x. same_path x.path path) c.directories ≡ true) → list_any (λ x. same_path x.path path) c.directories ≡ true
+    split : (xs : List Saved) (os : List LiveObject) → list_any (λ x. is_directory_entry x && same_path (path_of x) path) (xs ++ map (saved_object c) os) ≡ true → (list_any (λ x. is_directory_entry x && same_path (path_of x) path) xs ≡ true → list_any (λ x. same_path x.path path) c.directories ≡ true) → list_any (λ x. same_path x.path path) c.directories ≡ true
     split xs os e f = f (front xs e)
       where
         front : (xs : List Saved) → list_any (λ x. is_directory_entry x && same_path (path_of x) path) (xs ++ map (saved_object c) os) ≡ true → list_any (λ x. is_directory_entry x && same_path (path_of x) path) xs ≡ true
@@ -231,7 +231,7 @@ any-directory c path e =
         by true false is e rec = rec e
         by false false is e rec = rec (ap (λ s. s || list_any (λ x. is_directory_entry x && same_path (path_of x) path) (map (λ d. SavedDirectory d.path) (filter (λ d. not (is_empty d.path)) ds))) (sym is) ∙ e)
 
-pub parent-there : (d : ℕ) (h : Held) (before : List Saved) (e : Saved) → IsHeld h → saved (content_of d h) ≡ before → has_parent before e ≡ true → list_any (λ x. same_path x.path (parent (path_of e))) h.directories ≡ true
+pub parent-there : (d : ℕ) (h : Held) (before : List Saved) (e : Saved) → IsHeld h → saved (held_content d h) ≡ before → has_parent before e ≡ true → list_any (λ x. same_path x.path (parent (path_of e))) h.directories ≡ true
 parent-there d h before e held is has = by (is_empty (parent (path_of e))) refl has
   where
     empty : (p : Path) → is_empty p ≡ true → p ≡ []
@@ -244,7 +244,7 @@ parent-there d h before e held is has = by (is_empty (parent (path_of e))) refl 
 
     by : (t : Bool) → is_empty (parent (path_of e)) ≡ t → (t || list_any (λ x. is_directory_entry x && same_path (path_of x) (parent (path_of e))) before) ≡ true → list_any (λ x. same_path x.path (parent (path_of e))) h.directories ≡ true
     by true at-root has = rw (empty (parent (path_of e)) at-root) (root h.directories held.root)
-    by false at-root has = any-directory (content_of d h) (parent (path_of e)) (subst (λ es. list_any (λ x. is_directory_entry x && same_path (path_of x) (parent (path_of e))) es ≡ true) (sym is) has)
+    by false at-root has = any-directory (held_content d h) (parent (path_of e)) (subst (λ es. list_any (λ x. is_directory_entry x && same_path (path_of x) (parent (path_of e))) es ≡ true) (sym is) has)
 
 -- ---- one entry more is saved
 
@@ -258,16 +258,16 @@ parent-last n [] = refl
 parent-last n (m ∷ ns) = ap (λ rest. n ∷ rest) (parent-last m ns)
 
 -- a later directory changes no path
-pub path-stays : (d : ℕ) (h : Held) (path : Path) (n : ℕ) → n < h.next_directory → directory_path (content_of d (with_directory h path)) n ≡ directory_path (content_of d h) n
+pub path-stays : (d : ℕ) (h : Held) (path : Path) (n : ℕ) → n < h.next_directory → directory_path (held_content d (with_directory h path)) n ≡ directory_path (held_content d h) n
 path-stays d h path n lt =
     let other : eqb h.next_directory n ≡ false = ne_eqb _ _ (λ is. absurd (omega (arith, lt, is))) in
     rw (filter-push (λ x. eqb x.number n) h.directories (record { number = h.next_directory; path = path }), other, append-nil (filter (λ x. eqb x.number n) h.directories)) refl
 
-objects-stay : (d : ℕ) (h : Held) (path : Path) (os : List Known) → AllByRecursion (λ o. o.object.directory < h.next_directory) os
-    → map (saved_object (content_of d (with_directory h path))) (filter is_kept os) ≡ map (saved_object (content_of d h)) (filter is_kept os)
+objects-stay : (d : ℕ) (h : Held) (path : Path) (os : List LiveObject) → AllByRecursion (λ o. o.object.directory < h.next_directory) os
+    → map (saved_object (held_content d (with_directory h path))) (filter is_kept os) ≡ map (saved_object (held_content d h)) (filter is_kept os)
 objects-stay d h path [] all = refl
 objects-stay d h path (o ∷ os) all =
-    elim (is_kept o) as (λ b. map (saved_object (content_of d (with_directory h path))) (cond b (o ∷ filter is_kept os) (filter is_kept os)) ≡ map (saved_object (content_of d h)) (cond b (o ∷ filter is_kept os) (filter is_kept os)))
+    elim (is_kept o) as (λ b. map (saved_object (held_content d (with_directory h path))) (cond b (o ∷ filter is_kept os) (filter is_kept os)) ≡ map (saved_object (held_content d h)) (cond b (o ∷ filter is_kept os) (filter is_kept os)))
     [ true ↦ (λ i. SavedObject (path-stays d h path o.object.directory all.0 i ++ o.object.name ∷ []) (map saved_line (persistent o.attributes)) ∷ objects-stay d h path os all.1 i) | false ↦ objects-stay d h path os all.1 ]
 
 abbrev pub directories_of : List Directory → List Saved
@@ -282,13 +282,13 @@ behind-all c before e is follows =
 
 pub record Next (d : ℕ) (h : Held) (before : List Saved) (e : Saved) : Type 0 where
   pub held : IsHeld (restored_held d h e)
-  pub saves : saved (content_of d (restored_held d h e)) ≡ before ++ e ∷ []
+  pub saves : saved (held_content d (restored_held d h e)) ≡ before ++ e ∷ []
 
-next-directory : (d longest : ℕ) (h : Held) (before : List Saved) (path : Path) → IsHeld h → saved (content_of d h) ≡ before → IsEntry longest before (SavedDirectory path) → Next d h before (SavedDirectory path)
+next-directory : (d longest : ℕ) (h : Held) (before : List Saved) (path : Path) → IsHeld h → saved (held_content d h) ≡ before → IsEntry longest before (SavedDirectory path) → Next d h before (SavedDirectory path)
 next-directory d longest h before path held is e =
     let follows = follow-parts before (SavedDirectory path) e.1 in
     let added : Directory = record { number = h.next_directory; path = path } in
-    let c = content_of d h in
+    let c = held_content d h in
     let some : is_empty path ≡ false = follows.some in
     let dirs : directories_of (h.directories ++ added ∷ []) ≡ directories_of h.directories ++ SavedDirectory path ∷ [] =
     ap (map (λ d. SavedDirectory d.path)) (filter-push (λ d. not (is_empty d.path)) h.directories added)
@@ -308,19 +308,19 @@ next-directory d longest h before path held is e =
           ∙ ap (λ es. es ++ SavedDirectory path ∷ []) is;
     }
 
-next-object : (d longest : ℕ) (h : Held) (before : List Saved) (path : Path) (lines : List SavedLine) → IsHeld h → saved (content_of d h) ≡ before → IsEntry longest before (SavedObject path lines) → Next d h before (SavedObject path lines)
+next-object : (d longest : ℕ) (h : Held) (before : List Saved) (path : Path) (lines : List SavedLine) → IsHeld h → saved (held_content d h) ≡ before → IsEntry longest before (SavedObject path lines) → Next d h before (SavedObject path lines)
 next-object d longest h before [] lines held is e = absurd (let f = (follow-parts before (SavedObject [] []) e.1).some in cc)
 next-object d longest h before (n ∷ ns) lines held is e =
     let path = n ∷ ns in
     let follows = follow-parts before (SavedObject path []) e.1 in
-    let c = content_of d h in
+    let c = held_content d h in
     let home = home-of d h path held (parent-there d h before (SavedObject path []) held is follows.parent) in
     let o : Object = restored_object c path in
     let where_is : o.directory ≡ home.number = ap (λ n. unwrap_or n 0) home.is in
     let x : saved_object c (known_with o lines) ≡ SavedObject path lines =
     (λ i. SavedObject (directory_path c (where_is i) ++ last_name path ∷ []) (saved-again lines i))
     ∙ ap (λ p. SavedObject (p ++ last_name path ∷ []) lines) home.path_is ∙ ap (λ p. SavedObject p lines) (parent-last n ns) in
-    let objs : objects_of (content_of d (with_object h o lines)) ≡ objects_of c ++ SavedObject path lines ∷ [] =
+    let objs : objects_of (held_content d (with_object h o lines)) ≡ objects_of c ++ SavedObject path lines ∷ [] =
     ap (map (saved_object c)) (filter-push is_kept h.objects (known_with o lines)) ∙ map-push (saved_object c) (filter is_kept h.objects) (known_with o lines) ∙ ap (λ x. objects_of c ++ x ∷ []) x in
     let all = behind-all c before (SavedObject path []) is follows in
     record {
@@ -340,7 +340,7 @@ next-object d longest h before (n ∷ ns) lines held is e =
           ∙ ap (λ es. es ++ SavedObject path lines ∷ []) is;
     }
 
-pub next : (d longest : ℕ) (h : Held) (before : List Saved) (e : Saved) → IsHeld h → saved (content_of d h) ≡ before → IsEntry longest before e → Next d h before e
+pub next : (d longest : ℕ) (h : Held) (before : List Saved) (e : Saved) → IsHeld h → saved (held_content d h) ≡ before → IsEntry longest before e → Next d h before e
 next d longest h before (SavedDirectory path) = next-directory d longest h before path
 next d longest h before (SavedObject path lines) = next-object d longest h before path lines
 
@@ -351,11 +351,11 @@ held_by d h [] = h
 held_by d h (e ∷ es) = held_by d (restored_held d h e) es
 
 pub record AllHeld (d : ℕ) (h : Held) (before es : List Saved) : Type 0 where
-  pub is : fold restored_seen (content_of d h) es ≡ content_of d (held_by d h es)
+  pub is : fold restored_seen (held_content d h) es ≡ held_content d (held_by d h es)
   pub held : IsHeld (held_by d h es)
-  pub saves : saved (content_of d (held_by d h es)) ≡ before ++ es
+  pub saves : saved (held_content d (held_by d h es)) ≡ before ++ es
 
-all-held : (d longest : ℕ) (h : Held) (before es : List Saved) → IsHeld h → saved (content_of d h) ≡ before → AreEntries longest before es → AllHeld d h before es
+all-held : (d longest : ℕ) (h : Held) (before es : List Saved) → IsHeld h → saved (held_content d h) ≡ before → AreEntries longest before es → AllHeld d h before es
 all-held d longest h before [] held is all = record { is = refl; held = held; saves = is ∙ sym (append-nil before) }
 all-held d longest h before (e ∷ es) held is all =
     let one = next d longest h before e held is all.0 in

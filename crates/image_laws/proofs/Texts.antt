@@ -12,8 +12,8 @@ use Rattle.pps_types.specs.Bytes.{is_empty, after_prefix, split_at_first, pieces
 use Rattle.pps_types.specs.Text.{is_attribute_name, is_encoding, set_line, deletion_line, write_line, without_empty_end, lines_of, line_or, write_lines, WriteText, with_header, text_after, text_of_lines, write_text}
 use Rattle.pps_types.specs.Names.{Name, Path}
 use Rattle.pps_types.specs.OpenText.{elements_of, names_if, path_text, before_all, OpenPath, open_path_of, open_path, Options, options_text, OpenSpec, open_parts, open_spec, open_text}
-use Rattle.pps_types.proofs.Finds.{OfSome}
-use Rattle.content_bounds.proofs.Texts.{OfOk, some-or, some-then}
+use Rattle.service_laws.proofs.Finds.{OfSome}
+use Rattle.service_laws.proofs.BoundedTexts.{OfOk, some-or, some-then}
 use Rattle.image_laws.specs.Images.{is_plain, are_plain, is_saved_line, IsSavedPath}
 use Rattle.image_laws.proofs.Lines.{pieces-plain}
 use Rattle.image_laws.proofs.Paths.{path_text-only, split-only, prefix-only, plain-end}

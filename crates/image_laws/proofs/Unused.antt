@@ -16,31 +16,31 @@ use Rattle.pps_types.specs.OpenText.{are_names}
 use Rattle.pps_types.specs.History.{Attribute, line_of, text_length, put, apply_line}
 use Rattle.pps_types.specs.Reading.{Open}
 use Rattle.pps_types.specs.Rests.{Seen}
-use Rattle.pps_types.specs.Content.{Directory, Known, Content, at, directory_at, parent_number, object_at, object_numbered, members, subdirectories}
+use Rattle.pps_types.specs.Content.{Directory, LiveObject, Content, at, directory_at, parent_number, object_at, object_numbered, members, subdirectories}
 use Rattle.pps_types.specs.Checks.{Check, Refuse, first_refusal, refused, parsed, object_checks, objects_beside, limit_checks, mkdir_checks}
-use Rattle.pps_types.specs.Plan.{Move, Creates, Happens, MakesDirectory, creation, entry_of, offer, apply_seen, apply_all_seen, passes_last_number}
+use Rattle.pps_types.specs.Plan.{Move, Creates, AppendsRecord, MakesDirectory, creation, entry_of, offer, apply_seen, apply_all_seen, passes_last_number}
 use Rattle.pps_types.specs.Image.{SavedLine, as_line, restored_object}
 use Rattle.pps_types.specs.Restore.{decided, with_numbers, restored_by, restore_directory, restore_object, restore_line, name_of, attributes_at, line_moves, line_checks}
 use Rattle.pps_types.specs.WellFormed.{IsContent}
-use Rattle.pps_types.specs.Machine.{Machine, IsMachine, AreLawful, AreAlive, shown, apply_all}
+use Rattle.pps_types.specs.Machine.{Machine, IsMachine, AreLawful, AreAlive, content_of, apply_all}
 use Rattle.pps_types.specs.Stands.{Stands}
-use Rattle.pps_types.proofs.Finds.{all-find}
-use Rattle.pps_types.proofs.Fits.{Fits, IsFree, Tree}
-use Rattle.pps_types.proofs.Holders.{basis-kept}
-use Rattle.pps_types.proofs.Law.{apply_all-shown, made-of, machine-of}
+use Rattle.service_laws.proofs.Finds.{all-find}
+use Rattle.service_laws.proofs.Fits.{Fits, IsFree, Tree}
+use Rattle.service_laws.proofs.Holders.{basis-kept}
+use Rattle.service_laws.proofs.Law.{apply_all-shown, made-of, machine-of}
 use Rattle.pps_types.proofs.Lists.{all-weaken}
-use Rattle.pps_types.proofs.Parked.{AreIdle}
-use Rattle.pps_types.proofs.Passes.{all-pass, passes-both, or-false, free-place, object-found}
-use Rattle.pps_types.proofs.Rising.{only-one, found-each}
-use Rattle.pps_types.proofs.Servers.{Served, served-created, served-stays}
-use Rattle.pps_types.proofs.Trees.{same_path-is}
-use Rattle.pps_types.proofs.WellSteps.{basis-in, content-out}
-use Rattle.content_bounds.specs.Bounds.{crowd}
-use Rattle.content_bounds.specs.Fit.{IsFit}
-use Rattle.content_bounds.proofs.Effects.{AllStay, found-fit}
-use Rattle.content_bounds.proofs.Moves.{keeps-bound}
-use Rattle.content_bounds.proofs.Opens.{members-crowd}
-use Rattle.content_bounds.proofs.Paths.{last-short}
+use Rattle.service_laws.proofs.Parked.{AreIdle}
+use Rattle.service_laws.proofs.Passes.{all-pass, passes-both, or-false, free-place, object-found}
+use Rattle.service_laws.proofs.Rising.{only-one, found-each}
+use Rattle.service_laws.proofs.Servers.{Served, served-created, served-stays}
+use Rattle.service_laws.proofs.Trees.{same_path-is}
+use Rattle.service_laws.proofs.WellSteps.{basis-in, content-out}
+use Rattle.service_laws.specs.Bounds.{crowd}
+use Rattle.service_laws.specs.Fit.{IsFit}
+use Rattle.service_laws.proofs.BoundedEffects.{AllStay, found-fit}
+use Rattle.service_laws.proofs.BoundedMoves.{keeps-bound}
+use Rattle.service_laws.proofs.BoundedOpens.{members-crowd}
+use Rattle.service_laws.proofs.BoundedPaths.{last-short}
 use Rattle.image_laws.specs.Images.{is_saved_line, IsImageLine, IsSavedPath}
 use Rattle.image_laws.specs.Savable.{AreSavable}
 use Rattle.image_laws.specs.Unused.{IsUnused}
@@ -70,7 +70,7 @@ no-handles : (e : Rattle.pps_types.specs.History.Entry) (hs : List (Open Seen)) 
 no-handles e hs none = ap (map (offer e)) none
 
 idle-unused : (d : Content) → d.handles ≡ [] → AreIdle d
-idle-unused d none = subst (AllByRecursion Rattle.pps_types.proofs.Parked.IsIdle) (sym none) tt
+idle-unused d none = subst (AllByRecursion Rattle.service_laws.proofs.Parked.IsIdle) (sym none) tt
 
 -- a move that fits leaves a service that nobody has a handle of
 moved : (c : Content) → IsUnused c → (x : Move) → Fits c x → IsFit c x → Saves c x → Served (apply_seen x c) → (apply_seen x c).handles ≡ [] → IsUnused (apply_seen x c)
@@ -177,11 +177,11 @@ limited attributes p =
     record { count = grind (arith, nat_tests, many); text = grind (arith, nat_tests, long) }
 
 -- the limits were asked of the object at the path
-limit-passes : (c : Content) (path : Path) (l : SavedLine) (o : Known) → object_at c path ≡ Some o → first_refusal (line_checks c path (as_line l)) ≡ None → IsLimited (put o.attributes (attribute_of l))
+limit-passes : (c : Content) (path : Path) (l : SavedLine) (o : LiveObject) → object_at c path ≡ Some o → first_refusal (line_checks c path (as_line l)) ≡ None → IsLimited (put o.attributes (attribute_of l))
 limit-passes c path l o found passes = by (find_at (at c) path) passes
   where
     held : attributes_at c path ≡ o.attributes
-    held = ap (λ x. option_map_or (λ (o : Known). o.attributes) x []) found
+    held = ap (λ x. option_map_or (λ (o : LiveObject). o.attributes) x []) found
 
     by : (r : Result Found Refusal) → first_refusal (parsed r (λ found. Refuse (is_directory found) Refusal.IsDirectory ∷ Refuse (list_any (λ a. same a.name (name_of (as_line l))) (attributes_at c path)) Refusal.Exists ∷ limit_checks (apply_line (attributes_at c path) (as_line l)))) ≡ None
         → IsLimited (put o.attributes (attribute_of l))
@@ -191,24 +191,24 @@ limit-passes c path l o found passes = by (find_at (at c) path) passes
         subst (λ attributes. IsLimited (put attributes (attribute_of l))) held (limited (apply_line (attributes_at c path) (as_line l)) (passes-both front (limit_checks (apply_line (attributes_at c path) (as_line l))) h).1)
 
 -- the object at the path is the only one of its number
-module _ (c : Content) (w : IsUnused c) (path : Path) (o : Known) (found : object_at c path ≡ Some o) where
-  abbrev test : Known → Bool
+module _ (c : Content) (w : IsUnused c) (path : Path) (o : LiveObject) (found : object_at c path ≡ Some o) where
+  abbrev test : LiveObject → Bool
   test x = eqb x.object.directory (object-found c path o found).0 && same x.object.name (last_name path)
 
-  alone : (P : Known → Type 0) → P o → AllByRecursion (λ (p : Known). p.object.number ≡ o.object.number → P p) c.objects
-  alone P own = all-weaken {P = λ (p : Known). p.object.number ≡ o.object.number → p ≡ o} {Q = λ (p : Known). p.object.number ≡ o.object.number → P p}
-      (λ p only is. subst P (sym (only is)) own) c.objects (only-one (λ (o : Known). o.object.number) test 0 c.next_object c.objects w.formed.order.objects_rise o (object-found c path o found).2)
+  alone : (P : LiveObject → Type 0) → P o → AllByRecursion (λ (p : LiveObject). p.object.number ≡ o.object.number → P p) c.objects
+  alone P own = all-weaken {P = λ (p : LiveObject). p.object.number ≡ o.object.number → p ≡ o} {Q = λ (p : LiveObject). p.object.number ≡ o.object.number → P p}
+      (λ p only is. subst P (sym (only is)) own) c.objects (only-one (λ (o : LiveObject). o.object.number) test 0 c.next_object c.objects w.formed.order.objects_rise o (object-found c path o found).2)
 
-  line-fits : (l : SavedLine) → text_length (put o.attributes (attribute_of l)) ≤ 65536 → IsFit c (Happens (entry_of o.object (Change (as_line l ∷ [])) None))
+  line-fits : (l : SavedLine) → text_length (put o.attributes (attribute_of l)) ≤ 65536 → IsFit c (AppendsRecord (entry_of o.object (Change (as_line l ∷ [])) None))
   line-fits l few =
       let one = length-append (print_line (as_line l)) [] in
       let le = within o.attributes (attribute_of l) in
       let stay : AllStay c o.object.number (Change (as_line l ∷ [])) = alone (λ p. text_length (put p.attributes (attribute_of l)) ≤ 65536) few in
       found-fit c o test (Change (as_line l ∷ [])) None w.bound (object-found c path o found).2 (omega (arith, le, few, one)) (omega arith) stay
 
-  line-saves : (l : SavedLine) → is_saved_line l ≡ true → length (put o.attributes (attribute_of l)) ≤ 1024 → Saves c (Happens (entry_of o.object (Change (as_line l ∷ [])) None))
+  line-saves : (l : SavedLine) → is_saved_line l ≡ true → length (put o.attributes (attribute_of l)) ≤ 1024 → Saves c (AppendsRecord (entry_of o.object (Change (as_line l ∷ [])) None))
   line-saves l is few =
-      let own : AreSavable o.attributes = all-find (λ (x : Known). AreSavable x.attributes) test c.objects o w.can.attributes (object-found c path o found).2 in
+      let own : AreSavable o.attributes = all-find (λ (x : LiveObject). AreSavable x.attributes) test c.objects o w.can.attributes (object-found c path o found).2 in
       alone (λ p. AreSavable (put p.attributes (attribute_of l))) (lines-attributes o.attributes (as_line l ∷ []) own.0 (is, tt), few)
 
 saved-line-stays : (c : Content) → IsUnused c → (path : Path) (l : SavedLine) → is_saved_line l ≡ true → (d : Content) → restore_line c path (as_line l) ≡ Ok d → IsUnused d
@@ -216,13 +216,13 @@ saved-line-stays c w path l is_line d ok =
     let call = accepted c (line_moves c path (as_line l)) (line_checks c path (as_line l)) d ok in
     by (object_at c path) refl call.passes call.is
   where
-    by : (o : Option Known) → object_at c path ≡ o → first_refusal (line_checks c path (as_line l)) ≡ None
-        → apply_all_seen (option_map_or (λ (o : Known). Happens (entry_of o.object (Change (as_line l ∷ [])) None) ∷ []) o []) c ≡ d → IsUnused d
+    by : (o : Option LiveObject) → object_at c path ≡ o → first_refusal (line_checks c path (as_line l)) ≡ None
+        → apply_all_seen (option_map_or (λ (o : LiveObject). AppendsRecord (entry_of o.object (Change (as_line l ∷ [])) None) ∷ []) o []) c ≡ d → IsUnused d
     by None found passes is = subst IsUnused is w
     by (Some o) found passes is =
         let e = entry_of o.object (Change (as_line l ∷ [])) None in
         let limits = limit-passes c path l o found passes in
-        subst IsUnused is (moved c w (Happens e) tt (line-fits c w path o found l limits.text) (line-saves c w path o found l is_line limits.count) (served-stays c e refl (served-in c w)) (no-handles e c.handles w.handles))
+        subst IsUnused is (moved c w (AppendsRecord e) tt (line-fits c w path o found l limits.text) (line-saves c w path o found l is_line limits.count) (served-stays c e refl (served-in c w)) (no-handles e c.handles w.handles))
 
 -- a line that an image may have
 record IsOfSaved (line : Line) : Type 0 where
@@ -243,35 +243,35 @@ line-stays c w path line is d ok =
 -- ---- of machines
 
 -- what such a call leaves stands for the machine on which its moves were made
-stood : (m : Machine) → IsMachine m → (xs : List Move) (checks : List Check) (d : Content) → restored_by (shown m) xs checks ≡ Ok d → AreLawful (length m.objects) xs → AreAlive (shown m) xs → IsUnused d → Stands d (apply_all xs m)
+stood : (m : Machine) → IsMachine m → (xs : List Move) (checks : List Check) (d : Content) → restored_by (content_of m) xs checks ≡ Ok d → AreLawful (length m.objects) xs → AreAlive (content_of m) xs → IsUnused d → Stands d (apply_all xs m)
 stood m made xs checks d ok lawful alive w =
     let after = apply_all-shown xs m (made-of m made) lawful alive in
-    let same : d ≡ shown (apply_all xs m) = sym (accepted (shown m) xs checks d ok).is ∙ sym after.0 in
+    let same : d ≡ content_of (apply_all xs m) = sym (accepted (content_of m) xs checks d ok).is ∙ sym after.0 in
     record { made = machine-of (apply_all xs m) after.1 (subst IsContent same w.formed); same = same }
 
 pub directory-machine : (c : Content) → IsUnused c → (path : Path) → IsSavedPath path → (d : Content) → restore_directory c path ≡ Ok d → Becomes (with_directory path) c d
 directory-machine c w path text d ok m s =
-    stood m s.made (MakesDirectory path ∷ []) (mkdir_checks (shown m) path) d (ap (λ c. restore_directory c path) (sym s.same) ∙ ok) (tt, tt) (tt, tt) (directory-stays c w path text d ok)
+    stood m s.made (MakesDirectory path ∷ []) (mkdir_checks (content_of m) path) d (ap (λ c. restore_directory c path) (sym s.same) ∙ ok) (tt, tt) (tt, tt) (directory-stays c w path text d ok)
 
 pub object-machine : (c : Content) → IsUnused c → (path : Path) → IsSavedPath path → (d : Content) → restore_object c path ≡ Ok d → Becomes (with_object path) c d
 object-machine c w path text d ok m s =
-    stood m s.made (Creates (restored_object (shown m) path) ∷ []) (refused (new_refusal (at (shown m)) path) ++ object_checks (shown m) path) d (ap (λ c. restore_object c path) (sym s.same) ∙ ok) (refl, tt) (tt, tt) (object-stays c w path text d ok)
+    stood m s.made (Creates (restored_object (content_of m) path) ∷ []) (refused (new_refusal (at (content_of m)) path) ++ object_checks (content_of m) path) d (ap (λ c. restore_object c path) (sym s.same) ∙ ok) (refl, tt) (tt, tt) (object-stays c w path text d ok)
 
 saved-line-machine : (c : Content) → IsUnused c → (path : Path) (l : SavedLine) → is_saved_line l ≡ true → (d : Content) → restore_line c path (as_line l) ≡ Ok d → Becomes (with_line path (as_line l)) c d
 saved-line-machine c w path l is_line d ok m s =
-    stood m s.made (line_moves (shown m) path (as_line l)) (line_checks (shown m) path (as_line l)) d (ap (λ c. restore_line c path (as_line l)) (sym s.same) ∙ ok)
-    (by (object_at (shown m) path) refl).0 (by (object_at (shown m) path) refl).1 (saved-line-stays c w path l is_line d ok)
+    stood m s.made (line_moves (content_of m) path (as_line l)) (line_checks (content_of m) path (as_line l)) d (ap (λ c. restore_line c path (as_line l)) (sym s.same) ∙ ok)
+    (by (object_at (content_of m) path) refl).0 (by (object_at (content_of m) path) refl).1 (saved-line-stays c w path l is_line d ok)
   where
-    moves : Option Known → List Move
-    moves o = option_map_or (λ (o : Known). Happens (entry_of o.object (Change (as_line l ∷ [])) None) ∷ []) o []
+    moves : Option LiveObject → List Move
+    moves o = option_map_or (λ (o : LiveObject). AppendsRecord (entry_of o.object (Change (as_line l ∷ [])) None) ∷ []) o []
 
-    by : (o : Option Known) → object_at (shown m) path ≡ o → AreLawful (length m.objects) (moves o) × AreAlive (shown m) (moves o)
+    by : (o : Option LiveObject) → object_at (content_of m) path ≡ o → AreLawful (length m.objects) (moves o) × AreAlive (content_of m) (moves o)
     by None found = (tt, tt)
     by (Some o) found =
-        let place = object-found (shown m) path o found in
-        let number : object_numbered (shown m) o.object.number ≡ Some o =
-        all-find (λ (x : Known). object_numbered (shown m) x.object.number ≡ Some x) (λ x. eqb x.object.directory place.0 && same x.object.name (last_name path)) (shown m).objects o
-        (found-each (λ (x : Known). x.object.number) 0 (shown m).next_object (shown m).objects s.made.standing.order.objects_rise) place.2 in
+        let place = object-found (content_of m) path o found in
+        let number : object_numbered (content_of m) o.object.number ≡ Some o =
+        all-find (λ (x : LiveObject). object_numbered (content_of m) x.object.number ≡ Some x) (λ x. eqb x.object.directory place.0 && same x.object.name (last_name path)) (content_of m).objects o
+        (found-each (λ (x : LiveObject). x.object.number) 0 (content_of m).next_object (content_of m).objects s.made.standing.order.objects_rise) place.2 in
         ((refl, tt), (record { object = o; found = number; in_directory = refl; under_name = refl }, tt))
 
 pub line-machine : (c : Content) → IsUnused c → (path : Path) (line : Line) → IsImageLine line → (d : Content) → restore_line c path line ≡ Ok d → Becomes (with_line path line) c d

@@ -4,7 +4,7 @@ use Rattle.pps_types.specs.declared.line.Line.{Line}
 use Rattle.pps_types.specs.Names.{Path}
 use Rattle.pps_types.specs.Content.{Content}
 use Rattle.pps_types.specs.Plan.{Creates, MakesDirectory}
-use Rattle.pps_types.specs.Machine.{Machine, shown, apply_all}
+use Rattle.pps_types.specs.Machine.{Machine, content_of, apply_all}
 use Rattle.pps_types.specs.Stands.{Stands}
 use Rattle.pps_types.specs.Image.{saved, restored_object}
 use Rattle.pps_types.specs.Restore.{line_moves}
@@ -15,11 +15,11 @@ with_directory path m = apply_all (MakesDirectory path ∷ []) m
 
 -- with one more object, and the record that it was created
 abbrev pub with_object : Path → Machine → Machine
-with_object path m = apply_all (Creates (restored_object (shown m) path) ∷ []) m
+with_object path m = apply_all (Creates (restored_object (content_of m) path) ∷ []) m
 
 -- with one more record, of the object at the path: a change that sets an attribute
 abbrev pub with_line : Path → Line → Machine → Machine
-with_line path line m = apply_all (line_moves (shown m) path line) m
+with_line path line m = apply_all (line_moves (content_of m) path line) m
 
 -- for each machine that the old content represents, the new one represents the machine that is made of it
 abbrev pub Becomes : (Machine → Machine) → Content → Content → Type 0

@@ -2,7 +2,7 @@
 use Rattle.std.specs.Prelude.{◌≡◌, []}
 use Rattle.pps_types.specs.Content.{Content}
 use Rattle.pps_types.specs.WellFormed.{IsContent}
-use Rattle.content_bounds.specs.Bounds.{IsBound}
+use Rattle.service_laws.specs.Bounds.{IsBound}
 use Rattle.image_laws.specs.Savable.{CanBeSaved}
 
 -- what is there is well formed and within its bounds, and can be saved

@@ -1,4 +1,10 @@
-pub mod Places
-pub mod Edits
 pub mod Free
 pub mod Sound
+pub mod ConnectionChanges
+pub mod OwnHandles
+pub mod QueuesTold
+pub mod ConnectionLists
+pub mod ConnectionStandings
+pub mod ConnectionMoves
+pub mod OtherConnections
+pub mod ConnectionStays

@@ -4,7 +4,7 @@ use Rattle.std.specs.declared.collections.VecDeque.{VecDeque}
 use Rattle.std.specs.List.{list_any}
 use Rattle.pps_types.specs.Outbox.{PulseOf, held, is_armed}
 use Rattle.pps_types.specs.declared.outcome.Item.{Item}
-use Rattle.notify_box.specs.Rising.{IsRising}
+use Rattle.pps_types.specs.Rising.{IsRising}
 use Rattle.notify_box.specs.Roomed.{roomed, held_len, IsSound, IsReadyToArm}
 use Rattle.notify_box.proofs.Free.{arm_free, arm_again}
 

@@ -1,2 +1,5 @@
-pub mod Rising
 pub mod Roomed
+pub mod Standing
+pub mod ChangeLaws
+pub mod Connections
+pub mod ConnectionLaws

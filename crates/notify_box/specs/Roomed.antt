@@ -4,7 +4,7 @@ use Rattle.std.specs.declared.collections.VecDeque.{VecDeque}
 use Rattle.std.specs.VecDeque.{deque_len, deque_capacity}
 use Rattle.pps_types.specs.Outbox.{Outbox, PulseOf, is_armed, arm_refusal, park_refusal}
 use Rattle.pps_types.specs.declared.outcome.Item.{Item}
-use Rattle.notify_box.specs.Rising.{IsRising}
+use Rattle.pps_types.specs.Rising.{IsRising}
 
 pub record Roomed : Type 0 where
   pub outbox : Outbox

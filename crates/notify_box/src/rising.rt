@@ -2,7 +2,7 @@
 ghost use Rattle.std.specs.Prelude.{◌≡◌, ◌+◌, ◌<◌, ◌≤◌, ◌==◌, ℕ, not, false, None, if◌then◌else◌, length, filter, find, insert, IfOk, IfErr, IfNone, vec_len, vec_capacity};
 ghost use Rattle.std.specs.List.{list_any};
 ghost use Rattle.pps_types.specs.Outbox.{put_rising};
-ghost use Rattle.notify_box.specs.Rising.{IsRising, IsPlaceOf, IsGapFor};
+ghost use Rattle.pps_types.specs.Rising.{IsRising, IsPlaceOf, IsGapFor};
 
 use pps_types::Handle;
 

@@ -9,7 +9,7 @@ use Rattle.std.specs.Cmp.Lexicographic.{slice_cmp}
 use Rattle.std.proofs.lemmas.Cmp.{nat_cmp_total, tied_itself}
 use Rattle.std.proofs.lemmas.Map.Text.{is_eq-slice_cmp}
 use Rattle.pps_types.specs.Bytes.{same}
-use Rattle.text_parts.proofs.Same.{same-is}
+use Rattle.pps_types.proofs.SameBytes.{same-is}
 use Rattle.object_state.specs.Digest.{name_digest, name_order}
 use Rattle.object_state.specs.Effect.{noted_in}
 

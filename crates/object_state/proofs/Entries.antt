@@ -11,7 +11,7 @@ use Rattle.pps_types.specs.History.{Attribute, put, persistent, text_length}
 use Rattle.object_state.specs.declared.content.Content.{Content}
 use Rattle.object_state.specs.Entries.{attribute_of, attributes_of, line_length}
 use Rattle.object_state.specs.Effect.{printed_length, of_named, length_at, bytes_of, AreDistinct}
-use Rattle.text_parts.proofs.Same.{same-is, same-sym}
+use Rattle.pps_types.proofs.SameBytes.{same-is, same-sym}
 use Rattle.object_state.proofs.Printing.{printed-content, text_length-cons}
 use Rattle.object_state.proofs.LineChanges.{cut, put-bytes, cut-bytes}
 

@@ -6,7 +6,7 @@ use Rattle.pps_types.specs.Text.{print_line}
 use Rattle.pps_types.specs.Bytes.{same}
 use Rattle.pps_types.specs.History.{Attribute, put, is_marked}
 use Rattle.object_state.specs.Effect.{printed_length, of_named, length_at, noted_or, count_of, bytes_of, Foretells, ForetellsMarks}
-use Rattle.text_parts.proofs.Same.{same-is, same-sym}
+use Rattle.pps_types.proofs.SameBytes.{same-is, same-sym}
 use Rattle.object_state.proofs.LineChanges.{cut, put-at, cut-at, put-distinct, cut-distinct, put-bytes, put-count, cut-bytes, cut-count}
 
 module _ (noted new : List ℕ → Option (Option ℕ)) (count text : ℕ) (before after : List Attribute) (told : Foretells noted count text before after) where

@@ -6,7 +6,7 @@ use Rattle.std.specs.List.{list_any}
 use lib.Pointwise.{pointwise}
 use Rattle.pps_types.specs.Bytes.{same}
 use Rattle.pps_types.specs.History.{Attribute}
-use Rattle.text_parts.proofs.Same.{same-sym}
+use Rattle.pps_types.proofs.SameBytes.{same-sym}
 use Rattle.object_state.specs.declared.content.Content.{Content}
 use Rattle.object_state.specs.Entries.{attributes_of}
 

@@ -10,7 +10,7 @@ use Rattle.pps_types.specs.Text.{print_line, print_lines}
 use Rattle.object_state.specs.Effect.{printed_length, of_named, length_at, AreDistinct, count_of, bytes_of}
 use Rattle.std.proofs.lemmas.Bool.Decides.{nat_tests}
 use Rattle.object_state.specs.Limits.{is_past_limits}
-use Rattle.text_parts.proofs.Same.{same-is, same-sym}
+use Rattle.pps_types.proofs.SameBytes.{same-is, same-sym}
 use Rattle.object_state.proofs.Printing.{text_length-cons, filter-bytes_le, filter-count_le}
 
 -- the attributes without the one of that name

@@ -21,7 +21,7 @@ use Rattle.object_state.specs.declared.content.Content.{Content}
 use Rattle.object_state.specs.Entries.{attribute_of, attributes_of}
 use Rattle.object_state.specs.Held.{print_matching}
 use Rattle.object_state.specs.Places.{IsPlaceOf, IsFirstPlace, IsReached}
-use Rattle.text_parts.proofs.Same.{same-is, same-sym}
+use Rattle.pps_types.proofs.SameBytes.{same-is, same-sym}
 
 not-true : (b : Bool) → (b ≡ true → ⊥) → b ≡ false
 not-true true wrong = absurd (wrong refl)

@@ -6,8 +6,8 @@ use Rattle.pps_types.specs.declared.found.Found.{Found}
 use Rattle.pps_types.specs.Reading.{Open}
 use Rattle.pps_types.specs.Rests.{Seen}
 use Rattle.pps_types.specs.WellFormed.{AreRising}
-use Rattle.pps_types.proofs.Finds.{all-imp, some-of, find-push, find-last}
-use Rattle.pps_types.proofs.Rising.{rising-below}
+use Rattle.service_laws.proofs.Finds.{all-imp, some-of, find-push, find-last}
+use Rattle.service_laws.proofs.Rising.{rising-below}
 use Rattle.number_table.specs.Numbered.{Entry as Numbering, has_number, value_under}
 use Rattle.engine_targets.specs.Opened.{handle_at, is_directory, number_of}
 use Rattle.engine_targets.specs.Seated.{AreSeated}

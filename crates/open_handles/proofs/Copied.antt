@@ -10,8 +10,8 @@ use Rattle.pps_types.specs.Owed.{longest_rest}
 use Rattle.pps_types.specs.WellFormed.{AreRising}
 use Rattle.number_table.specs.Numbered.{Entry as Numbering, Numbered, value_under, has_number, IsCloneEntry}
 use Rattle.engine_targets.specs.Opened.{is_directory, number_of}
-use Rattle.engine_seats.specs.declared.seats.Seats.{Seats}
-use Rattle.engine_seats.specs.Seated.{target_of, kept_of, IsCopy}
+use Rattle.engine_servers.specs.declared.seats.Seats.{Seats}
+use Rattle.engine_servers.specs.Seated.{target_of, kept_of, IsCopy}
 use Rattle.open_handles.specs.declared.places.Places.{Places}
 use Rattle.open_handles.specs.Whole.{IsWhole, ArePlaced, AreRowed, HoldsWhatIsOwed, site_of, site_at, kept_at, place_at, handles_on, handles_in, handles_in_place, row_handle}
 use Rattle.open_handles.proofs.Wholes.{same_rowed, same_filter}

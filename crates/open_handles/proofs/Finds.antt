@@ -8,8 +8,8 @@ use Rattle.pps_types.specs.Reading.{Open}
 use Rattle.pps_types.specs.Rests.{Seen}
 use Rattle.pps_types.specs.Plan.{on_numbered, without_number}
 use Rattle.pps_types.specs.WellFormed.{AreRising}
-use Rattle.pps_types.proofs.Finds.{find-true}
-use Rattle.notify_box.specs.Rising.{AllAbove, IsRising}
+use Rattle.service_laws.proofs.Finds.{find-true}
+use Rattle.pps_types.specs.Rising.{AllAbove, IsRising}
 use Rattle.engine_targets.specs.Opened.{handle_at}
 
 -- ---- two of them are the same, or not

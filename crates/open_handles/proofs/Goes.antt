@@ -6,9 +6,9 @@ use Rattle.pps_types.specs.declared.found.Found.TheVariants.{Object as FoundObje
 use Rattle.pps_types.specs.Reading.{Open}
 use Rattle.pps_types.specs.Rests.{Seen}
 use Rattle.pps_types.specs.WellFormed.{AreRising}
-use Rattle.pps_types.proofs.Rising.{rising-lower}
+use Rattle.service_laws.proofs.Rising.{rising-lower}
 use Rattle.number_table.specs.Numbered.{Entry as Numbering, Numbered, has_number, value_under, without_first}
-use Rattle.engine_seats.specs.declared.seats.Seats.{Seats}
+use Rattle.engine_servers.specs.declared.seats.Seats.{Seats}
 use Rattle.open_handles.specs.Whole.{Whole, IsWhole, handles_in, handles_at, handles_in_place, seats_at, KeepsRecords}
 use Rattle.open_handles.proofs.Wholes.{bare_handles, bare_whole, bare_records}
 

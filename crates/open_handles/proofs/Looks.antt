@@ -7,8 +7,8 @@ use Rattle.number_table.specs.Numbered.{Numbered, value_under}
 use Rattle.engine_targets.specs.Opened.{handle_at, number_of}
 use Rattle.engine_targets.specs.Glances.{glanced, glance_on}
 use Rattle.engine_targets.specs.declared.glance.Glance.{Glance}
-use Rattle.engine_seats.specs.declared.seats.Seats.{Seats}
-use Rattle.engine_seats.specs.Seated.{target_of, handles_of, name_of}
+use Rattle.engine_servers.specs.declared.seats.Seats.{Seats}
+use Rattle.engine_servers.specs.Seated.{target_of, handles_of, name_of}
 use Rattle.open_handles.specs.declared.places.Places.{Places}
 use Rattle.open_handles.specs.Whole.{IsWhole, place_at, handles_in, name_at, Site, site_of}
 use Rattle.open_handles.proofs.Turns.{whole_of, in_place}

@@ -9,8 +9,8 @@ use Rattle.pps_types.specs.History.{Entry}
 use Rattle.pps_types.specs.Reading.{Open, style, is_delta_style, is_directory_kind}
 use Rattle.pps_types.specs.Rests.{Seen}
 use Rattle.pps_types.specs.Owed.{is_of, rest_seen, longer, longest_rest, same_flag}
-use Rattle.pps_types.proofs.Finds.{all-find}
-use Rattle.notify_box.specs.Rising.{AllAbove, IsRising}
+use Rattle.service_laws.proofs.Finds.{all-find}
+use Rattle.pps_types.specs.Rising.{AllAbove, IsRising}
 use Rattle.number_table.specs.Numbered.{Entry as Numbering, value_under}
 use Rattle.engine_targets.specs.Opened.{handle_at, is_directory, number_of}
 use Rattle.engine_targets.specs.Seated.{IsSeated}

@@ -8,15 +8,15 @@ use Rattle.pps_types.specs.History.{Entry}
 use Rattle.pps_types.specs.Reading.{Open, visible}
 use Rattle.pps_types.specs.Rests.{Seen}
 use Rattle.pps_types.specs.Plan.{offer}
-use Rattle.pps_types.proofs.Finds.{all-imp}
-use Rattle.settling_laws.specs.Concerned.{is_concerned}
-use Rattle.settling_laws.proofs.Untouched.{offer_all-untouched}
+use Rattle.service_laws.proofs.Finds.{all-imp}
+use Rattle.service_laws.specs.Concerned.{is_concerned}
+use Rattle.service_laws.proofs.SettlingUntouched.{offer_all-untouched}
 use Rattle.number_table.specs.Numbered.{Entry as Numbering, Numbered, value_under}
 use Rattle.engine_targets.specs.Opened.{handle_at, is_directory, number_of}
 use Rattle.engine_targets.specs.Seated.{AreSeated, IsSeated}
-use Rattle.engine_seats.specs.declared.seats.Seats.{Seats}
-use Rattle.engine_seats.specs.declared.seats.Seats.TheVariants.{Readers, Service}
-use Rattle.engine_seats.specs.Seated.{target_of, handles_of, is_service, IsSameTarget, IsEnough, IsReady as IsReadyIn}
+use Rattle.engine_servers.specs.declared.seats.Seats.{Seats}
+use Rattle.engine_servers.specs.declared.seats.Seats.TheVariants.{Readers, Service}
+use Rattle.engine_servers.specs.Seated.{target_of, handles_of, is_service, IsSameTarget, IsEnough, IsReady as IsReadyIn}
 use Rattle.open_handles.specs.declared.places.Places.{Places}
 use Rattle.open_handles.specs.Whole.{IsRight, Whole, IsWhole, AreRowed, row_handle, place_at, with_place, handles_on, handles_in, handles_at, handles_in_place, seats_at, site_of, Site, IsSharedAt, HasRoom, HasRoomIn, HasRoomAt, is_told}
 use Rattle.open_handles.proofs.Finds.{found_cases}

@@ -8,13 +8,13 @@ use Rattle.pps_types.specs.declared.found.Found.TheVariants.{Object as FoundObje
 use Rattle.pps_types.specs.History.{Entry}
 use Rattle.pps_types.specs.Reading.{Open, visible}
 use Rattle.pps_types.specs.Rests.{Seen}
-use Rattle.pps_types.proofs.Finds.{all-imp}
+use Rattle.service_laws.proofs.Finds.{all-imp}
 use Rattle.number_table.specs.Numbered.{Numbered}
 use Rattle.server_queue.specs.Senders.{client_messages}
 use Rattle.engine_servers.specs.Standing.{Spare, HaveRoom, messages_in}
-use Rattle.engine_seats.specs.declared.seats.Seats.{Seats}
-use Rattle.engine_seats.specs.declared.seats.Seats.TheVariants.{Readers, Service}
-use Rattle.engine_seats.specs.Seated.{handles_of, places_of as places_for, IsReady, IsSameTarget, KeepsRoom}
+use Rattle.engine_servers.specs.declared.seats.Seats.{Seats}
+use Rattle.engine_servers.specs.declared.seats.Seats.TheVariants.{Readers, Service}
+use Rattle.engine_servers.specs.Seated.{handles_of, places_of as places_for, IsReady, IsSameTarget, KeepsRoom}
 use Rattle.open_handles.specs.declared.places.Places.{Places}
 use Rattle.open_handles.specs.Whole.{IsRight, Whole, IsWhole, place_at, with_place, seats_at, is_told, HasRoom, IsReadyAt, IsReadyFor, IsReserved, KeepsTable}
 use Rattle.open_handles.proofs.Finds.{found_cases}

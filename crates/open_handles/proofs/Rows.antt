@@ -7,9 +7,9 @@ use Rattle.pps_types.specs.Reading.{Open}
 use Rattle.pps_types.specs.Rests.{Seen}
 use Rattle.pps_types.specs.Plan.{on_numbered, without_number}
 use Rattle.pps_types.specs.WellFormed.{AreRising}
-use Rattle.pps_types.proofs.Finds.{all-imp, all-both}
-use Rattle.pps_types.proofs.Rising.{rising-lower, rising-above}
-use Rattle.notify_box.specs.Rising.{IsRising}
+use Rattle.service_laws.proofs.Finds.{all-imp, all-both}
+use Rattle.service_laws.proofs.Rising.{rising-lower, rising-above}
+use Rattle.pps_types.specs.Rising.{IsRising}
 use Rattle.number_table.specs.Numbered.{Entry as Numbering, has_number, value_under, without_first}
 use Rattle.engine_targets.specs.Opened.{handle_at, is_directory, number_of}
 use Rattle.engine_targets.specs.Seated.{AreSeated}

@@ -9,13 +9,13 @@ use Rattle.pps_types.specs.declared.found.Found.TheVariants.{Object as FoundObje
 use Rattle.pps_types.specs.Reading.{Open, is_directory_kind}
 use Rattle.pps_types.specs.Rests.{Seen}
 use Rattle.pps_types.specs.WellFormed.{AreRising}
-use Rattle.pps_types.proofs.Finds.{all-imp, all-find, and-both}
-use Rattle.pps_types.proofs.Rising.{rising-above}
+use Rattle.service_laws.proofs.Finds.{all-imp, all-find, and-both}
+use Rattle.service_laws.proofs.Rising.{rising-above}
 use Rattle.number_table.specs.Numbered.{Entry as Numbering, Numbered, value_under, has_number, is_same, is_same_entry}
 use Rattle.engine_targets.specs.Opened.{handle_at, is_directory, number_of}
 use Rattle.engine_targets.specs.Seated.{IsSeated, AreSeated}
-use Rattle.engine_seats.specs.declared.seats.Seats.{Seats}
-use Rattle.engine_seats.specs.Seated.{target_of}
+use Rattle.engine_servers.specs.declared.seats.Seats.{Seats}
+use Rattle.engine_servers.specs.Seated.{target_of}
 use Rattle.open_handles.specs.declared.places.Places.{Places}
 use Rattle.open_handles.specs.Whole.{IsWhole, place_at, handles_on, handles_in, handles_in_place, row_handle, is_on, HasSame}
 use Rattle.open_handles.proofs.Finds.{at_number}

@@ -7,8 +7,8 @@ use Rattle.pps_types.specs.WellFormed.{AreRising}
 use Rattle.number_table.specs.Numbered.{Entry as Numbering, has_number, on_first, value_under}
 use Rattle.engine_targets.specs.Opened.{is_directory, number_of}
 use Rattle.engine_targets.specs.Seated.{AreSeated}
-use Rattle.engine_seats.specs.declared.seats.Seats.{Seats}
-use Rattle.engine_seats.specs.Seated.{target_of, handles_of}
+use Rattle.engine_servers.specs.declared.seats.Seats.{Seats}
+use Rattle.engine_servers.specs.Seated.{target_of, handles_of}
 use Rattle.open_handles.specs.declared.places.Places.{Places}
 use Rattle.open_handles.specs.Whole.{place_at, with_place, handles_on, handles_in_place, ArePlaced, HoldsWhatIsOwed, IsRight}
 use Rattle.open_handles.proofs.Finds.{some_is, found_cases}

@@ -14,8 +14,8 @@ use Rattle.number_table.specs.Numbered.{Entry as Numbering, Numbered, has_number
 use Rattle.engine_targets.specs.Opened.{handle_at, is_directory, number_of, as_opened, opened as opened_as}
 use Rattle.engine_targets.specs.declared.opening.Opening.{Opening}
 use Rattle.engine_targets.specs.Seated.{AreSeated}
-use Rattle.engine_seats.specs.declared.seats.Seats.{Seats}
-use Rattle.engine_seats.specs.Seated.{target_of, handles_of, places_of as places_for, name_of, kept_of, is_service, suits, Suits, IsSameTarget, KeepsRoom}
+use Rattle.engine_servers.specs.declared.seats.Seats.{Seats}
+use Rattle.engine_servers.specs.Seated.{target_of, handles_of, places_of as places_for, name_of, kept_of, is_service, suits, Suits, IsSameTarget, KeepsRoom}
 use Rattle.open_handles.specs.declared.change.Change.{Change}
 use Rattle.open_handles.specs.declared.change.Change.TheVariants.{CatchUp, Pass, Park, Arm}
 use Rattle.open_handles.specs.declared.places.Places.{Places}

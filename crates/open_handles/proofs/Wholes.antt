@@ -9,10 +9,10 @@ use Rattle.pps_types.specs.Reading.{Open}
 use Rattle.pps_types.specs.Rests.{Seen}
 use Rattle.pps_types.specs.WellFormed.{AreRising}
 use Rattle.number_table.specs.Numbered.{Entry as Numbering, Numbered, value_under}
-use Rattle.engine_seats.specs.declared.seats.Seats.{Seats}
+use Rattle.engine_servers.specs.declared.seats.Seats.{Seats}
 use Rattle.pps_types.specs.Owed.{longest_rest}
 use Rattle.engine_targets.specs.Opened.{is_directory, number_of}
-use Rattle.engine_seats.specs.Seated.{target_of, handles_of, kept_of, places_of as places_for}
+use Rattle.engine_servers.specs.Seated.{target_of, handles_of, kept_of, places_of as places_for}
 use Rattle.open_handles.specs.Whole.{Whole, IsWhole, HoldsWhatIsOwed, AreRowed, row_handle, handles_in, handles_at, seats_at, handles_in_place, handle_of_row, room_at, KeepsPlaces, KeepsRecords, HasRoomAt, Fresh, IsFresh, site_of}
 use Rattle.open_handles.proofs.Finds.{some_is, found_cases}
 use Rattle.open_handles.proofs.Comes.{under_push, under_new, under_none, rise_push}

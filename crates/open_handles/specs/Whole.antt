@@ -11,12 +11,12 @@ use Rattle.pps_types.specs.Plan.{caught_up, left}
 use Rattle.pps_types.specs.Rests.{Seen}
 use Rattle.pps_types.specs.Owed.{longest_rest}
 use Rattle.pps_types.specs.WellFormed.{AreRising}
-use Rattle.settling_laws.specs.Concerned.{is_on_object, is_on_directory}
+use Rattle.service_laws.specs.Concerned.{is_on_object, is_on_directory}
 use Rattle.number_table.specs.Numbered.{Entry as Numbering, Numbered, value_under, value_at, with_value}
 use Rattle.engine_targets.specs.Opened.{handle_at, is_directory, number_of, armed_pulse}
 use Rattle.engine_targets.specs.Seated.{AreSeated}
-use Rattle.engine_seats.specs.declared.seats.Seats.{Seats}
-use Rattle.engine_seats.specs.Seated.{target_of, handles_of, name_of, kept_of, is_service, places_of as places_for, suits, IsReady}
+use Rattle.engine_servers.specs.declared.seats.Seats.{Seats}
+use Rattle.engine_servers.specs.Seated.{target_of, handles_of, name_of, kept_of, is_service, places_of as places_for, suits, IsReady}
 use Rattle.open_handles.specs.declared.change.Change.{Change}
 use Rattle.open_handles.specs.declared.change.Change.TheVariants.{CatchUp, Pass, Park, Arm}
 use Rattle.open_handles.specs.declared.places.Places.{Places}

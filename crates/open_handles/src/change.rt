@@ -7,11 +7,10 @@ ghost use Rattle.pps_types.specs.Plan as planning;
 ghost use Rattle.pps_types.specs.Reading as reading;
 ghost use Rattle.pps_types.specs.Rests as rests;
 ghost use Rattle.engine_targets.specs.Opened.{opened, is_directory, number_of};
-ghost use Rattle.engine_seats.specs.Seated.{target_of, name_of, handles_of, places_of, IsSameTarget, IsReady, IsEnough, KeepsRoom, Suits};
+ghost use Rattle.engine_servers.specs.Seated.{target_of, name_of, handles_of, places_of, IsSameTarget, IsReady, IsEnough, KeepsRoom, Suits};
 ghost use Rattle.open_handles.specs.Whole.{changed, IsRight};
 
-use engine_seats::Seats;
-use engine_servers::Shares;
+use engine_servers::{Seats, Shares};
 use engine_targets::{Opening, Pulse};
 use pps_types::Handle;
 use server_queue::Entry;

@@ -5,7 +5,7 @@ ghost use Rattle.open_handles.specs.Whole.{handles_in, HasSame};
 
 use crate::handles::Handles;
 use crate::places::Places;
-use engine_seats::Seats;
+use engine_servers::Seats;
 use number_table::Iter;
 
 impl Places {

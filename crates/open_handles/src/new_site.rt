@@ -1,9 +1,9 @@
 //! An object that is to be added.
 ghost use Rattle.std.specs.Prelude.{◌≡◌, [], IfOk};
 ghost use Rattle.pps_types.specs.declared.found.Found.TheVariants.{Object as FoundObject};
-ghost use Rattle.engine_seats.specs.Seated.{target_of, name_of, handles_of, kept_of, is_service};
+ghost use Rattle.engine_servers.specs.Seated.{target_of, name_of, handles_of, kept_of, is_service};
 
-use engine_seats::Seats;
+use engine_servers::Seats;
 use pps_types::{Bytes, ObjId};
 use std::alloc::{AllocError, Global};
 use std::marker::Model;

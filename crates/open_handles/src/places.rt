@@ -5,7 +5,7 @@ ghost use Rattle.std.specs.Option.{option_copied, option_copied_mut};
 ghost use Rattle.number_table.specs.Numbered.{value_at, has_number, without_first};
 ghost use Rattle.open_handles.specs.Whole.{place_at, with_place, handles_in_place, KeepsTable};
 
-use engine_seats::Seats;
+use engine_servers::Seats;
 use number_table::Table;
 use pps_types::Found;
 
@@ -21,7 +21,7 @@ pub(crate) struct Places {
 
 impl Places {
     ghost use Rattle.open_handles.specs.contracts.places.Places.{the_row};
-    ghost use Rattle.engine_seats.specs.contracts.seats.Seats.{the_row as seats_row};
+    ghost use Rattle.engine_servers.specs.contracts.seats.Seats.{the_row as seats_row};
 
     /// The handles on an object or a directory.
     pub(crate) fn get(&self, found: Found) -> Option<&Seats>

@@ -7,10 +7,9 @@ ghost use Rattle.open_options.specs.Refused.{IsOpenRefusal};
 use crate::options::{Options, read_options};
 use crate::path::{OpenPath, Path, read_open_path};
 use pps_filter::Filter;
-use pps_types::Refusal;
+use pps_types::{Refusal, split_at_first};
 use std::alloc::Global;
 use std::marker::Model;
-use text_parts::split_at_first;
 
 /// What an open asks for: a path, whether `.all` stands behind it, and options.
 #[derive(Debug, Drop)]

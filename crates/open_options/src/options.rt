@@ -8,9 +8,8 @@ ghost use Rattle.open_options.specs.Word.{with_word};
 
 use crate::word::{Word, read_word};
 use pps_filter::{Filter, first_plain_piece, read_parts};
-use pps_types::Refusal;
+use pps_types::{Refusal, after_prefix, number_up_to};
 use std::alloc::Global;
-use text_parts::{after_prefix, number_up_to};
 
 /// The most bytes of options.
 const OPTIONS_MAX: usize = 4_096;

@@ -3,11 +3,11 @@
 use crate::page::Page;
 use crate::slip::Slip;
 use crate::words::Words;
-use text_parts::{
+use pps_types::{
     after_prefix, continues_name, digits_up_to, is_attribute_name, number_up_to, split_at_first,
 };
 
-/// Answers a row of the crate `text_parts`.
+/// Answers a row of the crate `pps_types`.
 pub(crate) fn answer(words: &mut Words<'_>, page: &mut Page) -> Result<(), Slip> {
     page.line(b"is")?;
     match words.word()? {

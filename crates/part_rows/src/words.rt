@@ -1,10 +1,9 @@
 //! The words of a row, with a space between each two: plain ones, numbers, and texts in quotes.
 
 use crate::slip::Slip;
-use pps_types::{Bytes, Event, Handle, Request};
-use script_lines::{ScriptLine, read_line};
+use pps_script::{ScriptLine, read_line};
+use pps_types::{Bytes, Event, Handle, Request, digits_up_to, split_at_first};
 use std::alloc::Global;
-use text_parts::{digits_up_to, split_at_first};
 
 /// The bytes of these characters, which have escapes as the writes of scripts have them.
 fn unescaped(alloc: Global, characters: &[u8]) -> Result<Bytes, Slip> {

@@ -1,7 +1,7 @@
 //! Lines of images.
 
 use crate::samples::path;
-use image_lines::{push_attribute, push_beginning, push_directory, push_end, push_object};
+use pps_persist::{push_attribute, push_beginning, push_directory, push_end, push_object};
 use std::test::Fail;
 
 #[test]

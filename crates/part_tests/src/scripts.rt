@@ -1,11 +1,11 @@
 //! The lines of scripts, and the answers to them.
 
 use crate::samples::shared;
-use pps_types::{Bytes, Conn, Event, Handle, Outcome, Refusal, Request};
-use script_lines::{
+use pps_script::{
     ScriptLine, answers_are_lines, answers_are_told, commands_are_read, escapes_are_read,
     numbers_are_decimal, print_answer, read_line,
 };
+use pps_types::{Bytes, Conn, Event, Handle, Outcome, Refusal, Request};
 use std::alloc::{AllocError, Global};
 use std::test::Fail;
 

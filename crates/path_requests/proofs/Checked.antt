@@ -15,14 +15,14 @@ use Rattle.pps_types.specs.OpenText.{path_text}
 use Rattle.pps_types.specs.Content.{Content}
 use Rattle.pps_types.specs.Checks.{Check, Refuse, Memory, first_refusal, parsed, on_path, list_checks, mkdir_checks, unlink_checks}
 use Rattle.pps_types.specs.Plan.{Move, MakesDirectory, effect, with_path, listing, apply_all_seen, passes_last_number}
-use Rattle.settling_laws.specs.Targets.{last_number_passed, last_number_passed_after}
-use Rattle.settling_laws.specs.Laws.{EventsAreSettled}
-use Rattle.engine_names.specs.Listed.{suffix, members_at, MembersAreListed}
-use Rattle.engine_names.specs.Standing.{Standing, content_of, standing_in}
-use Rattle.engine_names.specs.Laws.{QuestionsAreTold}
+use Rattle.service_laws.specs.SettlingTargets.{last_number_passed, last_number_passed_after}
+use Rattle.service_laws.specs.SettlingLaws.{EventsAreSettled}
+use Rattle.name_table.specs.Listed.{suffix, members_at, MembersAreListed}
+use Rattle.name_table.specs.Standing.{Standing, content_of, standing_in}
+use Rattle.name_table.specs.Laws.{QuestionsAreTold}
 use Rattle.open_options.specs.Refused.{IsPathRefusal}
-use Rattle.engine_tables.specs.Refused.{Fails, all_request_checks}
-use Rattle.engine_tables.proofs.Memory.{memory_or}
+use Rattle.service_state.specs.Refused.{Fails, all_request_checks}
+use Rattle.service_state.proofs.Memory.{memory_or}
 use Rattle.path_requests.specs.Listed.{line_listed}
 
 -- ---- a text that is a path, or none

@@ -10,23 +10,23 @@ use Rattle.pps_types.specs.declared.record.Kind.TheVariants.{Deleted}
 use Rattle.pps_types.specs.Names.{Path}
 use Rattle.pps_types.specs.OpenText.{path_text}
 use Rattle.pps_types.specs.History.{Entry}
-use Rattle.pps_types.specs.Content.{Content, Known, Directory, object_at, directory_at}
+use Rattle.pps_types.specs.Content.{Content, LiveObject, Directory, object_at, directory_at}
 use Rattle.pps_types.specs.Checks.{first_refusal, unlink_checks}
 use Rattle.pps_types.specs.Plan.{Move, entry_of, effect, apply_all_seen, passes_last_number}
 use Rattle.pps_types.specs.WellFormed.{IsContent}
-use Rattle.settling_laws.specs.Targets.{last_number_passed, last_number_passed_after}
-use Rattle.settling_laws.specs.Laws.{EventsAreSettled}
-use Rattle.engine_tables.specs.declared.beginning.Beginning.{Beginning}
-use Rattle.engine_tables.specs.Beginning.{moves_of, entries_in, CanBeginAll, is_plain}
-use Rattle.engine_tables.specs.Refused.{Fails, all_request_checks}
-use Rattle.close_requests.specs.Begun.{bare, telling}
-use Rattle.close_requests.proofs.Begins.{bare_moves, bare_plain, bare_able, numbers_begun, told_moves}
+use Rattle.service_laws.specs.SettlingTargets.{last_number_passed, last_number_passed_after}
+use Rattle.service_laws.specs.SettlingLaws.{EventsAreSettled}
+use Rattle.service_state.specs.declared.beginning.Beginning.{Beginning}
+use Rattle.service_state.specs.Beginning.{moves_of, entries_in, CanBeginAll, is_plain}
+use Rattle.service_state.specs.Refused.{Fails, all_request_checks}
+use Rattle.handle_requests.specs.Begun.{bare, telling}
+use Rattle.handle_requests.proofs.Begins.{bare_moves, bare_plain, bare_able, numbers_begun, told_moves}
 use Rattle.path_requests.proofs.Checked.{unlink_last}
 use Rattle.path_requests.proofs.Gone.{told_does, removed_does}
 
 -- the record of the object at a path
 abbrev pub deletion_at : Content → Path → Option Entry
-deletion_at c names = option_map (λ (o : Known). entry_of o.object Deleted None) (object_at c names)
+deletion_at c names = option_map (λ (o : LiveObject). entry_of o.object Deleted None) (object_at c names)
 
 module _ (c : Content) (names : Path) (xs : List Beginning) (begins : map bare xs ≡ telling (deletion_at c names)) where
   pub deletion_able : CanBeginAll c xs
@@ -39,7 +39,7 @@ module _ (c : Content) (names : Path) (xs : List Beginning) (begins : map bare x
   pub deletion_plain : list_all is_plain xs ≡ true
   deletion_plain = sym (bare_plain xs) ∙ ap (list_all is_plain) begins ∙ by (object_at c names)
     where
-      by : (o : Option Known) → list_all is_plain (telling (option_map (λ (o : Known). entry_of o.object Deleted None) o)) ≡ true
+      by : (o : Option LiveObject) → list_all is_plain (telling (option_map (λ (o : LiveObject). entry_of o.object Deleted None) o)) ≡ true
       by None = refl
       by (Some o) = refl
 

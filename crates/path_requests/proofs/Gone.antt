@@ -18,16 +18,16 @@ use Rattle.pps_types.specs.Names.{Path, last_name, place, find_at, same_path}
 use Rattle.pps_types.specs.OpenText.{path_text}
 use Rattle.pps_types.specs.Reading.{Open, is_directory_kind}
 use Rattle.pps_types.specs.Rests.{Seen}
-use Rattle.pps_types.specs.Content.{Content, Known, Directory, at, object_at, object_in, directory_at, parent_number, object_numbered, members, subdirectories, has_directory_handle}
+use Rattle.pps_types.specs.Content.{Content, LiveObject, Directory, at, object_at, object_in, directory_at, parent_number, object_numbered, members, subdirectories, has_directory_handle}
 use Rattle.pps_types.specs.Checks.{Check, Refuse, first_refusal, parsed, unlink_checks, unlink_found}
-use Rattle.pps_types.specs.Plan.{Move, Happens, RemovesDirectory, entry_of, effect, unlinking}
+use Rattle.pps_types.specs.Plan.{Move, AppendsRecord, RemovesDirectory, entry_of, effect, unlinking}
 use Rattle.pps_types.specs.WellFormed.{IsContent, directory_numbered}
-use Rattle.pps_types.proofs.Finds.{all-find, find-true}
-use Rattle.pps_types.proofs.Rising.{found-each}
-use Rattle.pps_types.proofs.Passes.{place-at}
-use Rattle.pps_types.proofs.Trees.{same_path-is}
-use Rattle.settling_laws.specs.Concerned.{is_on_directory}
-use Rattle.engine_names.specs.Listed.{objects_at, IsBare}
+use Rattle.service_laws.proofs.Finds.{all-find, find-true}
+use Rattle.service_laws.proofs.Rising.{found-each}
+use Rattle.service_laws.proofs.Passes.{place-at}
+use Rattle.service_laws.proofs.Trees.{same_path-is}
+use Rattle.service_laws.specs.Concerned.{is_on_directory}
+use Rattle.name_table.specs.Listed.{objects_at, IsBare}
 
 -- ---- what stands there
 
@@ -40,10 +40,10 @@ found_stands c path f e = by (place (at c) path) refl e
     by (Ok (Some g)) is e = place-at (at c) path (Some g) is ∙ (let same : g ≡ f = cc in ap Some same)
 
 -- what stands at a path, by what is found of both
-abbrev either : Option Directory → Option Known → Option Found
-either d o = option_or (option_map (λ (d : Directory). FoundDirectory d.number) d) (option_map (λ (o : Known). FoundObject o.object.number) o)
+abbrev either : Option Directory → Option LiveObject → Option Found
+either d o = option_or (option_map (λ (d : Directory). FoundDirectory d.number) d) (option_map (λ (o : LiveObject). FoundObject o.object.number) o)
 
-pub record IsObjectAt (c : Content) (path : Path) (n : ℕ) (o : Known) : Type 0 where
+pub record IsObjectAt (c : Content) (path : Path) (n : ℕ) (o : LiveObject) : Type 0 where
   pub stands : object_at c path ≡ Some o
   pub numbered : object_numbered c n ≡ Some o
 
@@ -55,11 +55,11 @@ pub record IsDirectoryAt (c : Content) (path : Path) (n : ℕ) (d : Directory) :
   pub numbered : directory_numbered c n ≡ Some d
 
 module _ (c : Content) (w : IsContent c) (path : Path) (n : ℕ) where
-  among_objects : (o : Known) → object_at c path ≡ Some o → object_numbered c o.object.number ≡ Some o
+  among_objects : (o : LiveObject) → object_at c path ≡ Some o → object_numbered c o.object.number ≡ Some o
   among_objects o e = by path e
     where
-      each : AllByRecursion (λ (o : Known). object_numbered c o.object.number ≡ Some o) c.objects
-      each = found-each (λ (o : Known). o.object.number) 0 c.next_object c.objects w.order.objects_rise
+      each : AllByRecursion (λ (o : LiveObject). object_numbered c o.object.number ≡ Some o) c.objects
+      each = found-each (λ (o : LiveObject). o.object.number) 0 c.next_object c.objects w.order.objects_rise
 
       by : (p : Path) → object_at c p ≡ Some o → object_numbered c o.object.number ≡ Some o
       by [] e = absurd (let bad = e in cc)
@@ -67,12 +67,12 @@ module _ (c : Content) (w : IsContent c) (path : Path) (n : ℕ) where
         where
           in_parent : (k : Option ℕ) → option_and_then (object_in c (last_name (m ∷ ms))) k ≡ Some o → object_numbered c o.object.number ≡ Some o
           in_parent None e = absurd (let bad = e in cc)
-          in_parent (Some k) e = all-find (λ (o : Known). object_numbered c o.object.number ≡ Some o) (λ (x : Known). (x.object.directory == k) && Rattle.pps_types.specs.Bytes.same x.object.name (last_name (m ∷ ms))) c.objects o each e
+          in_parent (Some k) e = all-find (λ (o : LiveObject). object_numbered c o.object.number ≡ Some o) (λ (x : LiveObject). (x.object.directory == k) && Rattle.pps_types.specs.Bytes.same x.object.name (last_name (m ∷ ms))) c.objects o each e
 
-  pub object_found : at c path ≡ Some (FoundObject n) → (o : Known) × IsObjectAt c path n o
+  pub object_found : at c path ≡ Some (FoundObject n) → (o : LiveObject) × IsObjectAt c path n o
   object_found e = by (directory_at c path) (object_at c path) refl e
     where
-      by : (d : Option Directory) (o : Option Known) → object_at c path ≡ o → either d o ≡ Some (FoundObject n) → (o : Known) × IsObjectAt c path n o
+      by : (d : Option Directory) (o : Option LiveObject) → object_at c path ≡ o → either d o ≡ Some (FoundObject n) → (o : LiveObject) × IsObjectAt c path n o
       by (Some d) o is e = absurd (let bad = e in cc)
       by None None is e = absurd (let bad = e in cc)
       by None (Some o) is e = let same : o.object.number ≡ n = cc in (o, record { stands = is; numbered = subst (λ k. object_numbered c k ≡ Some o) same (among_objects o is) })
@@ -83,7 +83,7 @@ module _ (c : Content) (w : IsContent c) (path : Path) (n : ℕ) where
       each : AllByRecursion (λ (d : Directory). directory_numbered c d.number ≡ Some d) c.directories
       each = found-each (λ (d : Directory). d.number) 0 c.next_directory c.directories w.order.directories_rise
 
-      by : (d : Option Directory) (o : Option Known) → directory_at c path ≡ d → either d o ≡ Some (FoundDirectory n) → (d : Directory) × IsDirectoryAt c path n d
+      by : (d : Option Directory) (o : Option LiveObject) → directory_at c path ≡ d → either d o ≡ Some (FoundDirectory n) → (d : Directory) × IsDirectoryAt c path n d
       by None None is e = absurd (let bad = e in cc)
       by None (Some o) is e = absurd (let bad = e in cc)
       by (Some d) o is e =
@@ -107,7 +107,7 @@ numbered_there c w path n e = let found = directory_found c w path n e in ap (op
 pub no_directory_there : (c : Content) (path : Path) (n : ℕ) → at c path ≡ Some (FoundObject n) → directory_at c path ≡ None
 no_directory_there c path n e = by (directory_at c path) (object_at c path) e
   where
-    by : (d : Option Directory) (o : Option Known) → either d o ≡ Some (FoundObject n) → d ≡ None
+    by : (d : Option Directory) (o : Option LiveObject) → either d o ≡ Some (FoundObject n) → d ≡ None
     by None o e = refl
     by (Some d) o e = absurd (let bad = e in cc)
 
@@ -199,11 +199,11 @@ bare_found c w path n passes is =
 on_path_of : (text : List ℕ) (names : Path) → path_text text ≡ Some names → (f : Path → Outcome × List Move) → option_map_or f (path_text text) (Done, []) ≡ f names
 on_path_of text names is f = ap (λ o. option_map_or f o (Done, [])) is
 
-pub object_does : (c : Content) (conn : ℕ) (text : List ℕ) (names : Path) → path_text text ≡ Some names → (o : Known) → object_at c names ≡ Some o → effect c conn (Unlink text) ≡ (Done, Happens (entry_of o.object Deleted None) ∷ [])
+pub object_does : (c : Content) (conn : ℕ) (text : List ℕ) (names : Path) → path_text text ≡ Some names → (o : LiveObject) → object_at c names ≡ Some o → effect c conn (Unlink text) ≡ (Done, AppendsRecord (entry_of o.object Deleted None) ∷ [])
 unfolding effect
 object_does c conn text names is o there =
     on_path_of text names is (λ names. (Done, unlinking (object_at c names) (directory_at c names)))
-    ∙ ap {B = Outcome × List Move} (λ (k : Option Known). (Done, unlinking k (directory_at c names))) there
+    ∙ ap {B = Outcome × List Move} (λ (k : Option LiveObject). (Done, unlinking k (directory_at c names))) there
 
 pub directory_does : (c : Content) (conn : ℕ) (text : List ℕ) (names : Path) → path_text text ≡ Some names → (n : ℕ) (d : Directory) → IsDirectoryAt c names n d → effect c conn (Unlink text) ≡ (Done, RemovesDirectory n ∷ [])
 unfolding effect
@@ -216,14 +216,14 @@ directory_does c conn text names is n d at =
 
 -- no directory is there
 pub told_does : (c : Content) (conn : ℕ) (text : List ℕ) (names : Path) → path_text text ≡ Some names → directory_at c names ≡ None
-    → effect c conn (Unlink text) ≡ (Done, option_map_or (λ e. Happens e ∷ []) (option_map (λ (o : Known). entry_of o.object Deleted None) (object_at c names)) [])
+    → effect c conn (Unlink text) ≡ (Done, option_map_or (λ e. AppendsRecord e ∷ []) (option_map (λ (o : LiveObject). entry_of o.object Deleted None) (object_at c names)) [])
 unfolding effect
 told_does c conn text names is none =
     on_path_of text names is (λ names. (Done, unlinking (object_at c names) (directory_at c names)))
     ∙ ap {B = Outcome × List Move} (λ (d : Option Directory). (Done, unlinking (object_at c names) d)) none
     ∙ ap {B = Outcome × List Move} (λ (ms : List Move). (Done, ms)) (by (object_at c names))
   where
-    by : (o : Option Known) → unlinking o None ≡ option_map_or (λ e. Happens e ∷ []) (option_map (λ (o : Known). entry_of o.object Deleted None) o) []
+    by : (o : Option LiveObject) → unlinking o None ≡ option_map_or (λ e. AppendsRecord e ∷ []) (option_map (λ (o : LiveObject). entry_of o.object Deleted None) o) []
     by None = refl
     by (Some o) = refl
 
@@ -264,7 +264,7 @@ objects_there c path n e = by (directory_at c path) e
 pub directory_there : (c : Content) (path : Path) (n : ℕ) → at c path ≡ Some (FoundDirectory n) → option_map (λ (d : Directory). d.number) (directory_at c path) ≡ Some n
 directory_there c path n e = by (directory_at c path) (object_at c path) e
   where
-    by : (d : Option Directory) (o : Option Known) → either d o ≡ Some (FoundDirectory n) → option_map (λ (d : Directory). d.number) d ≡ Some n
+    by : (d : Option Directory) (o : Option LiveObject) → either d o ≡ Some (FoundDirectory n) → option_map (λ (d : Directory). d.number) d ≡ Some n
     by None None e = absurd (let bad = e in cc)
     by None (Some o) e = absurd (let bad = e in cc)
     by (Some d) o e = let same : d.number ≡ n = cc in ap Some same

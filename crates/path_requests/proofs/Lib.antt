@@ -1,3 +1,15 @@
+pub mod Places
+pub mod Refusing
+pub mod Going
+pub mod Counted
+pub mod Carried
+pub mod Readied
+pub mod Among
+pub mod Passing
+pub mod Deciding
+pub mod Stepped
 pub mod Checked
 pub mod Gone
 pub mod Deleted
+pub mod RestoreChecked
+pub mod LineChecks

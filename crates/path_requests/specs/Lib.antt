@@ -1,2 +1,5 @@
+pub mod Planned
+pub mod Asked
+pub mod Ways
 pub mod Listed
 pub mod Removed

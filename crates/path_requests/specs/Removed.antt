@@ -3,9 +3,9 @@ use Rattle.std.specs.Prelude.{List, [], ◌∷◌, IfSome}
 use Rattle.std.specs.List.{flat_map}
 use Rattle.pps_types.specs.Plan.{Move, RemovesDirectory}
 use Rattle.pps_types.specs.WellFormed.{directory_numbered}
-use Rattle.engine_names.specs.Listed.{IsBare}
-use Rattle.engine_tables.specs.Beginning.{moves_of, AreReady}
-use Rattle.engine_tables.specs.Tables.{Tabled, content_in}
+use Rattle.name_table.specs.Listed.{IsBare}
+use Rattle.service_state.specs.Beginning.{moves_of, AreReady}
+use Rattle.service_state.specs.Tables.{Tabled, content_in}
 use Rattle.path_requests.specs.declared.removing.Unlinked.{Unlinked}
 use Rattle.path_requests.specs.declared.removing.Unlinked.TheVariants.{Object, Directory}
 

@@ -1,12 +1,30 @@
-//! What is asked by a path: an Unlink, a Mkdir and a List, how each is checked, what it answers, and the memory that it takes
-//! ahead. Nothing that stands changes yet.
+//! What is asked by a path, as Open, Unlink, Mkdir and List: the checks in their order, the answer, the memory that is
+//! taken ahead, and how an open is carried out, until which nothing changes. And the calls that restore an image, each
+//! carried out at once.
 #![tactic(auto)]
 
+mod checks;
+mod creating;
 mod listing;
 mod making;
+mod new_handle;
+mod on_found;
+mod opening;
 mod paths;
+mod planned_open;
+mod records;
 mod removing;
+mod replacing;
+mod restored_directories;
+mod restored_lines;
+mod restored_objects;
+mod ways;
 
 pub use listing::list;
 pub use making::make_directory;
+pub use opening::open;
+pub use planned_open::{Opens, carry_out};
 pub use removing::{Unlinked, unlink};
+pub use restored_directories::restore_directory;
+pub use restored_lines::restore_line;
+pub use restored_objects::restore_object;

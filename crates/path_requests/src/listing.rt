@@ -4,15 +4,14 @@ ghost use Rattle.std.specs.List.{concat};
 ghost use Rattle.pps_types.specs.declared.event.Request.TheVariants.{List as ListRequest};
 ghost use Rattle.pps_types.specs.Checks as checking;
 ghost use Rattle.pps_types.specs.Plan as planning;
-ghost use Rattle.engine_tables.specs.Tables.{content_in};
-ghost use Rattle.engine_tables.specs.Refused.{Fails};
+ghost use Rattle.service_state.specs.Tables.{content_in};
+ghost use Rattle.service_state.specs.Refused.{Fails};
 ghost use Rattle.path_requests.specs.Listed.{line_listed};
 
 use crate::paths::read_names;
-use alloc_tree::Lent;
-use engine_names::{members_are_listed, questions_are_told};
-use engine_tables::Tables;
+use name_table::{Lent, members_are_listed, questions_are_told};
 use pps_types::{Bytes, Conn, Found, Outcome, Refusal, SharedBytes};
+use service_state::Tables;
 use std::alloc::{AllocError, Global};
 
 // Puts a member's name behind a text, with `/` where it is a directory's, and a line feed.

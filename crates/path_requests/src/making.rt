@@ -4,14 +4,14 @@ ghost use Rattle.pps_types.specs.declared.event.Request.TheVariants.{Mkdir};
 ghost use Rattle.pps_types.specs.declared.outcome.Outcome.TheVariants.{Done};
 ghost use Rattle.pps_types.specs.Checks as checking;
 ghost use Rattle.pps_types.specs.Plan as planning;
-ghost use Rattle.engine_names.specs.Standing.{IsReadyToMake};
-ghost use Rattle.engine_tables.specs.Tables.{content_in};
-ghost use Rattle.engine_tables.specs.Refused.{Fails, all_request_checks};
+ghost use Rattle.name_table.specs.Standing.{IsReadyToMake};
+ghost use Rattle.service_state.specs.Tables.{content_in};
+ghost use Rattle.service_state.specs.Refused.{Fails, all_request_checks};
 
 use crate::paths::read_names;
-use engine_tables::Tables;
 use pps_types::{Bytes, Conn, Refusal};
-use settling_laws::events_are_settled;
+use service_laws::events_are_settled;
+use service_state::Tables;
 use std::alloc::Global;
 
 /// The names of the path at which a directory is to be made, with all memory taken for it. What stands stays.

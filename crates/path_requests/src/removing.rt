@@ -1,6 +1,5 @@
 //! Removing what stands at a path.
-ghost use Rattle.std.specs.Prelude.{◌≡◌, ◌⊎◌, None, Some, Ok, [], not, true, false, is_some, length, map, option_map, IfOk, IfErr, OnOk};
-ghost use Rattle.std.specs.Option.{option_map_or};
+ghost use Rattle.std.specs.Prelude.{◌≡◌, ◌⊎◌, None, Some, Ok, [], not, true, false, length, map, option_map, IfOk, IfErr, OnOk};
 ghost use Rattle.std.specs.List.{AllByRecursion};
 ghost use Rattle.pps_types.specs.declared.event.Request.TheVariants.{Unlink};
 ghost use Rattle.pps_types.specs.declared.outcome.Outcome.TheVariants.{Done};
@@ -12,19 +11,20 @@ ghost use Rattle.pps_types.specs.Content as content;
 ghost use Rattle.pps_types.specs.Checks as checking;
 ghost use Rattle.pps_types.specs.Plan as planning;
 ghost use Rattle.pps_types.specs.WellFormed.{IsContent};
-ghost use Rattle.engine_names.specs.Listed.{objects_at};
-ghost use Rattle.engine_tables.specs.Beginning.{IsSharedBy};
-ghost use Rattle.engine_tables.specs.Tables.{content_in};
-ghost use Rattle.engine_tables.specs.Refused.{Fails, all_request_checks};
-ghost use Rattle.close_requests.specs.Begun.{bare, telling};
+ghost use Rattle.name_table.specs.Listed.{objects_at};
+ghost use Rattle.service_state.specs.Beginning.{IsSharedBy};
+ghost use Rattle.service_state.specs.Tables.{content_in};
+ghost use Rattle.service_state.specs.Refused.{Fails, all_request_checks};
+ghost use Rattle.handle_requests.specs.Begun.{bare, telling};
 ghost use Rattle.path_requests.specs.Removed.{moves_in, IsReady};
 
+use crate::checks::is_served;
 use crate::paths::read_names;
-use close_requests::{begin_ready, numbers_are_within, tell};
-use engine_names::questions_are_told;
-use engine_tables::{Beginning, Tables, record_of};
+use handle_requests::{begin_ready, numbers_are_within, tell};
+use name_table::questions_are_told;
 use pps_types::{Bytes, Conn, DirId, Found, Kind, ObjId, Refusal};
-use settling_laws::events_are_settled;
+use service_laws::events_are_settled;
+use service_state::{Beginning, Tables, record_of};
 use std::alloc::{AllocError, Global};
 
 /// What an Unlink removes.
@@ -34,16 +34,6 @@ pub enum Unlinked {
     Object(Vec<Beginning>),
     /// A directory in which nothing stands.
     Directory(DirId),
-}
-
-// Whether the object of that number is a server's.
-fn is_served(tables: &Tables, object: ObjId) -> bool
-    ensures { result ≡ option_map_or (λ (o : content.Known). is_some o.object.server) (content.object_numbered (content_in tables.now) object) false }
-{
-    match tables.names().object(object) {
-        None => false,
-        Some(known) => known.server().is_some(),
-    }
 }
 
 // Whether an object stands directly in the directory at a path.
@@ -135,7 +125,7 @@ fn check_unlink(tables: &Tables, path: &[Bytes]) -> Result<Found, Refusal>
 
 // What the deletion of an object begins with. AllocError comes only where memory is wanting.
 fn deletion(tables: &Tables, alloc: Global, object: ObjId) -> Result<Vec<Beginning>, AllocError>
-    ensures begun { IfOk result (λ beginning. map bare beginning.items ≡ telling (option_map (λ (o : content.Known). planning.entry_of o.object Deleted None) (content.object_numbered (content_in tables.now) object))) }
+    ensures begun { IfOk result (λ beginning. map bare beginning.items ≡ telling (option_map (λ (o : content.LiveObject). planning.entry_of o.object Deleted None) (content.object_numbered (content_in tables.now) object))) }
     ensures shared { IfOk result (λ beginning. AllByRecursion (IsSharedBy tables.now.handles) beginning.items) }
 {
     questions_are_told();

@@ -4,18 +4,19 @@ ghost use Rattle.pps_types.specs.Device.{device_inner, device_failed, device_sta
 ghost use Rattle.pps_types.specs.Writing.{Sends};
 ghost use Rattle.pps_dispatch.specs.History.{joined};
 ghost use Rattle.pps_cli.specs.Sessions.{AnswersFaultAre};
-ghost use Rattle.pps_session.specs.Named.{Names};
-ghost use Rattle.pps_session.specs.Printed.{sessions_text, connections_of};
-ghost use Rattle.pps_session.specs.Serving.{IsOfScript, AreOfScripts, PrintsAll, PrintsSome};
+ghost use Rattle.pps_dispatch.specs.Named.{Names};
+ghost use Rattle.pps_dispatch.specs.Printed.{sessions_text, connections_of};
+ghost use Rattle.pps_dispatch.specs.Serving.{IsOfScript, AreOfScripts, PrintsAll, PrintsSome};
 
 use crate::command_line::ServeOptions;
 use crate::fault::{Failure, Fault};
 use crate::patient::Patient;
 use crate::whole_file::{Contents, write_whole};
-use pps_dispatch::{Gate, ServeError, Served, Session, distinct, serve};
+use pps_dispatch::{
+    Gate, Segment, ServeError, Served, Session, SessionFault, distinct, serve, session_of,
+    write_history, write_sessions,
+};
 use pps_engine::Engine;
-use pps_lock::Segment;
-use pps_session::{SessionFault, session_of, write_history, write_sessions};
 use pps_types::{AnswerFault, Conn, Device};
 use std::alloc::Global;
 use std::fs::{File, Files};

@@ -5,3 +5,8 @@ pub mod Indexing
 pub mod Replaying
 pub mod Searching
 pub mod Turns
+pub mod Lines
+pub mod Names
+pub mod Texts
+pub mod SessionsServed
+pub mod Regroup

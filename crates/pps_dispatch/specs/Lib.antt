@@ -2,3 +2,8 @@ pub mod RunQueue
 pub mod Sessions
 pub mod History
 pub mod Search
+pub mod Scripts
+pub mod Reading
+pub mod Named
+pub mod Printed
+pub mod Serving

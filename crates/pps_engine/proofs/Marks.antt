@@ -15,7 +15,7 @@ use Rattle.pps_types.specs.Outbox.{arms, first_of, park_refusal}
 use Rattle.pps_types.specs.Content.{Content, is_attached, own_handle, queue_of, outbox_of, read_answer, news}
 use Rattle.pps_types.specs.Checks.{Check, Refuse, Memory, first_refusal, reaches_memory, refused, on_handle, answer_checks, read_checks, checks}
 use Rattle.pps_types.specs.Plan.{Move, Arms, effect, writing, closing, received, with_result, apply_all_seen, passes_last_number, decided, all_checks_of, plan, step_seen, may_lack_memory}
-use Rattle.pps_types.proofs.Passes.{passes-both, all-pass, none-fails, behind}
+use Rattle.service_laws.proofs.Passes.{passes-both, all-pass, none-fails, behind}
 
 own-checks : (c : Content) (conn handle : ℕ) (h : Open Seen) (k : Open Seen → List Check) → own_handle c conn handle ≡ Some h → on_handle c conn handle k ≡ k h
 own-checks c conn handle h k e = rw e refl

@@ -17,19 +17,19 @@ use Rattle.pps_types.specs.Rests.{Seen}
 use Rattle.pps_types.specs.Content.{Content, at}
 use Rattle.pps_types.specs.Stands.{StepsSeen}
 use Rattle.pps_types.specs.WellFormed.{AreRising}
-use Rattle.pps_types.proofs.Kept.{longer-none, longest-length}
-use Rattle.pps_types.proofs.WellSteps.{step-content}
-use Rattle.content_bounds.specs.Bounds.{IsBound}
-use Rattle.content_bounds.proofs.Events.{step-keeps, step-sends}
+use Rattle.service_laws.proofs.Kept.{longer-none, longest-length}
+use Rattle.service_laws.proofs.WellSteps.{step-content}
+use Rattle.service_laws.specs.Bounds.{IsBound}
+use Rattle.service_laws.proofs.BoundedEvents.{step-keeps, step-sends}
 use Rattle.image_laws.proofs.Proved.{saving-stays}
 use Rattle.number_table.specs.Numbered.{Entry as Numbering, value_under, has_number}
-use Rattle.engine_seats.specs.declared.seats.Seats.{Seats}
-use Rattle.engine_seats.specs.Seated.{kept_of}
+use Rattle.engine_servers.specs.declared.seats.Seats.{Seats}
+use Rattle.engine_servers.specs.Seated.{kept_of}
 use Rattle.engine_targets.specs.Opened.{is_directory, number_of}
 use Rattle.open_handles.specs.Whole.{kept_at}
-use Rattle.engine_tables.specs.Tables.{Tabled, content_in}
-use Rattle.engine_events.specs.declared.planned.Pending.{Pending}
-use Rattle.engine_events.specs.Events.{moves_pending, CanCarry}
+use Rattle.service_state.specs.Tables.{Tabled, content_in}
+use Rattle.pps_engine.specs.declared.planned.Pending.{Pending}
+use Rattle.pps_engine.specs.Events.{moves_pending, CanCarry}
 use Rattle.pps_engine.specs.declared.engine.Ready.{Ready}
 use Rattle.pps_engine.specs.Serving.{Chained, Upcoming, held_records}
 use Rattle.pps_engine.specs.Standing.{IsSound, IsPending, after, coming, chain_of, HoldsJust}

@@ -6,7 +6,7 @@ use Rattle.pps_types.specs.Content.{Content}
 use Rattle.pps_types.specs.Machine.{Machine}
 use Rattle.image_laws.specs.Restored.{Becomes}
 use Rattle.image_laws.specs.Unused.{IsUnused}
-use Rattle.engine_tables.specs.Tables.{Tabled, content_in}
+use Rattle.service_state.specs.Tables.{Tabled, content_in}
 use Rattle.pps_engine.specs.declared.engine.Ready.{Ready}
 use Rattle.pps_engine.specs.Standing.{IsSound, IsPending}
 

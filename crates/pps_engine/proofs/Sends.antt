@@ -4,8 +4,8 @@ use denote.Param.SendFields.{declared_send, declared_sync, as_row_send, as_row_s
 use Rattle.std.proofs.Crossing.{crosses}
 use Rattle.std.specs.contracts.snapshot.Snapshot as snapshot
 use Rattle.pps_types.specs.contracts.outcome.Outcome as outcome
-use Rattle.engine_tables.proofs.Sends.{tables_send, tables_sync}
-use Rattle.engine_events.proofs.planned.Pending.TheSendSync as pending
+use Rattle.service_state.proofs.Sends.{tables_send, tables_sync}
+use Rattle.pps_engine.proofs.planned.Pending.TheSendSync as pending
 use Rattle.pps_engine.specs.contracts.engine.Engine as engine
 use Rattle.pps_engine.specs.contracts.engine.Ready as ready
 

@@ -1,3 +1,10 @@
+pub mod Behind
+pub mod SettlingTold
+pub mod Doing
+pub mod EventTold
+pub mod Events
+pub mod Attributes
+pub mod Entries
 pub mod Serving
 pub mod Standing
 pub mod Restored

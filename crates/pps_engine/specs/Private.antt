@@ -5,7 +5,7 @@ use Rattle.pps_types.specs.Machine.{Machine}
 use Rattle.pps_types.specs.Runs.{Answered}
 use Rattle.pps_types.specs.Stands.{Stands}
 use Rattle.pps_types.specs.Privacy.{Agree}
-use Rattle.pps_types.specs.Laws.{MeetsAlike}
+use Rattle.service_laws.specs.Laws.{MeetsAlike}
 
 -- From each machine that both contents stand for, the runs meet each connection alike that they agree for.
 abbrev pub KeepsPrivate : Content → Content → List Answered → List Answered → Type 0

@@ -4,14 +4,14 @@ use Rattle.pps_types.specs.Content.{Content}
 use Rattle.pps_types.specs.Owed.{kept_records_seen}
 use Rattle.pps_types.specs.Plan.{apply_all_seen}
 use Rattle.pps_types.specs.WellFormed.{IsContent}
-use Rattle.content_bounds.specs.Bounds.{IsBound}
+use Rattle.service_laws.specs.Bounds.{IsBound}
 use Rattle.image_laws.specs.Savable.{CanBeSaved}
 use Rattle.number_table.specs.Numbered.{Entry as Numbering}
-use Rattle.engine_seats.specs.declared.seats.Seats.{Seats}
-use Rattle.engine_seats.specs.Seated.{kept_of}
-use Rattle.engine_tables.specs.Tables.{Tabled, content_in}
-use Rattle.engine_events.specs.declared.planned.Pending.{Pending}
-use Rattle.engine_events.specs.Events.{moves_pending, CanCarry}
+use Rattle.engine_servers.specs.declared.seats.Seats.{Seats}
+use Rattle.engine_servers.specs.Seated.{kept_of}
+use Rattle.service_state.specs.Tables.{Tabled, content_in}
+use Rattle.pps_engine.specs.declared.planned.Pending.{Pending}
+use Rattle.pps_engine.specs.Events.{moves_pending, CanCarry}
 use Rattle.pps_engine.specs.declared.engine.Ready.{Ready}
 use Rattle.pps_engine.specs.Serving.{Chained, Upcoming, held_records}
 

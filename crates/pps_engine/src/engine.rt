@@ -6,15 +6,15 @@ ghost use Rattle.pps_types.specs.Owed.{kept_seen, owed_by_seen};
 ghost use Rattle.pps_types.specs.Plan.{may_lack_memory};
 ghost use Rattle.pps_types.specs.Stands.{Stands, Steps, StepsSeen, Runs, RunsSeen};
 ghost use Rattle.pps_engine.specs.Serving.{IsLatest, IsExact};
-ghost use Rattle.engine_tables.specs.Tables.{content_in};
+ghost use Rattle.service_state.specs.Tables.{content_in};
 ghost use Rattle.pps_engine.specs.Standing.{coming, HoldsJust, IsSound};
 ghost use Rattle.pps_types.specs.Runs.{answered};
 
-use engine_events::{Pending, Planned, carry_out, plan};
-use engine_names::questions_are_told;
-use engine_tables::Tables;
+use crate::planned::{Pending, Planned, carry_out, plan};
+use name_table::questions_are_told;
 use open_options::Path;
 use pps_types::{Event, Handle, Outcome, Refusal};
+use service_state::Tables;
 use std::alloc::{AllocError, Global};
 use std::marker::Model;
 use std::snapshot::Snapshot;
@@ -125,7 +125,7 @@ pub struct Engine {
 
 impl Model for Engine {
     ghost use Rattle.std.specs.Prelude.{option_map};
-    ghost use Rattle.engine_tables.specs.Tables.{content_in};
+    ghost use Rattle.service_state.specs.Tables.{content_in};
     ghost use Rattle.pps_engine.specs.Serving.{Serving};
     ghost use Rattle.pps_engine.specs.Standing.{coming, chains_of, IsSound, IsPending};
 

@@ -35,7 +35,7 @@ impl Engine {
         forget(&mut self.pending);
         restoring_stays();
         restoring_is_of_machines();
-        let restored = restore_requests::restore_directory(&mut self.tables, path);
+        let restored = path_requests::restore_directory(&mut self.tables, path);
         are_cut(&self.tables);
         restored
     }
@@ -64,7 +64,7 @@ impl Engine {
         restoring_stays();
         restoring_is_of_machines();
         let alloc = self.alloc;
-        let restored = restore_requests::restore_object(&mut self.tables, alloc, path);
+        let restored = path_requests::restore_object(&mut self.tables, alloc, path);
         are_cut(&self.tables);
         restored
     }
@@ -93,7 +93,7 @@ impl Engine {
         restoring_stays();
         restoring_is_of_machines();
         let alloc = self.alloc;
-        let restored = restore_requests::restore_line(&mut self.tables, alloc, path, line);
+        let restored = path_requests::restore_line(&mut self.tables, alloc, path, line);
         are_cut(&self.tables);
         restored
     }

@@ -6,7 +6,8 @@ ghost use Rattle.image_laws.specs.Laws.{IsReadAgain};
 ghost use Rattle.image_laws.specs.Savable.{CanBeSaved};
 
 use crate::engine::Engine;
-use image_entries::{SavedEntry, saved_entries};
+use crate::image_entries::saved_entries;
+use crate::saved_entry::SavedEntry;
 use image_laws::saved_is_read_again;
 use pps_types::Refusal;
 

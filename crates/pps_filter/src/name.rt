@@ -5,11 +5,10 @@ ghost use Rattle.std.specs.Cmp.Rules.{comparing, hashing};
 ghost use lib.Pointwise.{pointwise};
 ghost use Rattle.pps_types.specs.Text as text;
 
-use pps_types::Bytes;
+use pps_types::{Bytes, continues_name};
 use std::alloc::AllocError;
 use std::hash::{Hash, Hasher};
 use std::marker::Model;
-use text_parts::continues_name;
 
 /// The name of an attribute. It is hashed in one piece.
 #[derive(Debug, Drop)]

@@ -2,7 +2,7 @@
 ghost use Rattle.std.specs.Prelude.{◌≡◌};
 ghost use Rattle.pps_types.specs.Filter as meant;
 
-use text_parts::digits_up_to;
+use pps_types::digits_up_to;
 
 /// The whole number that the bytes spell, if they are digits, perhaps behind a `-`, and it lies within an `i64`.
 pub(crate) fn whole_number(bytes: &[u8]) -> Option<i64>

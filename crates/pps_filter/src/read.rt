@@ -9,9 +9,8 @@ use crate::filter::{Condition, Filter, Part};
 use crate::name::{Name, name_len};
 use crate::number::whole_number;
 use crate::pieces::{escapes, first_plain_piece};
-use pps_types::{Bytes, Refusal};
+use pps_types::{Bytes, Refusal, is_attribute_name};
 use std::alloc::Global;
-use text_parts::is_attribute_name;
 
 /// Whether the last byte is a backslash that no byte is left for.
 fn ends_open(value: &[u8]) -> bool

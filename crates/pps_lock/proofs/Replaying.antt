@@ -9,7 +9,7 @@ use Rattle.pps_types.specs.Content.{Content}
 use Rattle.pps_types.specs.Plan.{may_lack_memory}
 use Rattle.pps_types.specs.Runs.{Answered}
 use Rattle.pps_types.specs.Stands.{StepsSeen}
-use Rattle.pps_types.proofs.RunJoins.{runs-append}
+use Rattle.service_laws.proofs.RunJoins.{runs-append}
 use Rattle.pps_lock.specs.declared.book.Receipt.{Receipt}
 use Rattle.pps_lock.specs.declared.book.Stepped.{Stepped}
 use Rattle.pps_lock.specs.declared.book.TraceFull.{TraceFull}

@@ -13,7 +13,7 @@ use Rattle.pps_types.specs.Bytes.{◌>>=◌}
 use Rattle.pps_types.specs.Text.{print_lines, set_line}
 use Rattle.pps_types.specs.Names.{Path, path_cmp}
 use Rattle.pps_types.specs.Content.{Content}
-use Rattle.pps_types.specs.Machine.{shown}
+use Rattle.pps_types.specs.Machine.{content_of}
 use Rattle.pps_types.specs.Image as image
 use Rattle.pps_types.specs.Image.{SavedObject, SavedLine, path_of, as_line, set_of, text_line, with_entry, in_object, attribute_line, started}
 use Rattle.pps_types.specs.Restore.{restore_object, restore_line, restore_lines, restore_entry}
@@ -148,15 +148,15 @@ module _ (r : image.Loaded) (path : Path) (before : List SavedLine) (old : Loade
       )
 
       -- what the calls of the longer object leave
-      content : new.engine.content ≡ shown (started (image_of (with_entry r (SavedObject path (before ++ a ∷ [])))))
+      content : new.engine.content ≡ content_of (started (image_of (with_entry r (SavedObject path (before ++ a ∷ [])))))
       content =
-          let start = shown (started (image_of r)) in
+          let start = content_of (started (image_of r)) in
           let first = entry-restored (image_of r) (SavedObject path before) h.follow h.printable h.follows h.has in
-          let then = entry-then start (shown (started (image_of (with_entry r (SavedObject path before))))) path before a first in
+          let then = entry-then start (content_of (started (image_of (with_entry r (SavedObject path before))))) path before a first in
           let whole = entry-restored (image_of r) (SavedObject path (before ++ a ∷ [])) h.follow h.printable h.follows has in
-          let step : restore_line (shown (started (image_of (with_entry r (SavedObject path before))))) path (as_line a) ≡ Ok new.engine.content =
+          let step : restore_line (content_of (started (image_of (with_entry r (SavedObject path before))))) path (as_line a) ≡ Ok new.engine.content =
           (λ i. restore_line (sym h.holds.content i) (sym h.last i) (as_line a)) ∙ restored in
-          let both : Ok new.engine.content ≡ Ok (shown (started (image_of (with_entry r (SavedObject path (before ++ a ∷ [])))))) =
+          let both : Ok new.engine.content ≡ Ok (content_of (started (image_of (with_entry r (SavedObject path (before ++ a ∷ [])))))) =
           sym (then ∙ ap (λ (o : Result Content Refusal). o >>= (λ c. Ok c)) step) ∙ whole in
           cc
 

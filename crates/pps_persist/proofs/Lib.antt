@@ -1,3 +1,5 @@
+pub mod Numbers
+pub mod Regroup
 pub mod Restored
 pub mod Added
 pub mod Judging

@@ -13,7 +13,7 @@ use Rattle.pps_types.specs.declared.refusal.Refusal.{Refusal}
 use Rattle.pps_types.specs.Bytes.{is_empty, ◌>>=◌}
 use Rattle.pps_types.specs.Names.{Path, path_cmp}
 use Rattle.pps_types.specs.Content.{Content}
-use Rattle.pps_types.specs.Machine.{start, shown}
+use Rattle.pps_types.specs.Machine.{start, content_of}
 use Rattle.pps_types.specs.Image as image
 use Rattle.pps_types.specs.Image.{Image, Saved, SavedDirectory, SavedObject, SavedLine, Position, path_of, as_line, set_of, may_follow, with_entry, in_object, attribute_line, AreFollowing, IsImage, started}
 use Rattle.pps_types.specs.Restore.{restore_directory, restore_object, restore_entry, restore_entries}
@@ -56,10 +56,10 @@ same-then (Err r) d h = h
 
 -- the calls of one entry lead from what the entries before it start to what they start with it
 pub entry-restored : (i : Image) (e : Saved) → IsImage i → IsPrintable i → may_follow i.entries e ≡ true → HasText 65536 e
-    → restore_entry (shown (started i)) e ≡ Ok (shown (started (one_more i e)))
+    → restore_entry (content_of (started i)) e ≡ Ok (content_of (started (one_more i e)))
 entry-restored i e all text follows has =
-    same-then (restore_entry (shown (started i)) e) (shown (started (one_more i e)))
-    (sym (entries-then (shown (start 1 i.default_limit)) (shown (started i)) i.entries e (calls-start-it i all text))
+    same-then (restore_entry (content_of (started i)) e) (content_of (started (one_more i e)))
+    (sym (entries-then (content_of (start 1 i.default_limit)) (content_of (started i)) i.entries e (calls-start-it i all text))
     ∙ calls-start-it (one_more i e) (image-push i e all follows) (printable-push i e text has))
 
 -- ---- behind all others
@@ -94,7 +94,7 @@ module _ (r : image.Loaded) (old : Loaded) (held : Holds r old) where
   holds-push new e follows has behind restored unused longest count last =
       let steps = sym (ap (λ (c : Content). restore_entry c e) held.content) ∙ restored in
       let leads = entry-restored (image_of r) e held.follow held.printable follows has in
-      let same : new.engine.content ≡ shown (started (one_more (image_of r) e)) = (let both = sym steps ∙ leads in cc) in
+      let same : new.engine.content ≡ content_of (started (one_more (image_of r) e)) = (let both = sym steps ∙ leads in cc) in
       record {
         follow = image-push (image_of r) e held.follow follows;
         printable = printable-push (image_of r) e held.printable has;
@@ -122,13 +122,13 @@ module _ (r : image.Loaded) (old : Loaded) (held : Holds r old) where
   pub directory-decides : (path : Path) → IsSavedPath path → is_lt (path_cmp old.last.items path) ≡ true → may_follow r.entries (SavedDirectory path) ≡ is_ok (restore_directory old.engine.content path)
   directory-decides path is h =
       calls-decide.directory (image_of r) held.follow held.printable path is (not-root old.last.items path h)
-      ∙ ap (λ (b : Bool). b && is_ok (restore_directory (shown (started (image_of r))) path)) (all-behind path h)
+      ∙ ap (λ (b : Bool). b && is_ok (restore_directory (content_of (started (image_of r))) path)) (all-behind path h)
       ∙ ap (λ (c : Content). is_ok (restore_directory c path)) (sym held.content)
 
   pub object-decides : (path : Path) → IsSavedPath path → is_lt (path_cmp old.last.items path) ≡ true → may_follow r.entries (SavedObject path []) ≡ is_ok (restore_object old.engine.content path)
   object-decides path is h =
       calls-decide.object (image_of r) held.follow held.printable path is (not-root old.last.items path h)
-      ∙ ap (λ (b : Bool). b && is_ok (restore_object (shown (started (image_of r))) path)) (all-behind path h)
+      ∙ ap (λ (b : Bool). b && is_ok (restore_object (content_of (started (image_of r))) path)) (all-behind path h)
       ∙ ap (λ (c : Content). is_ok (restore_object c path)) (sym held.content)
 
   -- ---- a directory

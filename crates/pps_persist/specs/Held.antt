@@ -5,7 +5,7 @@ use Rattle.std.specs.Ordering.{is_lt}
 use Rattle.pps_types.specs.Bytes.{is_empty}
 use Rattle.pps_types.specs.Text.{print_lines}
 use Rattle.pps_types.specs.Names.{Path, path_cmp}
-use Rattle.pps_types.specs.Machine.{shown}
+use Rattle.pps_types.specs.Machine.{content_of}
 use Rattle.pps_types.specs.Stands.{Stands}
 use Rattle.pps_types.specs.Image as image
 use Rattle.pps_types.specs.Image.{Image, Saved, SavedDirectory, SavedObject, SavedLine, path_of, as_line, may_follow, with_entry, in_object, attribute_line, First, Between, Behind, IsImage, started}
@@ -26,7 +26,7 @@ image_of r = record { default_limit = r.default_limit; entries = r.entries }
 pub record Holds (r : image.Loaded) (l : Loaded) : Type 0 where
   pub follow : IsImage (image_of r)
   pub printable : IsPrintable (image_of r)
-  pub content : l.engine.content ≡ shown (started (image_of r))
+  pub content : l.engine.content ≡ content_of (started (image_of r))
   pub unused : l.engine.content.handles ≡ []
   pub longest : r.longest ≡ l.longest
   pub most : l.longest ≤ 65536

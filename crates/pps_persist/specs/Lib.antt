@@ -1,3 +1,4 @@
+pub mod Lines
 pub mod Judged
 pub mod Held
 pub mod Begun

@@ -2,14 +2,14 @@
 ghost use Rattle.std.specs.Prelude.{◌≡◌, ◌<◌, true, length, IfOk};
 ghost use Rattle.std.specs.List.{list_all};
 ghost use Rattle.image_laws.specs.Images.{is_plain};
-ghost use Rattle.image_lines.specs.Lines.{IsReadPath};
+ghost use Rattle.pps_persist.specs.Lines.{IsReadPath};
 ghost use Rattle.pps_persist.specs.Held.{IsLoaded, IsLoadedObject, AddsDirectory, AddsObject, AddsLine};
 ghost use Rattle.pps_persist.specs.Judged.{judged};
 
 use crate::errors::Fault;
 use crate::place::{Loaded, Object};
-use image_entries::path_order;
-use image_lines::read_attribute;
+use crate::reading::read_attribute;
+use pps_engine::path_order;
 use pps_types::{Bytes, Refusal};
 use std::alloc::{AllocError, Global};
 

@@ -1,4 +1,4 @@
-//! Images of the service: loaded and saved, exactly.
+//! Images of the service: loaded and saved, exactly; and the lines of images, what each says and how it is printed.
 #![tactic(auto)]
 
 mod again;
@@ -6,12 +6,17 @@ mod entries;
 mod errors;
 mod lines;
 mod loading;
+mod number;
 mod output;
 mod pieces;
 mod place;
+mod printing;
+mod reading;
 mod saving;
 
 pub use again::loaded_is_saved_alike;
 pub use errors::{LoadError, SaveError};
 pub use loading::load;
+pub use printing::{push_attribute, push_beginning, push_directory, push_end, push_object};
+pub use reading::{Beginning, EntryLine, read_attribute, read_beginning, read_entry_line};
 pub use saving::save;

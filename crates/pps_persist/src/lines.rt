@@ -8,7 +8,7 @@ ghost use Rattle.pps_persist.specs.Held.{IsAt, IsPlace, IsWithin, Takes};
 use crate::entries::{take_attribute, take_directory, take_object};
 use crate::errors::Fault;
 use crate::place::{Loaded, Object, Place};
-use image_lines::{EntryLine, read_beginning, read_entry_line};
+use crate::reading::{EntryLine, read_beginning, read_entry_line};
 use pps_engine::Engine;
 use std::alloc::Global;
 

@@ -8,8 +8,8 @@ use crate::errors::{Fault, LoadError};
 use crate::lines::take_line;
 use crate::place::Place;
 use pps_engine::Engine;
+use pps_types::split_at_first;
 use std::alloc::Global;
-use text_parts::split_at_first;
 
 /// So many bytes without a line feed begin no line of an image.
 const LINE_MAX: usize = 65_536;

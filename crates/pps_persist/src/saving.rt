@@ -6,7 +6,7 @@ ghost use Rattle.pps_persist.specs.Sent.{Prints, PrintsOn, Saves, WriteFaultIs};
 
 use crate::errors::SaveError;
 use crate::output::Output;
-use image_lines::{push_attribute, push_beginning, push_directory, push_end, push_object};
+use crate::printing::{push_attribute, push_beginning, push_directory, push_end, push_object};
 use pps_engine::{Engine, SavedEntry};
 use pps_types::Device;
 use std::alloc::{AllocError, Global};

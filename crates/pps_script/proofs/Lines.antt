@@ -15,11 +15,11 @@ use Rattle.pps_types.specs.declared.exchange.AnswerFault.TheVariants as answers
 use Rattle.pps_types.specs.Exchange.{Answers}
 use Rattle.pps_types.specs.Runs.{Answered, events_of}
 use Rattle.pps_types.specs.Stands.{StepsSeen, RunsSeen}
-use Rattle.pps_types.proofs.RunJoins.{runs-append}
+use Rattle.service_laws.proofs.RunJoins.{runs-append}
 use Rattle.pps_types.proofs.Writing.{holds-then, holds-part, holds-same, part-more}
-use Rattle.script_lines.specs.Script.{line_of}
-use Rattle.script_lines.specs.declared.line.ScriptLine.{ScriptLine}
-use Rattle.script_lines.specs.declared.line.ScriptLine.TheVariants.{Nothing, Command}
+use Rattle.pps_script.specs.ScriptLines.{line_of}
+use Rattle.pps_script.specs.declared.script_line.ScriptLine.{ScriptLine}
+use Rattle.pps_script.specs.declared.script_line.ScriptLine.TheVariants.{Nothing, Command}
 use Rattle.pps_script.specs.declared.fault.ScriptFault.{ScriptFault}
 use Rattle.pps_script.specs.declared.fault.ScriptFault.TheVariants.{BadLine, OutOfMemory, ReadFault, WriteFault}
 use Rattle.pps_script.specs.Faults.{of_answer}

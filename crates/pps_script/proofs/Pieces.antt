@@ -5,7 +5,7 @@ use Rattle.pps_types.specs.Bytes.{split_at_first, pieces, onto_first}
 use Rattle.std.specs.Io.KnownBytes.{Consumes, IsAtEnd, ReadConsumes}
 use Rattle.pps_types.specs.Text.{without_empty_end}
 use Rattle.memchr.specs.Find.{IsFirstByte, is_byte}
-use Rattle.text_parts.proofs.Cuts.{split_at_first-is}
+use Rattle.pps_types.proofs.Cuts.{split_at_first-is}
 
 pub no-first : {X Y : Type 0} (f : X → Y) (o : Option X) → option_map f o ≡ None → o ≡ None
 no-first f None e = refl

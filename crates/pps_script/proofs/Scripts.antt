@@ -2,9 +2,9 @@
 use Rattle.std.proofs.Common.{◌≡◌, ◌+◌, ℕ, suc, length, List, [], ◌∷◌, ◌++◌, Option, Some, None, append-nil, refl, sym, ap, ◌∙◌, arith}
 use Rattle.std.specs.Prelude.{option_map}
 use Rattle.pps_types.specs.declared.event.Event.{Event}
-use Rattle.script_lines.specs.Script.{line_of}
-use Rattle.script_lines.specs.declared.line.ScriptLine.{ScriptLine}
-use Rattle.script_lines.specs.declared.line.ScriptLine.TheVariants.{Nothing, Command}
+use Rattle.pps_script.specs.ScriptLines.{line_of}
+use Rattle.pps_script.specs.declared.script_line.ScriptLine.{ScriptLine}
+use Rattle.pps_script.specs.declared.script_line.ScriptLine.TheVariants.{Nothing, Command}
 use Rattle.pps_script.specs.Script.{Script, script, with_line}
 use Rattle.pps_script.proofs.Pieces.{no-first}
 

@@ -11,7 +11,7 @@ use Rattle.pps_types.specs.Device.{last_count, counted_once_more}
 use Rattle.pps_types.specs.Writing.{SendsPart, Holds}
 use Rattle.pps_types.proofs.KnownBytes.{Appends-none, Consumes-none, Consumes-then, Consumes-same, keeps_itself}
 use Rattle.pps_types.proofs.Writing.{holds-part, holds-sent}
-use Rattle.text_parts.proofs.Cuts.{pieces-first, pieces-one}
+use Rattle.pps_types.proofs.Cuts.{pieces-first, pieces-one}
 use Rattle.pps_script.specs.declared.fault.ScriptFault.{ScriptFault}
 use Rattle.pps_script.specs.declared.fault.ScriptFault.TheVariants.{BadLine, OutOfMemory, ReadFault, WriteFault}
 use Rattle.pps_script.specs.Script.{script, whole_lines, answers_of}

@@ -1,3 +1,9 @@
+pub mod Answer
+pub mod Escapes
+pub mod Laws
+pub mod ScriptLines
+pub mod ShownLines
+pub mod Spelled
 pub mod Script
 pub mod Faults
 pub mod Served

@@ -9,11 +9,11 @@ use Rattle.pps_types.specs.Outcome.{Reply}
 use Rattle.pps_types.specs.Bytes.{pieces}
 use Rattle.pps_types.specs.Text.{lines_of}
 use Rattle.pps_types.specs.Runs.{Answered}
-use Rattle.script_lines.specs.Script.{line_of}
-use Rattle.script_lines.specs.declared.line.ScriptLine.{ScriptLine}
-use Rattle.script_lines.specs.declared.line.ScriptLine.TheVariants.{Nothing, Command}
-use Rattle.script_lines.specs.Answer.{answer_line}
-use Rattle.script_lines.specs.ShownLines.{shown_lines}
+use Rattle.pps_script.specs.ScriptLines.{line_of}
+use Rattle.pps_script.specs.declared.script_line.ScriptLine.{ScriptLine}
+use Rattle.pps_script.specs.declared.script_line.ScriptLine.TheVariants.{Nothing, Command}
+use Rattle.pps_script.specs.Answer.{answer_line}
+use Rattle.pps_script.specs.ShownLines.{shown_lines}
 
 -- ---- what is asked for
 

@@ -1,13 +1,15 @@
 //! One line of a script, served.
 ghost use Rattle.std.specs.Prelude.{◌≡◌, ◌++◌, IfErr, OnOk};
-ghost use Rattle.script_lines.specs.Script.{line_of};
+ghost use Rattle.pps_script.specs.ScriptLines.{line_of};
 ghost use Rattle.pps_script.specs.Script.{shown_for, printed};
 ghost use Rattle.pps_script.specs.Lines.{ServesLine, FailsLine};
 ghost use Rattle.pps_script.specs.declared.line.LineFault.TheVariants.{OutOfMemory};
 
+use crate::answer::print_answer;
+use crate::script_line::{ScriptLine, read_line};
+use crate::shown::print_shown;
 use pps_engine::Engine;
 use pps_types::{Event, Outcome, Refusal, Request};
-use script_lines::{ScriptLine, print_answer, print_shown, read_line};
 use std::alloc::{AllocError, Global};
 
 /// Why a line is not served.

@@ -26,7 +26,7 @@ pub record Directory : Type 0 where
   pub path : Path
 
 -- an alive object
-pub record Known : Type 0 where
+pub record LiveObject : Type 0 where
   pub object : Object
   pub attributes : List Attribute
 
@@ -40,7 +40,7 @@ pub record Connection : Type 0 where
 pub record Content : Type 0 where
   pub default_limit : ℕ
   pub records : ℕ
-  pub objects : List Known
+  pub objects : List LiveObject
   pub next_object : ℕ
   pub directories : List Directory
   pub next_directory : ℕ
@@ -50,7 +50,7 @@ pub record Content : Type 0 where
 
 -- ---- names
 
-abbrev pub object_numbered : Content → ℕ → Option Known
+abbrev pub object_numbered : Content → ℕ → Option LiveObject
 object_numbered c number = find (λ o. o.object.number == number) c.objects
 
 abbrev pub directory_at : Content → Path → Option Directory
@@ -60,11 +60,11 @@ directory_at c path = find (λ d. same_path d.path path) c.directories
 abbrev pub parent_number : Content → Path → Option ℕ
 parent_number c path = option_map (λ d. d.number) (directory_at c (parent path))
 
-abbrev pub object_in : Content → Name → ℕ → Option Known
+abbrev pub object_in : Content → Name → ℕ → Option LiveObject
 object_in c name directory = find (λ o. (o.object.directory == directory) && same o.object.name name) c.objects
 
 -- the alive object of a path
-abbrev pub object_at : Content → Path → Option Known
+abbrev pub object_at : Content → Path → Option LiveObject
 object_at c [] = None
 object_at c (n ∷ ns) = option_and_then (object_in c (last_name (n ∷ ns))) (parent_number c (n ∷ ns))
 
@@ -73,7 +73,7 @@ abbrev pub at : Content → Path → Option Found
 at c path = option_or (option_map (λ d. FoundDirectory d.number) (directory_at c path)) (option_map (λ o. FoundObject o.object.number) (object_at c path))
 
 -- the alive objects directly in a directory, in byte order of names
-abbrev pub members : Content → ℕ → List Known
+abbrev pub members : Content → ℕ → List LiveObject
 members c directory = sorted_by name_cmp (λ o. o.object.name) (filter (λ o. o.object.directory == directory) c.objects)
 
 -- the directories directly in one
@@ -103,7 +103,7 @@ has_directory_handle c directory = is_some (find (λ h. is_directory_kind h.kind
 abbrev pub attributes_of : Content → ℕ → List Attribute
 attributes_of c number = option_map_or (λ o. o.attributes) (object_numbered c number) []
 
-abbrev pub member : Known → Member
+abbrev pub member : LiveObject → Member
 member o = record { name = o.object.name; lines = map line_of o.attributes }
 
 -- an object is its own one member, a dead one too

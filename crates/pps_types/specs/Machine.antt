@@ -12,10 +12,10 @@ use Rattle.pps_types.specs.History.{Entry, state, is_alive}
 use Rattle.pps_types.specs.Reading.{Open, reseen, Style, Queue, style, visible}
 use Rattle.pps_types.specs.Rests.{Seen, Owed, seen_with, behind}
 use Rattle.pps_types.specs.Outbox.{behind_first}
-use Rattle.pps_types.specs.Content.{Object, Directory, Known, Connection, Content}
+use Rattle.pps_types.specs.Content.{Object, Directory, LiveObject, Connection, Content}
 use Rattle.pps_types.specs.Checks.{checks}
 use Rattle.pps_types.specs.WellFormed.{IsContent, server_of}
-use Rattle.pps_types.specs.Plan.{Move, Attaches, Leaves, Creates, Happens, Opens, Closes, CatchesUp, Passes, Parks, Arms, Queues, Takes, MakesDirectory, RemovesDirectory, without_first, on_numbered, without_number, on_connection, with_connection, without_connection, creation, apply_seen, plan, effect, settling, step_seen}
+use Rattle.pps_types.specs.Plan.{Move, Attaches, Leaves, Creates, AppendsRecord, Opens, Closes, CatchesUp, Advances, Parks, Arms, Queues, Takes, MakesDirectory, RemovesDirectory, without_first, on_numbered, without_number, on_connection, with_connection, without_connection, creation, apply_seen, plan, effect, settling, step_seen}
 
 -- A handle has its cursor, a place in the history, from its first read on; a server's or client's from its opening on.
 pub record Machine : Type 0 where
@@ -44,14 +44,14 @@ start first_handle default_limit = record {
 -- ---- what stands
 
 -- an object, where it is alive
-abbrev pub known : List Entry → Object → Option Known
+abbrev pub known : List Entry → Object → Option LiveObject
 known history o = if is_alive o.number history then Some (record { object = o; attributes = state o.number history }) else None
 
 abbrev pub shown_handle : List Entry → Open (Option ℕ) → Open Seen
 shown_handle history = reseen (λ h. seen_with h history h.seen)
 
-abbrev pub shown : Machine → Content
-shown m = record {
+abbrev pub content_of : Machine → Content
+content_of m = record {
   default_limit = m.default_limit;
   records = length m.history;
   objects = filter_map (known m.history) m.objects;
@@ -82,11 +82,11 @@ abbrev pub apply : Move → Machine → Machine
 apply (Attaches conn) m = record m { connections = with_connection conn m.connections }
 apply (Leaves conn) m = record m { connections = without_connection conn m.connections }
 apply (Creates o) m = record m { objects = m.objects ++ o ∷ []; history = m.history ++ creation o ∷ [] }
-apply (Happens e) m = record m { history = m.history ++ e ∷ [] }
+apply (AppendsRecord e) m = record m { history = m.history ++ e ∷ [] }
 apply (Opens h) m = record m { handles = m.handles ++ reseen (λ h. first_cursor (style h.kind) (length m.history)) h ∷ []; next_handle = m.next_handle + 1 }
 apply (Closes number) m = record m { handles = without_number number m.handles }
 apply (CatchesUp number) m = record m { handles = on_numbered number (reseen (λ h. Some (length m.history))) m.handles }
-apply (Passes number count) m = record m { handles = on_numbered number (reseen (λ h. passed h m.history count h.seen)) m.handles }
+apply (Advances number count) m = record m { handles = on_numbered number (reseen (λ h. passed h m.history count h.seen)) m.handles }
 apply (Parks number size) m = record m { handles = on_numbered number (λ h. record h { parked = size }) m.handles }
 apply (Arms number pulse) m = record m { handles = on_numbered number (λ h. record h { armed = pulse }) m.handles }
 apply (Queues conn item) m = record m { connections = on_connection conn (λ items. items ++ item ∷ []) m.connections }
@@ -103,7 +103,7 @@ apply_all (x ∷ xs) m = apply_all xs (apply x m)
 
 -- the plan is read off what stands
 unfoldable pub step : Machine → Event → Reply × Machine
-step m e = ((plan (shown m) e).0, apply_all (plan (shown m) e).1 m)
+step m e = ((plan (content_of m) e).0, apply_all (plan (content_of m) e).1 m)
 
 -- a marked event wants memory, and changes nothing
 abbrev pub marked_step : Machine → Event → Bool → Reply × Machine
@@ -149,7 +149,7 @@ pub record IsMachine (m : Machine) : Type 0 where
   pub recorded : AllByRecursion (IsRecorded m.objects) m.history
   pub within : AllByRecursion (λ h. IsWithin (length m.history) h.seen) m.handles
   pub targets : AllByRecursion (λ h. is_for h.kind (server_made m h.target) ≡ true) m.handles
-  pub standing : IsContent (shown m)
+  pub standing : IsContent (content_of m)
 
 -- All of it but that what stands is well formed, which does not hold between the moves of one event.
 pub record IsMade (m : Machine) : Type 0 where
@@ -167,7 +167,7 @@ is_creation _ = false
 -- a new object has the next number, and what happens to one is not that it is created
 abbrev pub IsLawful : ℕ → Move → Type 0
 IsLawful next (Creates o) = o.number ≡ next
-IsLawful next (Happens e) = is_creation e.record_of.kind ≡ false
+IsLawful next (AppendsRecord e) = is_creation e.record_of.kind ≡ false
 IsLawful next _ = Unit {0}
 
 abbrev pub next_after : ℕ → Move → ℕ
@@ -179,8 +179,8 @@ AreLawful next [] = Unit {0}
 AreLawful next (x ∷ xs) = IsLawful next x × AreLawful (next_after next x) xs
 
 -- the record is of an object that is alive, under its directory and its name
-pub record IsOfAlive (objects : List Known) (e : Entry) : Type 0 where
-  pub object : Known
+pub record IsOfAlive (objects : List LiveObject) (e : Entry) : Type 0 where
+  pub object : LiveObject
   pub found : find (λ o. o.object.number == e.record_of.object) objects ≡ Some object
   pub in_directory : e.directory ≡ object.object.directory
   pub under_name : e.name ≡ object.object.name
@@ -188,7 +188,7 @@ pub record IsOfAlive (objects : List Known) (e : Entry) : Type 0 where
 -- a handle opens on an object that is alive, for its kind, and only what is alive has records
 abbrev pub IsAlive : Content → Move → Type 0
 IsAlive c (Opens h) = is_for h.kind (server_of c h.target) ≡ true
-IsAlive c (Happens e) = IsOfAlive c.objects e
+IsAlive c (AppendsRecord e) = IsOfAlive c.objects e
 IsAlive c x = Unit {0}
 
 -- each where those before it took effect

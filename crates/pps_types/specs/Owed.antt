@@ -11,8 +11,8 @@ use Rattle.pps_types.specs.History.{Entry, line_of}
 use Rattle.pps_types.specs.declared.handle_kind.HandleKind.TheVariants.{Object as ObjectHandle, Names as NamesHandle}
 use Rattle.pps_types.specs.Reading.{Open, style, is_full_style, is_delta_style, is_directory_kind, visible, is_chained, block, Member, everything_of, Answer, whole_answer, owed_answer}
 use Rattle.pps_types.specs.Rests.{Seen, Owed}
-use Rattle.pps_types.specs.Content.{Known, Content, at, member, handle_numbered}
-use Rattle.pps_types.specs.Machine.{Machine, known, shown}
+use Rattle.pps_types.specs.Content.{LiveObject, Content, at, member, handle_numbered}
+use Rattle.pps_types.specs.Machine.{Machine, known, content_of}
 
 -- ---- owed, over, news
 
@@ -32,11 +32,11 @@ has_news h history cursor = h.reads && (is_none cursor || not (is_empty (owed h 
 -- ---- everything
 
 -- the alive objects directly in a directory, in byte order of names
-abbrev pub alive_members : Machine → ℕ → List Known
+abbrev pub alive_members : Machine → ℕ → List LiveObject
 alive_members m directory = sorted_by name_cmp (λ o. o.object.name) (filter_map (known m.history) (filter (λ o. o.directory == directory) m.objects))
 
 -- the object of that number, where it is alive
-abbrev pub alive_object : Machine → ℕ → Option Known
+abbrev pub alive_object : Machine → ℕ → Option LiveObject
 alive_object m number = option_and_then (known m.history) (find (λ o. o.number == number) m.objects)
 
 abbrev pub is_dead : {S : Type 0} → Machine → Open S → Bool
@@ -135,7 +135,7 @@ kept_at count (FoundDirectory number) = count true number
 
 -- of what a path names, if anything
 abbrev pub kept : Machine → Path → Option ℕ
-kept m path = option_map (kept_at (kept_of m)) (at (shown m) path)
+kept m path = option_map (kept_at (kept_of m)) (at (content_of m) path)
 
 -- ---- the same, of what stands
 

@@ -27,23 +27,23 @@ use Rattle.pps_types.specs.declared.handle_kind.HandleKind.TheVariants.{Object a
 use Rattle.pps_types.specs.Reading.{Open, reseen, style, Style, Queue, visible, Answer, Everything, Blocks, Needs, Waits}
 use Rattle.pps_types.specs.Rests.{Seen, News, Unread, Over, Owed, pushed, past, from_first, unread, seen_of, keeps}
 use Rattle.pps_types.specs.Outbox.{arms, first_of, behind_first, put_rising}
-use Rattle.pps_types.specs.Content.{Object, Directory, Known, Connection, Content, attributes_of, object_numbered, directory_at, object_at, parent_number, members, subdirectories, handle_numbered, own_handle, handles_of, news, read_answer, queue_of}
+use Rattle.pps_types.specs.Content.{Object, Directory, LiveObject, Connection, Content, attributes_of, object_numbered, directory_at, object_at, parent_number, members, subdirectories, handle_numbered, own_handle, handles_of, news, read_answer, queue_of}
 use Rattle.pps_types.specs.Checks.{first_refusal, reaches_memory, Check, Refuse, checks, addressee, Addressee, OneClient}
 
 -- ---- moves
 
--- Creates: an object, with its record. Happens: any other record. CatchesUp: the handle has read everything.
--- Passes: it has been given so many of the records that it is owed. Parks: its read of that size, or none any more.
+-- Creates: an object, with its record. AppendsRecord: any other record. CatchesUp: the handle has read everything.
+-- Advances: it has been given so many of the records that it is owed. Parks: its read of that size, or none any more.
 -- Arms: its pulse, or none any more. Queues and Takes: an item of a connection, at the end and at the front.
 pub data Move : Type 0 where
   Attaches : ℕ → Move
   Leaves : ℕ → Move
   Creates : Object → Move
-  Happens : Entry → Move
+  AppendsRecord : Entry → Move
   Opens : Open (Unit {0}) → Move
   Closes : ℕ → Move
   CatchesUp : ℕ → Move
-  Passes : ℕ → ℕ → Move
+  Advances : ℕ → ℕ → Move
   Parks : ℕ → Option ℕ → Move
   Arms : ℕ → Option (ℕ × ℕ) → Move
   Queues : ℕ → Item → Move
@@ -101,12 +101,12 @@ offered h e (Owed rest) = seen_of h (if keeps h e then pushed (visible h) e rest
 abbrev pub offer : Entry → Open Seen → Open Seen
 offer e = reseen (λ h. offered h e h.seen)
 
-abbrev pub still_known : Known → Kind → Option Known
+abbrev pub still_known : LiveObject → Kind → Option LiveObject
 still_known o Deleted = None
 still_known o kind = Some (record o { attributes = after_kind o.attributes kind })
 
 -- an object after a record, its own or another's
-abbrev pub touched : Entry → Known → Option Known
+abbrev pub touched : Entry → LiveObject → Option LiveObject
 touched e o = if e.record_of.object == o.object.number then still_known o e.record_of.kind else Some o
 
 abbrev pub caught_up : {S : Type 0} → Open S → Seen
@@ -125,11 +125,11 @@ abbrev pub apply_seen : Move → Content → Content
 apply_seen (Attaches conn) c = record c { connections = with_connection conn c.connections }
 apply_seen (Leaves conn) c = record c { connections = without_connection conn c.connections }
 apply_seen (Creates o) c = record c { records = c.records + 1; objects = c.objects ++ record { object = o; attributes = [] } ∷ []; next_object = c.next_object + 1; handles = map (offer (creation o)) c.handles }
-apply_seen (Happens e) c = record c { records = c.records + 1; objects = filter_map (touched e) c.objects; handles = map (offer e) c.handles }
+apply_seen (AppendsRecord e) c = record c { records = c.records + 1; objects = filter_map (touched e) c.objects; handles = map (offer e) c.handles }
 apply_seen (Opens h) c = record c { handles = c.handles ++ reseen (λ h. first_seen h (style h.kind)) h ∷ []; next_handle = c.next_handle + 1 }
 apply_seen (Closes number) c = record c { handles = without_number number c.handles }
 apply_seen (CatchesUp number) c = record c { handles = on_numbered number (reseen caught_up) c.handles }
-apply_seen (Passes number count) c = record c { handles = on_numbered number (reseen (λ h. left h count h.seen)) c.handles }
+apply_seen (Advances number count) c = record c { handles = on_numbered number (reseen (λ h. left h count h.seen)) c.handles }
 apply_seen (Parks number size) c = record c { handles = on_numbered number (λ h. record h { parked = size }) c.handles }
 apply_seen (Arms number pulse) c = record c { handles = on_numbered number (λ h. record h { armed = pulse }) c.handles }
 apply_seen (Queues conn item) c = record c { connections = on_connection conn (λ items. items ++ item ∷ []) c.connections }
@@ -154,25 +154,25 @@ new_object c spec = record {
 }
 
 -- the object at the path, as the open finds it and leaves it
-abbrev pub preparing : Content → Mode → OpenSpec → Option Known → List Move
+abbrev pub preparing : Content → Mode → OpenSpec → Option LiveObject → List Move
 preparing c mode spec None = if spec.all then [] else Creates (new_object c spec) ∷ []
 preparing c mode spec (Some o) =
-    if spec.server then Happens (entry_of o.object Deleted None) ∷ Creates (new_object c spec) ∷ [] else
-    if is_some o.object.server then Happens (entry_of o.object (Opened c.next_handle) None) ∷ [] else
-    if mode.t then Happens (entry_of o.object Truncated None) ∷ [] else []
+    if spec.server then AppendsRecord (entry_of o.object Deleted None) ∷ Creates (new_object c spec) ∷ [] else
+    if is_some o.object.server then AppendsRecord (entry_of o.object (Opened c.next_handle) None) ∷ [] else
+    if mode.t then AppendsRecord (entry_of o.object Truncated None) ∷ [] else []
 
-abbrev pub kind_opened : OpenSpec → Option Known → HandleKind
+abbrev pub kind_opened : OpenSpec → Option LiveObject → HandleKind
 kind_opened spec found =
     if spec.server then ServerHandle else
     if spec.all then (if spec.deltadir then NamesHandle else DirectoryHandle spec.delta) else
     if option_map_or (λ o. is_some o.object.server) found false then ClientHandle else ObjectHandle spec.delta
 
-abbrev pub target_of : Content → OpenSpec → Option Known → ℕ
+abbrev pub target_of : Content → OpenSpec → Option LiveObject → ℕ
 target_of c spec found =
     if spec.all then option_map_or (λ d. d.number) (directory_at c spec.names) 0 else
     if spec.server then c.next_object else option_map_or (λ o. o.object.number) found c.next_object
 
-abbrev pub new_handle : Content → ℕ → Mode → OpenSpec → Option Known → Open (Unit {0})
+abbrev pub new_handle : Content → ℕ → Mode → OpenSpec → Option LiveObject → Open (Unit {0})
 new_handle c conn mode spec found = record {
   number = c.next_handle;
   connection = conn;
@@ -191,17 +191,17 @@ new_handle c conn mode spec found = record {
   armed = None;
 }
 
-abbrev pub opening : Content → ℕ → Mode → OpenSpec → Option Known → List Move
+abbrev pub opening : Content → ℕ → Mode → OpenSpec → Option LiveObject → List Move
 opening c conn mode spec found = preparing c mode spec found ++ Opens (new_handle c conn mode spec found) ∷ []
 
-abbrev pub found_object : Content → OpenSpec → Option Known
+abbrev pub found_object : Content → OpenSpec → Option LiveObject
 found_object c spec = if spec.all then None else object_at c spec.names
 
 -- ---- Read
 
 abbrev pub read_effect : Open Seen → ℕ → Answer → Outcome × List Move
 read_effect h size (Everything text) = (Data text, CatchesUp h.number ∷ [])
-read_effect h size (Blocks count text) = (Data text, Passes h.number count ∷ [])
+read_effect h size (Blocks count text) = (Data text, Advances h.number count ∷ [])
 read_effect h size Waits = (Parked, Parks h.number (Some size) ∷ [])
 read_effect h size _ = (Data [], [])
 
@@ -218,7 +218,7 @@ written_kind c h _ text = Change (resolve (attributes_of c h.target) text.lines)
 
 -- a record of the target, where it is alive
 abbrev pub on_target : Content → Open Seen → Kind → Option ℕ → List Move
-on_target c h kind writer = option_map_or (λ o. Happens (entry_of o.object kind writer) ∷ []) (object_numbered c h.target) []
+on_target c h kind writer = option_map_or (λ o. AppendsRecord (entry_of o.object kind writer) ∷ []) (object_numbered c h.target) []
 
 abbrev pub writing : Content → Open Seen → WriteText → List Move
 writing c h text = if is_empty text.lines then [] else on_target c h (written_kind c h h.kind text) (Some h.number)
@@ -242,8 +242,8 @@ closings c (h ∷ hs) = closing c h ++ closings (apply_all_seen (closing c h) c)
 
 -- ---- paths
 
-abbrev pub unlinking : Option Known → Option Directory → List Move
-unlinking (Some o) d = Happens (entry_of o.object Deleted None) ∷ []
+abbrev pub unlinking : Option LiveObject → Option Directory → List Move
+unlinking (Some o) d = AppendsRecord (entry_of o.object Deleted None) ∷ []
 unlinking None (Some d) = RemovesDirectory d.number ∷ []
 unlinking None None = []
 
@@ -296,7 +296,7 @@ ended h result = Parks h.number None ∷ Queues h.connection (ReadDone h.number 
 
 abbrev pub late_reply : {S : Type 0} → Open S → Answer → List Move
 late_reply h (Everything text) = CatchesUp h.number ∷ ended h (Ok text)
-late_reply h (Blocks count text) = Passes h.number count ∷ ended h (Ok text)
+late_reply h (Blocks count text) = Advances h.number count ∷ ended h (Ok text)
 late_reply h (Needs need) = ended h (Err (TooSmall need))
 late_reply h _ = []
 

@@ -14,7 +14,7 @@ use Rattle.pps_types.specs.Rests.{Seen}
 use Rattle.pps_types.specs.Content.{Content, handle_numbered}
 use Rattle.pps_types.specs.Checks.{Addressee, OneClient, addressee, meant, is_client, is_server, first_refusal, checks}
 use Rattle.pps_types.specs.Plan.{apply_all_seen, effect}
-use Rattle.pps_types.specs.Machine.{Machine, shown}
+use Rattle.pps_types.specs.Machine.{Machine, content_of}
 use Rattle.pps_types.specs.Runs.{Answered, after_answered}
 
 -- ---- foreign events
@@ -48,7 +48,7 @@ unless test x xs = if test then xs else x ∷ xs
 -- the events of a run that are not foreign to the connection
 abbrev pub shared_events : ℕ → Machine → List Answered → List Event
 shared_events conn m [] = []
-shared_events conn m (x ∷ xs) = unless (is_foreign conn (shown m) x.event) x.event (shared_events conn (after_answered m x) xs)
+shared_events conn m (x ∷ xs) = unless (is_foreign conn (content_of m) x.event) x.event (shared_events conn (after_answered m x) xs)
 
 -- ---- quiet runs
 
@@ -77,8 +77,8 @@ is_quiet_step conn c x = not (is_marked x.reply) && not (is_held_up conn c x) &&
 
 -- the connection never holds a server's handle, and each step is quiet
 abbrev pub is_quiet : ℕ → Machine → List Answered → Bool
-is_quiet conn m [] = not (holds_server conn (shown m))
-is_quiet conn m (x ∷ xs) = not (holds_server conn (shown m)) && is_quiet_step conn (shown m) x && is_quiet conn (after_answered m x) xs
+is_quiet conn m [] = not (holds_server conn (content_of m))
+is_quiet conn m (x ∷ xs) = not (holds_server conn (content_of m)) && is_quiet_step conn (content_of m) x && is_quiet conn (after_answered m x) xs
 
 -- Both runs begin in m, and without the events that are foreign to the connection they are one.
 pub record Agree (conn : ℕ) (m : Machine) (first second : List Answered) : Type 0 where

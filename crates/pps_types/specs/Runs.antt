@@ -6,7 +6,7 @@ use Rattle.pps_types.specs.declared.outcome.Item.{Item}
 use Rattle.pps_types.specs.Outcome.{Reply, is_marked}
 use Rattle.pps_types.specs.Content.{Content}
 use Rattle.pps_types.specs.Plan.{Move, Queues, plan, step_seen, may_lack_memory}
-use Rattle.pps_types.specs.Machine.{Machine, shown, step, marked_step}
+use Rattle.pps_types.specs.Machine.{Machine, content_of, step, marked_step}
 
 -- ---- with all memory
 
@@ -51,7 +51,7 @@ after_answered m x = (marked_step m x.event (is_marked x.reply)).1
 -- the reply is the machine's, and it is marked only where a mark may stand
 pub record IsReply (m : Machine) (e : Event) (reply : Reply) : Type 0 where
   pub replied : reply ≡ (marked_step m e (is_marked reply)).0
-  pub allowed : is_marked reply ≡ true → may_lack_memory (shown m) e ≡ true
+  pub allowed : is_marked reply ≡ true → may_lack_memory (content_of m) e ≡ true
 
 -- one after the other
 abbrev pub IsRun : Machine → List Answered → Type 0
@@ -70,7 +70,7 @@ queued_by conn move = []
 
 -- the items that one event queues for a connection
 abbrev pub items_queued : ℕ → Machine → Answered → List Item
-items_queued conn m x = if is_marked x.reply then [] else flat_map (queued_by conn) (plan (shown m) x.event).1
+items_queued conn m x = if is_marked x.reply then [] else flat_map (queued_by conn) (plan (content_of m) x.event).1
 
 -- all items that a run queues for a connection, in order
 abbrev pub queued_in : ℕ → Machine → List Answered → List Item

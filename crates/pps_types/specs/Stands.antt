@@ -5,12 +5,12 @@ use Rattle.pps_types.specs.declared.refusal.Refusal.TheVariants.{OutOfMemory}
 use Rattle.pps_types.specs.Outcome.{Reply, is_marked}
 use Rattle.pps_types.specs.Content.{Content}
 use Rattle.pps_types.specs.Plan.{step_seen, may_lack_memory}
-use Rattle.pps_types.specs.Machine.{Machine, IsMachine, shown, marked_step}
+use Rattle.pps_types.specs.Machine.{Machine, IsMachine, content_of, marked_step}
 use Rattle.pps_types.specs.Runs.{Answered, IsReply, IsRun, end_of}
 
 pub record Stands (c : Content) (m : Machine) : Type 0 where
   pub made : IsMachine m
-  pub same : c ≡ shown m
+  pub same : c ≡ content_of m
 
 -- ---- one event
 

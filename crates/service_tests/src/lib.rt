@@ -1,5 +1,5 @@
 //! Tests of the service: the engine's calls, how much it keeps and owes, full directories, refused requests for memory,
-//! streams of frames, what images restore and save, and books.
+//! streams of frames, what images restore and save, books, and workers with the sessions that they serve.
 #![tactic(auto)]
 
 #[cfg(test)]
@@ -8,6 +8,10 @@ mod books;
 mod calls;
 #[cfg(test)]
 mod frames;
+#[cfg(test)]
+mod gates;
+#[cfg(test)]
+mod histories;
 #[cfg(test)]
 mod images;
 #[cfg(test)]
@@ -18,3 +22,5 @@ mod private;
 mod refusals;
 #[cfg(test)]
 mod scripts;
+#[cfg(test)]
+mod sessions;

@@ -15,7 +15,7 @@ use Rattle.pps_types.specs.Reading.{Open}
 use Rattle.pps_types.specs.History.{Attribute}
 use Rattle.pps_types.specs.Content.{Object, Content, queue_of}
 use Rattle.pps_types.specs.Plan.{creation, step_seen}
-use Rattle.pps_types.specs.Machine.{Machine, start, shown}
+use Rattle.pps_types.specs.Machine.{Machine, start, content_of}
 use Rattle.pps_types.specs.Runs.{replies, after}
 use Rattle.worked_rows.specs.Scripts.Words.{◌asks◌}
 
@@ -42,7 +42,7 @@ LastHandle =
 
 -- connection 1 has written the object of handle 1; so many records have been made
 abbrev pub with_records : ℕ → Content
-with_records n = record (shown (after (start 1 256) (1 asks Attach ∷ 1 asks OpenRequest creating (codes "/a") ∷ []))) { records = n }
+with_records n = record (content_of (after (start 1 256) (1 asks Attach ∷ 1 asks OpenRequest creating (codes "/a") ∷ []))) { records = n }
 
 abbrev pub LastRecord : Type 0
 LastRecord =
@@ -62,7 +62,7 @@ attribute n = record { name = letters n; enc = []; value = []; n = false }
 
 -- connection 1 has the object of handle 1, which has so many attributes
 abbrev pub with_attributes : ℕ → Content
-with_attributes n = record (shown (after (start 1 256) (1 asks Attach ∷ 1 asks OpenRequest creating (codes "/a") ∷ []))) {
+with_attributes n = record (content_of (after (start 1 256) (1 asks Attach ∷ 1 asks OpenRequest creating (codes "/a") ∷ []))) {
   objects = record { object = record { number = 0; directory = 0; name = codes "a"; nopersist = false; server = None }; attributes = map attribute (counted 0 n) } ∷ [];
 }
 
@@ -167,4 +167,4 @@ FullOutbox =
     × (reply_at (with_armed 1024) (arming 1025) ≡ Ok (Input false) ∷ [])
     × (replies (with_queued 1021) (arming 4 ∷ arming 5 ∷ arming 4 ∷ []) ≡ Ok (Input false) ∷ Err OutboxFull ∷ Ok (Input false) ∷ [])
     × (replies (with_queued 1021) (2 asks Read 4 99 ∷ 2 asks Read 5 99 ∷ arming 2 ∷ []) ≡ Ok Parked ∷ Err OutboxFull ∷ Ok (Input false) ∷ [])
-    × (queue_of (shown (after (with_armed 1024) (1 asks Write 1 (codes "a::1\n") ∷ []))) 2 ≡ map pulse (counted 2 1024))
+    × (queue_of (content_of (after (with_armed 1024) (1 asks Write 1 (codes "a::1\n") ∷ []))) 2 ≡ map pulse (counted 2 1024))

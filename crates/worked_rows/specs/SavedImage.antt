@@ -7,7 +7,7 @@ use Rattle.pps_types.specs.declared.event.Event.{Event}
 use Rattle.pps_types.specs.declared.outcome.Outcome.TheVariants.{Done, Opened, Data}
 use Rattle.pps_types.specs.declared.refusal.Refusal.TheVariants.{NotFound}
 use Rattle.pps_types.specs.Outcome.{Reply}
-use Rattle.pps_types.specs.Machine.{Machine, start, shown}
+use Rattle.pps_types.specs.Machine.{Machine, start, content_of}
 use Rattle.pps_types.specs.Runs.{replies, after}
 use Rattle.pps_types.specs.Image.{image, read_image, started}
 
@@ -49,11 +49,11 @@ abbrev pub empty_image : List ℕ
 empty_image = line (codes "PPSIMAGE 2 256") ++ line (codes "E 0")
 
 pub record ImagesAreSaved : Type 0 where
-  pub image_of : image (shown made) ≡ image_saved
+  pub image_of : image (content_of made) ≡ image_saved
   pub bytes : length image_saved ≡ 33
-  pub beside : image (shown made_beside) ≡ image_beside
+  pub beside : image (content_of made_beside) ≡ image_beside
   pub bytes_beside : length image_beside ≡ 38
-  pub empty : image (shown (start 1 256)) ≡ empty_image
+  pub empty : image (content_of (start 1 256)) ≡ empty_image
   pub bytes_empty : length empty_image ≡ 19
 
 -- ---- started again
@@ -84,5 +84,5 @@ pub record ImagesAreStarted : Type 0 where
   pub older : answers older_image asks ≡ Some told
   pub bytes_older : length older_image ≡ 29
   pub beside : answers image_beside lists ≡ Some (Ok Done ∷ Ok (Data (line (codes "d/") ++ line (codes "gps"))) ∷ [])
-  pub again : option_map (λ i. image (shown (started i))) (result_ok (read_image image_beside)) ≡ Some image_beside
+  pub again : option_map (λ i. image (content_of (started i))) (result_ok (read_image image_beside)) ≡ Some image_beside
   pub limit : option_map (λ i. i.default_limit) (result_ok (read_image (line (codes "PPSIMAGE 2 7") ++ line (codes "E 0")))) ≡ Some 7

@@ -1,5 +1,5 @@
 use Rattle.std.proofs.lemmas.List.{take_rest}
-use Rattle.text_parts.proofs.Cuts.{split_at_first-is}
+use Rattle.pps_types.proofs.Cuts.{split_at_first-is}
 use Rattle.attr_text.proofs.parts.split_at_colon.Goals as goal
 
 pub returns-in_err-at : goal.returns-in_err-at

@@ -1,5 +1,5 @@
 use Rattle.std.proofs.Common.{sym}
-use Rattle.notify_box.proofs.Edits.{find_place, find_gap}
+use Rattle.pps_types.proofs.RisingEdits.{find_place, find_gap}
 use Rattle.engine_servers.specs.Holders.{number_in}
 use Rattle.engine_servers.proofs.holder.find_holder.Goals as goal
 

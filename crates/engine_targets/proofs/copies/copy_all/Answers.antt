@@ -1,6 +1,6 @@
 use Rattle.std.proofs.Common.{◌<◌, ◌++◌, ◌∙◌, subst, sym, ap}
 use Rattle.std.specs.List.{AllByRecursion}
-use Rattle.notify_box.specs.Rising.{IsRising}
+use Rattle.pps_types.specs.Rising.{IsRising}
 use Rattle.engine_targets.specs.Readers.{Reader}
 use Rattle.engine_targets.specs.Rows.{number_in, rows_in, rows_of}
 use Rattle.engine_targets.proofs.Copying.{rising-before}

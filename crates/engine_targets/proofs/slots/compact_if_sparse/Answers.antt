@@ -1,5 +1,5 @@
 use Rattle.std.proofs.Common.{◌∙◌, length, ap, subst, sym, arith}
-use Rattle.notify_box.specs.Rising.{IsRising}
+use Rattle.pps_types.specs.Rising.{IsRising}
 use Rattle.engine_targets.specs.Rows.{number_at, rows_in, EndsInRow}
 use Rattle.engine_targets.proofs.Gaps.{rows_few, rows_filter, rising_filter, ends_filter, length_filter}
 use Rattle.engine_targets.proofs.slots.compact_if_sparse.Goals as goal

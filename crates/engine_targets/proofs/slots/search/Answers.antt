@@ -1,6 +1,6 @@
 use Rattle.std.proofs.Common.{rules}
 use Rattle.std.proofs.lemmas.List.Sorted.{answers_always}
-use Rattle.notify_box.proofs.Places.{searched}
+use Rattle.pps_types.proofs.RisingPlaces.{searched}
 use Rattle.engine_targets.specs.Rows.{number_at}
 use Rattle.engine_targets.proofs.slots.search.Goals as goal
 

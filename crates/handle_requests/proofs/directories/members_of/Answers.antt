@@ -3,7 +3,7 @@ use Rattle.std.specs.Prelude.{option_map}
 use Rattle.std.specs.Option.{option_copied}
 use Rattle.std.specs.List.{filter_map}
 use Rattle.pps_types.specs.Content.{member}
-use Rattle.engine_names.specs.Standing.{known_of}
+use Rattle.name_table.specs.Standing.{known_of}
 use Rattle.handle_requests.proofs.Parts.{member_some, member_none}
 use Rattle.handle_requests.proofs.directories.members_of.Goals.{in-Some+in_ok-push, in_default}
 use Rattle.handle_requests.proofs.directories.members_of.Goals as goal

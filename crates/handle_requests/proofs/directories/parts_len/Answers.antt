@@ -1,7 +1,7 @@
 use Rattle.std.proofs.Common.{Some, ap, ◌∙◌, arith}
 use Rattle.std.specs.Prelude.{option_map}
 use Rattle.std.specs.Option.{option_copied}
-use Rattle.engine_names.specs.Standing.{known_of}
+use Rattle.name_table.specs.Standing.{known_of}
 use Rattle.handle_requests.proofs.Parts.{part_some, part_none}
 use Rattle.handle_requests.proofs.directories.parts_len.Goals.{in-Some+in_ok-len+in_ok-total, in_default}
 use Rattle.handle_requests.proofs.directories.parts_len.Goals as goal

@@ -4,7 +4,7 @@ use Rattle.std.proofs.lemmas.Result.{err_from_is_err_and}
 use Rattle.pps_types.specs.declared.refusal.Refusal.TheVariants.{OutOfMemory}
 use Rattle.handle_requests.proofs.Noticed.{notice_told, quiet_passes, armed_passes, armed_fails}
 use Rattle.handle_requests.proofs.notices.notify.Goals.{then-is_some+in_ok-arm_ready, else-is_some}
-use Rattle.engine_tables.specs.Tables.{content_in}
+use Rattle.service_state.specs.Tables.{content_in}
 use Rattle.handle_requests.proofs.notices.notify.Goals as goal
 
 pub returns-in_err-arm_ready-clause-err : goal.returns-in_err-arm_ready-clause-err

@@ -1,6 +1,6 @@
 use Rattle.std.proofs.Common.{◌∙◌, ap}
 use Rattle.pps_types.specs.Outbox.{first_of}
-use Rattle.engine_connections.specs.Standing.{RoomedConnections, standing_in, outbox_of}
+use Rattle.notify_box.specs.Standing.{RoomedConnections, standing_in, outbox_of}
 use Rattle.handle_requests.proofs.Queues.{queue_found}
 use Rattle.handle_requests.proofs.outboxes.first_item.Goals as goal
 

@@ -2,7 +2,7 @@ use Rattle.std.proofs.Common.{◌∙◌, ap, sym}
 use Rattle.std.specs.Option.{option_copied}
 use Rattle.pps_types.specs.declared.outcome.Outcome.TheVariants.{Item as ItemOutcome}
 use Rattle.pps_types.specs.Plan.{received}
-use Rattle.engine_tables.specs.Tables.{content_in}
+use Rattle.service_state.specs.Tables.{content_in}
 use Rattle.handle_requests.proofs.Queues.{received_is}
 use Rattle.handle_requests.proofs.outboxes.receive.Goals as goal
 

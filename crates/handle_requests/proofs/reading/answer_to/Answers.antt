@@ -1,4 +1,4 @@
-use Rattle.engine_tables.specs.Tables.{content_in}
+use Rattle.service_state.specs.Tables.{content_in}
 use Rattle.handle_requests.specs.Own.{opened_as}
 use Rattle.handle_requests.proofs.Asked.{short_told, result_fails, result_answered}
 use Rattle.handle_requests.proofs.reading.answer_to.Goals as goal

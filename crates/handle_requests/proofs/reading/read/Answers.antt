@@ -2,9 +2,9 @@ use Rattle.std.specs.Prelude.{◌≡◌, Some, None}
 use Rattle.std.proofs.Common.{◌∙◌, sym}
 use Rattle.std.proofs.lemmas.Result.{err_from_is_err_and}
 use Rattle.pps_types.specs.declared.refusal.Refusal.TheVariants.{OutOfMemory}
-use Rattle.engine_connections.specs.Standing.{CanPark}
-use Rattle.engine_tables.specs.Tables.{content_in}
-use Rattle.engine_texts.specs.Answered.{meant}
+use Rattle.notify_box.specs.Standing.{CanPark}
+use Rattle.service_state.specs.Tables.{content_in}
+use Rattle.whole_texts.specs.Answered.{meant}
 use Rattle.handle_requests.proofs.Asked.{waiting_first, waiting_wants, waiting_fails, waiting_does, done_does, done_stays}
 use Rattle.handle_requests.proofs.reading.read.Goals as goal
 

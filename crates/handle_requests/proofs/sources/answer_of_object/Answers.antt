@@ -4,8 +4,8 @@ use Rattle.std.proofs.Common.{Bor, refl, ◌∙◌, sym, ap, subst}
 use Rattle.pps_types.specs.WellFormed.{AreRising}
 use Rattle.pps_types.specs.Content.{own_handle, object_numbered}
 use Rattle.open_handles.specs.Whole.{Whole, handles_in}
-use Rattle.engine_names.specs.Standing.{Named, known_of, standing_of, content_of}
-use Rattle.engine_tables.specs.Tables.{content_in}
+use Rattle.name_table.specs.Standing.{Named, known_of, standing_of, content_of}
+use Rattle.service_state.specs.Tables.{content_in}
 use Rattle.handle_requests.specs.Reads.{IsReader}
 use Rattle.handle_requests.proofs.Answered.{object_reader}
 use Rattle.handle_requests.proofs.sources.answer_of_object.Goals as goal

@@ -6,8 +6,8 @@ use Rattle.pps_types.specs.Rests.{Seen, answer}
 use Rattle.pps_types.specs.WellFormed.{AreRising}
 use Rattle.pps_types.specs.Content.{own_handle, read_answer}
 use Rattle.open_handles.specs.Whole.{Whole, handles_in}
-use Rattle.engine_tables.specs.Tables.{content_in}
-use Rattle.engine_texts.specs.Answered.{Owes, answer_by}
+use Rattle.service_state.specs.Tables.{content_in}
+use Rattle.whole_texts.specs.Answered.{Owes, answer_by}
 use Rattle.handle_requests.specs.Reads.{Refuses}
 use Rattle.handle_requests.proofs.Answered.{answer_told, owed_told, ok_told, err_told}
 use Rattle.handle_requests.proofs.sources.answered.Goals as goal

@@ -1,8 +1,8 @@
 use Rattle.std.proofs.Common.{ℕ, Result, Ok, Err, IfOk, IfErr, List, ◌≡◌, ◌==◌, sym, ◌∙◌}
 use Rattle.std.specs.Result.{is_ok}
 use Rattle.std.specs.List.{list_any}
-use Rattle.notify_box.specs.Rising.{IsPlaceOf, IsGapFor}
-use Rattle.notify_box.proofs.Edits.{any_gap, any_place}
+use Rattle.pps_types.specs.Rising.{IsPlaceOf, IsGapFor}
+use Rattle.pps_types.proofs.RisingEdits.{any_gap, any_place}
 use Rattle.notify_box.proofs.rising.has.Goals as goal
 
 told : {X : Type 0} (number : X → ℕ) (n : ℕ) (xs : List X) (r : Result ℕ ℕ) → IfOk r (IsPlaceOf number xs n) → IfErr r (IsGapFor number xs n) → is_ok r ≡ list_any (λ e. number e == n) xs

@@ -1,5 +1,5 @@
 use Rattle.std.proofs.Common.{arith}
-use Rattle.notify_box.proofs.Edits.{any_gap, any_place, put_gap, put_place, rising_insert, rising_set}
+use Rattle.pps_types.proofs.RisingEdits.{any_gap, any_place, put_gap, put_place, rising_insert, rising_set}
 use Rattle.notify_box.proofs.rising.put.Goals as goal
 
 pub returns-in-Ok-clause-items : goal.returns-in-Ok-clause-items

@@ -1,6 +1,6 @@
 use Rattle.std.proofs.Common.{rules}
 use Rattle.std.proofs.lemmas.List.Sorted.{answers_always}
-use Rattle.notify_box.proofs.Places.{searched}
+use Rattle.pps_types.proofs.RisingPlaces.{searched}
 use Rattle.notify_box.proofs.rising.search.Goals as goal
 
 -- the closure gives an entry's number

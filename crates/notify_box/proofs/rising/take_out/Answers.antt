@@ -1,5 +1,5 @@
 use Rattle.std.proofs.Common.{arith, sym}
-use Rattle.notify_box.proofs.Edits.{any_gap, any_place, find_gap, find_place, filter_gap, filter_place, rising_remove}
+use Rattle.pps_types.proofs.RisingEdits.{any_gap, any_place, find_gap, find_place, filter_gap, filter_place, rising_remove}
 use Rattle.notify_box.proofs.rising.take_out.Goals as goal
 
 pub returns-in-Ok-clause-entry : goal.returns-in-Ok-clause-entry

@@ -2,9 +2,9 @@ use Rattle.std.specs.Prelude.{map}
 use Rattle.std.specs.List.{concat}
 use Rattle.std.proofs.Common.{◌∙◌, ap}
 use Rattle.std.proofs.lemmas.Result.{err_from_is_err_and}
-use Rattle.engine_names.specs.Listed.{members_at}
-use Rattle.engine_names.specs.Standing.{content_of, standing_of}
-use Rattle.engine_tables.specs.Tables.{content_in}
+use Rattle.name_table.specs.Listed.{members_at}
+use Rattle.name_table.specs.Standing.{content_of, standing_of}
+use Rattle.service_state.specs.Tables.{content_in}
 use Rattle.path_requests.specs.Listed.{line_listed}
 use Rattle.path_requests.proofs.Checked.{list_fails, list_passes, list_does}
 use Rattle.path_requests.proofs.listing.list.Goals as goal

@@ -2,7 +2,7 @@ use Rattle.std.specs.Prelude.{true, false}
 use Rattle.std.proofs.Common.{sym, ◌∙◌, ap, inl}
 use Rattle.std.proofs.lemmas.Result.{err_from_is_err_and}
 use Rattle.pps_types.specs.Checks.{first_refusal, mkdir_checks}
-use Rattle.engine_tables.specs.Tables.{content_in}
+use Rattle.service_state.specs.Tables.{content_in}
 use Rattle.path_requests.proofs.Checked.{make_fails, mkdir_does, mkdir_refusal_last}
 use Rattle.path_requests.proofs.making.make_directory.Goals as goal
 

@@ -1,5 +1,5 @@
 use Rattle.std.proofs.Common.{Some, sym, ap, ◌∙◌}
-use Rattle.engine_tables.specs.Tables.{content_in}
+use Rattle.service_state.specs.Tables.{content_in}
 use Rattle.path_requests.proofs.Gone.{found_stands}
 use Rattle.path_requests.proofs.removing.check_unlink.Goals as goal
 

@@ -1,8 +1,8 @@
 use Rattle.std.specs.Prelude.{◌≢◌, ◌↔◌, [], IsTrue, filter}
 use Rattle.std.proofs.Common.{subst}
-use Rattle.settling_laws.specs.Concerned.{is_on_directory}
+use Rattle.service_laws.specs.Concerned.{is_on_directory}
 use Rattle.open_handles.specs.Whole.{Whole, handles_in}
-use Rattle.engine_tables.specs.Tables.{content_in}
+use Rattle.service_state.specs.Tables.{content_in}
 use Rattle.path_requests.proofs.Gone.{used_by}
 use Rattle.path_requests.proofs.removing.is_used.Goals as goal
 

@@ -3,11 +3,11 @@ use Rattle.std.proofs.Common.{sym, ◌∙◌, ap}
 use Rattle.std.proofs.lemmas.Result.{err_from_is_err_and}
 use Rattle.pps_types.specs.declared.found.Found.TheVariants.{Object as FoundObject, Directory as FoundDirectory}
 use Rattle.pps_types.specs.declared.record.Kind.TheVariants.{Deleted}
-use Rattle.pps_types.specs.Content.{Known, at}
+use Rattle.pps_types.specs.Content.{LiveObject, at}
 use Rattle.pps_types.specs.Checks.{first_refusal, unlink_checks}
 use Rattle.pps_types.specs.Plan.{entry_of}
-use Rattle.engine_tables.specs.Tables.{content_in}
-use Rattle.close_requests.specs.Begun.{bare, telling}
+use Rattle.service_state.specs.Tables.{content_in}
+use Rattle.handle_requests.specs.Begun.{bare, telling}
 use Rattle.path_requests.proofs.Checked.{unlink_fails}
 use Rattle.path_requests.proofs.Gone.{removed_does, removed_bare, numbered_there, no_directory_there, object_there}
 use Rattle.path_requests.proofs.Deleted.{deletion_able, deletion_plain, deletion_does, deletion_refusal, deletion_fails, removal_passes}
@@ -45,14 +45,14 @@ begin_ready-requires-clause-able c =
     let there : at (content_in c.args.tables.now) c.in_ok-names.names.items ≡ Some (FoundObject c.in-Object.object) = ap (at (content_in c.args.tables.now)) (sym c.deref.ensures.value) ∙ c.in_ok-found.ensures.found ∙ ap Some c.in-Object.is in
     deletion_able (content_in c.args.tables.now) c.in_ok-names.names.items c.deref-2.result.now
     (ap (map bare) c.deref-2.ensures.value ∙ c.in_ok-beginning.ensures.begun
-    ∙ ap (λ o. telling (option_map (λ (k : Known). entry_of k.object Deleted None) o)) (object_there (content_in c.args.tables.now) c.requires c.in_ok-names.names.items c.in-Object.object there))
+    ∙ ap (λ o. telling (option_map (λ (k : LiveObject). entry_of k.object Deleted None) o)) (object_there (content_in c.args.tables.now) c.requires c.in_ok-names.names.items c.in-Object.object there))
 
 pub begin_ready-requires-clause-plain : goal.begin_ready-requires-clause-plain
 begin_ready-requires-clause-plain c =
     let there : at (content_in c.args.tables.now) c.in_ok-names.names.items ≡ Some (FoundObject c.in-Object.object) = ap (at (content_in c.args.tables.now)) (sym c.deref.ensures.value) ∙ c.in_ok-found.ensures.found ∙ ap Some c.in-Object.is in
     deletion_plain (content_in c.args.tables.now) c.in_ok-names.names.items c.deref-2.result.now
     (ap (map bare) c.deref-2.ensures.value ∙ c.in_ok-beginning.ensures.begun
-    ∙ ap (λ o. telling (option_map (λ (k : Known). entry_of k.object Deleted None) o)) (object_there (content_in c.args.tables.now) c.requires c.in_ok-names.names.items c.in-Object.object there))
+    ∙ ap (λ o. telling (option_map (λ (k : LiveObject). entry_of k.object Deleted None) o)) (object_there (content_in c.args.tables.now) c.requires c.in_ok-names.names.items c.in-Object.object there))
 
 pub returns-in_err-begin_ready-clause-err : goal.returns-in_err-begin_ready-clause-err
 returns-in_err-begin_ready-clause-err c =
@@ -60,7 +60,7 @@ returns-in_err-begin_ready-clause-err c =
     let there : at (content_in c.args.tables.now) c.in_ok-names.names.items ≡ Some (FoundObject c.in-Object.object) = ap (at (content_in c.args.tables.now)) (sym c.deref.ensures.value) ∙ c.in_ok-found.ensures.found ∙ ap Some c.in-Object.is in
     rw (p.1, p.2) (deletion_fails (content_in c.args.tables.now) c.in_ok-names.names.items c.deref-2.result.now
     (ap (map bare) c.deref-2.ensures.value ∙ c.in_ok-beginning.ensures.begun
-    ∙ ap (λ o. telling (option_map (λ (k : Known). entry_of k.object Deleted None) o)) (object_there (content_in c.args.tables.now) c.requires c.in_ok-names.names.items c.in-Object.object there))
+    ∙ ap (λ o. telling (option_map (λ (k : LiveObject). entry_of k.object Deleted None) o)) (object_there (content_in c.args.tables.now) c.requires c.in_ok-names.names.items c.in-Object.object there))
     c.args.conn c.args.path.now c.in_ok-names.ensures.ok (no_directory_there (content_in c.args.tables.now) c.in_ok-names.names.items c.in-Object.object there)
     c.events_are_settled.ensures (sym (c.in_ok-found.ensures.refusal ∙ ap (λ p. first_refusal (unlink_checks (content_in c.args.tables.now) p)) c.deref.ensures.value))
     c.in_err-begin_ready.field-0.0 c.in_err-begin_ready.ensures.err)
@@ -70,7 +70,7 @@ returns-clause-passes c =
     let there : at (content_in c.args.tables.now) c.in_ok-names.names.items ≡ Some (FoundObject c.in-Object.object) = ap (at (content_in c.args.tables.now)) (sym c.deref.ensures.value) ∙ c.in_ok-found.ensures.found ∙ ap Some c.in-Object.is in
     deletion_refusal (content_in c.args.tables.now) c.in_ok-names.names.items c.deref-2.result.now
     (ap (map bare) c.deref-2.ensures.value ∙ c.in_ok-beginning.ensures.begun
-    ∙ ap (λ o. telling (option_map (λ (k : Known). entry_of k.object Deleted None) o)) (object_there (content_in c.args.tables.now) c.requires c.in_ok-names.names.items c.in-Object.object there))
+    ∙ ap (λ o. telling (option_map (λ (k : LiveObject). entry_of k.object Deleted None) o)) (object_there (content_in c.args.tables.now) c.requires c.in_ok-names.names.items c.in-Object.object there))
     c.args.conn c.args.path.now c.in_ok-names.ensures.ok (no_directory_there (content_in c.args.tables.now) c.in_ok-names.names.items c.in-Object.object there)
     c.events_are_settled.ensures (sym (c.in_ok-found.ensures.refusal ∙ ap (λ p. first_refusal (unlink_checks (content_in c.args.tables.now) p)) c.deref.ensures.value))
     false c.in_ok-begin_ready.ensures.within
@@ -79,5 +79,5 @@ pub returns-clause-does : goal.returns-clause-does
 returns-clause-does c =
     let there : at (content_in c.args.tables.now) c.in_ok-names.names.items ≡ Some (FoundObject c.in-Object.object) = ap (at (content_in c.args.tables.now)) (sym c.deref.ensures.value) ∙ c.in_ok-found.ensures.found ∙ ap Some c.in-Object.is in
     deletion_does (content_in c.args.tables.now) c.in_ok-names.names.items c.in_ok-beginning.beginning.items
-    (c.in_ok-beginning.ensures.begun ∙ ap (λ o. telling (option_map (λ (k : Known). entry_of k.object Deleted None) o)) (object_there (content_in c.args.tables.now) c.requires c.in_ok-names.names.items c.in-Object.object there))
+    (c.in_ok-beginning.ensures.begun ∙ ap (λ o. telling (option_map (λ (k : LiveObject). entry_of k.object Deleted None) o)) (object_there (content_in c.args.tables.now) c.requires c.in_ok-names.names.items c.in-Object.object there))
     c.args.conn c.args.path.now c.in_ok-names.ensures.ok (no_directory_there (content_in c.args.tables.now) c.in_ok-names.names.items c.in-Object.object there)

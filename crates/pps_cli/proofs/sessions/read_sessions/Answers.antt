@@ -1,6 +1,6 @@
 use Rattle.std.proofs.Common.{◌≡◌, ◌∷◌, ◌++◌, [], length-append, subst, sym, arith, rules}
-use Rattle.pps_session.specs.Serving.{AreOfScripts}
-use Rattle.pps_session.proofs.Served.{of_scripts-more}
+use Rattle.pps_dispatch.specs.Serving.{AreOfScripts}
+use Rattle.pps_dispatch.proofs.SessionsServed.{of_scripts-more}
 use Rattle.pps_cli.proofs.sessions.read_sessions.Goals as goal
 
 pub scripts-preserved : goal.scripts-preserved

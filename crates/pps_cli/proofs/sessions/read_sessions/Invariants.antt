@@ -1,5 +1,5 @@
 use Rattle.std.proofs.Common.{◌≡◌, ◌-◌, ◌^◌, min, length}
-use Rattle.pps_session.specs.Serving.{AreOfScripts}
+use Rattle.pps_dispatch.specs.Serving.{AreOfScripts}
 use Rattle.pps_cli.proofs.sessions.read_sessions.Given as goal
 
 abbrev pub invariant-scripts : goal.invariant-scripts

@@ -5,9 +5,9 @@ use Rattle.pps_types.specs.Device.{device_inner}
 use Rattle.pps_types.specs.Merge.{are_distinct}
 use Rattle.pps_types.specs.Writing.{SendsPart}
 use Rattle.pps_dispatch.specs.History.{joined}
-use Rattle.pps_session.specs.Printed.{sessions_text, connections_of}
-use Rattle.pps_session.proofs.Names.{served-names}
-use Rattle.pps_session.proofs.Served.{are-served, prints-all, prints-some}
+use Rattle.pps_dispatch.specs.Printed.{sessions_text, connections_of}
+use Rattle.pps_dispatch.proofs.Names.{served-names}
+use Rattle.pps_dispatch.proofs.SessionsServed.{are-served, prints-all, prints-some}
 use Rattle.pps_cli.proofs.sessions.serve_sessions.Goals as goal
 
 pub write_answers-requires-clause-named : goal.write_answers-requires-clause-named

@@ -1,6 +1,6 @@
 use Rattle.std.proofs.Common.{rules}
-use Rattle.engine_tables.specs.Tables.{content_in}
-use Rattle.engine_events.specs.Events.{moves_pending}
+use Rattle.service_state.specs.Tables.{content_in}
+use Rattle.pps_engine.specs.Events.{moves_pending}
 use Rattle.pps_types.specs.Plan.{apply_all_seen}
 use Rattle.pps_engine.proofs.Plans.{planned-sound, planned-sends}
 use Rattle.pps_engine.proofs.engine.take_step.Goals as goal

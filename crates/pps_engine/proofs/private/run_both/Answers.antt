@@ -1,4 +1,4 @@
-use Rattle.pps_types.proofs.Private.{private-traffic}
+use Rattle.service_laws.proofs.Private.{private-traffic}
 use Rattle.pps_types.specs.Runs.{answered}
 use Rattle.pps_engine.proofs.private.run_both.Goals as goal
 

@@ -1,7 +1,7 @@
 use Rattle.std.proofs.Common.{◌≡◌, ◌++◌, map}
 use Rattle.pps_types.specs.Text.{print_lines}
 use Rattle.pps_types.specs.Image.{as_line}
-use Rattle.image_entries.specs.Entries.{attributes_of}
+use Rattle.pps_engine.specs.Entries.{attributes_of}
 use Rattle.pps_persist.proofs.saving.push_entry.Given as goal
 
 -- those that were printed, and those still to come

@@ -3,7 +3,7 @@ use Rattle.std.specs.List.{AllByRecursion}
 use Rattle.pps_types.specs.Reading.{Open, Queue, style}
 use Rattle.pps_types.specs.Rests.{Seen}
 use Rattle.engine_servers.specs.Standing.{Standing}
-use Rattle.engine_servers.proofs.Seats.{all-queued, all-named}
+use Rattle.engine_servers.proofs.Seating.{all-queued, all-named}
 use Rattle.engine_servers.proofs.service.Service.handles_are_queued.Goals as goal
 
 pub returns-clause-queued : goal.returns-clause-queued

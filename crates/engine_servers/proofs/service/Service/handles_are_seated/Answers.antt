@@ -1,6 +1,6 @@
 use Rattle.std.proofs.Common.{subst, false}
 use Rattle.engine_targets.specs.Seated.{AreSeated}
-use Rattle.engine_servers.proofs.Seats.{are-seated}
+use Rattle.engine_servers.proofs.Seating.{are-seated}
 use Rattle.engine_servers.proofs.service.Service.handles_are_seated.Goals as goal
 
 pub returns : goal.returns

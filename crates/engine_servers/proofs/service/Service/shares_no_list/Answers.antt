@@ -1,6 +1,6 @@
 use Rattle.std.proofs.Common.{◌≡◌, [], subst}
 use Rattle.pps_types.specs.Owed.{longest_rest}
-use Rattle.engine_servers.proofs.Seats.{none-held}
+use Rattle.engine_servers.proofs.Seating.{none-held}
 use Rattle.engine_servers.proofs.service.Service.shares_no_list.Goals as goal
 
 pub returns : goal.returns

@@ -6,7 +6,7 @@ use Rattle.pps_types.specs.Reading.{Open}
 use Rattle.pps_types.specs.Rests.{Seen}
 use Rattle.pps_types.specs.Checks.{count_owed, is_server_message}
 use Rattle.engine_targets.specs.Opened.{handle_at}
-use Rattle.engine_seats.specs.declared.seats.Seats.{Seats}
+use Rattle.engine_servers.specs.declared.seats.Seats.{Seats}
 use Rattle.open_handles.specs.Whole.{Whole, site_of, site_at, handles_at, handles_in_place}
 use Rattle.open_handles.proofs.handles.Handles.is_client_full.Goals as goal
 

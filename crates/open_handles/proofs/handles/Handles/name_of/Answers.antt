@@ -1,7 +1,7 @@
 use Rattle.std.proofs.Common.{◌≡◌, ◌∙◌, List, ℕ, [], Option, sym, ap, subst}
 use Rattle.std.specs.Prelude.{option_map}
 use Rattle.std.specs.Option.{option_copied, option_map_or}
-use Rattle.engine_seats.specs.declared.seats.Seats.{Seats}
+use Rattle.engine_servers.specs.declared.seats.Seats.{Seats}
 use Rattle.open_handles.specs.Whole.{Whole, Site, site_of, name_at}
 use Rattle.open_handles.proofs.handles.Handles.name_of.Goals as goal
 

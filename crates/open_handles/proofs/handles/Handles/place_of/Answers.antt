@@ -3,8 +3,8 @@ use Rattle.std.specs.Prelude.{option_and_then}
 use Rattle.std.specs.Option.{option_copied}
 use Rattle.number_table.specs.Numbered.{value_under}
 use Rattle.engine_targets.specs.Opened.{handle_at}
-use Rattle.engine_seats.specs.declared.seats.Seats.{Seats}
-use Rattle.engine_seats.specs.Seated.{handles_of}
+use Rattle.engine_servers.specs.declared.seats.Seats.{Seats}
+use Rattle.engine_servers.specs.Seated.{handles_of}
 use Rattle.open_handles.specs.Whole.{Whole, handles_in}
 use Rattle.open_handles.proofs.Turns.{in_place, in_no_place}
 use Rattle.open_handles.proofs.handles.Handles.place_of.Goals as goal

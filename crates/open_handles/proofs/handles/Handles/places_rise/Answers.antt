@@ -1,7 +1,7 @@
 use Rattle.std.proofs.Common.{map, subst}
 use Rattle.pps_types.specs.WellFormed.{AreRising}
 use Rattle.number_table.specs.Numbered.{Entry as Numbering}
-use Rattle.engine_seats.specs.declared.seats.Seats.{Seats}
+use Rattle.engine_servers.specs.declared.seats.Seats.{Seats}
 use Rattle.open_handles.specs.Whole.{Whole}
 use Rattle.open_handles.proofs.handles.Handles.places_rise.Goals as goal
 

@@ -1,7 +1,7 @@
 use Rattle.std.proofs.Common.{subst}
 use Rattle.image_laws.specs.Laws.{IsReadAgain}
 use Rattle.image_laws.specs.Savable.{CanBeSaved}
-use Rattle.engine_tables.specs.Tables.{content_in}
+use Rattle.service_state.specs.Tables.{content_in}
 use Rattle.pps_engine.specs.Serving.{Serving}
 use Rattle.pps_engine.proofs.engine.Engine.can_be_saved.Goals as goal
 

@@ -2,9 +2,9 @@ use Rattle.std.proofs.Common.{◌≡◌, Some, ap, sym, ◌∙◌, subst, length
 use Rattle.pps_types.specs.Names.{Path}
 use Rattle.pps_types.specs.Content.{at}
 use Rattle.pps_types.specs.Owed.{kept_seen}
-use Rattle.engine_names.specs.Standing.{Named, standing_of, content_of}
+use Rattle.name_table.specs.Standing.{Named, standing_of, content_of}
 use Rattle.open_handles.specs.Whole.{Whole, kept_at}
-use Rattle.engine_tables.specs.Tables.{Tabled, content_in}
+use Rattle.service_state.specs.Tables.{Tabled, content_in}
 use Rattle.pps_engine.specs.Serving.{Serving}
 use Rattle.pps_engine.proofs.Plans.{kept-told}
 use Rattle.pps_engine.proofs.engine.Engine.kept.Goals as goal

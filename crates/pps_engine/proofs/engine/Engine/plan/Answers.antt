@@ -2,8 +2,8 @@ use Rattle.std.proofs.Common.{◌≡◌, true, Ok, ap, subst, sym, ◌∙◌}
 use Rattle.pps_types.specs.declared.outcome.Outcome.{Outcome}
 use Rattle.pps_types.specs.Outcome.{has_bytes, IsSendable}
 use Rattle.pps_types.specs.Plan.{may_lack_memory, apply_all_seen}
-use Rattle.engine_tables.specs.Tables.{Tabled, content_in}
-use Rattle.engine_events.specs.Events.{moves_pending}
+use Rattle.service_state.specs.Tables.{Tabled, content_in}
+use Rattle.pps_engine.specs.Events.{moves_pending}
 use Rattle.pps_engine.specs.Serving.{Serving}
 use Rattle.pps_engine.specs.Standing.{IsSound}
 use Rattle.pps_engine.proofs.Marks.{bytes-may-lack}

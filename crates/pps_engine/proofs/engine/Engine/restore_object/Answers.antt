@@ -4,7 +4,7 @@ use Rattle.pps_types.specs.declared.refusal.Refusal.TheVariants.{OutOfMemory}
 use Rattle.pps_types.specs.Content.{Content}
 use Rattle.pps_types.specs.Restore.{restore_object}
 use Rattle.image_laws.specs.Restored.{with_object, Becomes}
-use Rattle.engine_tables.specs.Tables.{Tabled, content_in}
+use Rattle.service_state.specs.Tables.{Tabled, content_in}
 use Rattle.pps_engine.specs.Serving.{Serving}
 use Rattle.pps_engine.specs.Standing.{IsSound}
 use Rattle.pps_engine.proofs.Restored.{unused_in, left_unused, sound_alone, becomes}

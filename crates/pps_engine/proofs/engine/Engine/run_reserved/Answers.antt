@@ -1,5 +1,5 @@
 use Rattle.std.proofs.Common.{arith}
-use Rattle.pps_types.proofs.StandsLaw.{runs-stand}
+use Rattle.service_laws.proofs.StandsLaw.{runs-stand}
 use Rattle.pps_types.specs.Runs.{answered}
 use Rattle.pps_engine.proofs.Lists.{runs-all}
 use Rattle.pps_engine.proofs.engine.Engine.run_reserved.Goals as goal

@@ -1,6 +1,6 @@
 use Rattle.std.proofs.Common.{rules}
-use Rattle.engine_tables.specs.Tables.{content_in}
-use Rattle.pps_types.proofs.StandsLaw.{steps-stand}
+use Rattle.service_state.specs.Tables.{content_in}
+use Rattle.service_laws.proofs.StandsLaw.{steps-stand}
 use Rattle.pps_engine.proofs.engine.Engine.step.Goals as goal
 
 pub returns-clause-steps : goal.returns-clause-steps

@@ -1,4 +1,0 @@
-pub mod Orphans
-pub mod Begins
-pub mod Plans
-pub mod Readied

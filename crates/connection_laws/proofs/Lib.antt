@@ -1,5 +1,0 @@
-pub mod Lists
-pub mod Standings
-pub mod Moves
-pub mod Others
-pub mod Stays

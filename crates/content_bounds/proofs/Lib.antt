@@ -1,9 +1,0 @@
-pub mod Lists
-pub mod Moves
-pub mod Texts
-pub mod Owners
-pub mod Effects
-pub mod Paths
-pub mod Opens
-pub mod Replies
-pub mod Events

@@ -1,5 +1,0 @@
-use Rattle.engine_connections.proofs.Changes.{rising_same}
-use Rattle.engine_connections.proofs.connections.Connections.copy.Goals as goal
-
-pub invariant_of-result : goal.invariant_of-result
-invariant_of-result c = rising_same c.self.inside.attached.items _ (rw c.deref.ensures.value at c.in_ok-attached.ensures.ok) c.self.invariant

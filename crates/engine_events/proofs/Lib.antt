@@ -1,4 +1,0 @@
-pub mod Lists
-pub mod Tells
-pub mod Plans
-pub mod Within

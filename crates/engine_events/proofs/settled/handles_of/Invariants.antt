@@ -1,7 +1,0 @@
-use Rattle.std.proofs.Common.{◌≡◌, ◌++◌, drop}
-use Rattle.engine_events.specs.Told.{closes_in}
-use Rattle.engine_events.proofs.settled.handles_of.Given as goal
-
--- what is gathered, and what is still to come
-abbrev pub invariant-beginning : goal.invariant-beginning
-invariant-beginning l = l.handles.items ++ closes_in (drop l.each-index l.beginning) ≡ closes_in l.beginning

@@ -1,3 +1,0 @@
-pub mod Doing
-pub mod Told
-pub mod Events

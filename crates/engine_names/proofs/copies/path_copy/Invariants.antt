@@ -1,5 +1,0 @@
-use Rattle.std.proofs.Common.{◌≡◌, ◌++◌, drop}
-use Rattle.engine_names.proofs.copies.path_copy.Given as goal
-
-abbrev pub invariant-names : goal.invariant-names
-invariant-names l = l.copy.items ++ drop l.name-index l.path ≡ l.path

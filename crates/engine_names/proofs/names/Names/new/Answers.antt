@@ -1,7 +1,0 @@
-use Rattle.engine_names.proofs.First.{first}
-use Rattle.engine_names.proofs.names.Names.new.Goals as goal
-
-pub invariant_of-result : goal.invariant_of-result
-invariant_of-result c =
-    rw (c.push_reserved.ensures.entries, c.reserve.ensures.entries, c.new-directories.ensures.entries, c.new.ensures, c.new-2.ensures.items, c.push_reserved.ensures.next, c.new-3.ensures.map, c.new-4.ensures.entries, c.new-4.ensures.next)
-    first

@@ -1,7 +1,0 @@
-use Rattle.std.proofs.Common.{sym, ap, ◌∙◌}
-use Rattle.pps_types.specs.Names as names
-use Rattle.pps_types.proofs.PathEnds.{parent-push}
-use Rattle.engine_names.proofs.paths.parent.Goals as goal
-
-pub returns-in-Some : goal.returns-in-Some
-returns-in-Some c = sym (ap names.parent c.in-Some.ensures.cases.0 ∙ parent-push _ _)

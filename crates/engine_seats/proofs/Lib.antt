@@ -1,4 +1,0 @@
-pub mod Shared
-pub mod Overs
-pub mod Alike
-pub mod Glances

@@ -1,0 +1,80 @@
+-- The handles on an object or a directory, whichever they are.
+use Rattle.std.specs.Prelude.{◌≡◌, ◌≤◌, ◌&&◌, ℕ, true, List, [], length, filter, Bool, false}
+use Rattle.pps_types.specs.declared.found.Found.{Found}
+use Rattle.pps_types.specs.declared.found.Found.TheVariants.{Object as FoundObject}
+use Rattle.pps_types.specs.declared.handle_kind.HandleKind.{HandleKind}
+use Rattle.pps_types.specs.History.{Entry}
+use Rattle.pps_types.specs.Reading.{Open, Style, Queue, style, is_directory_kind, visible}
+use Rattle.pps_types.specs.Rests.{Seen}
+use Rattle.pps_types.specs.Owed.{same_flag}
+use Rattle.engine_targets.specs.Opened.{is_directory, is_reader}
+use Rattle.engine_servers.specs.Standing.{IsReady as IsServiceReady}
+use Rattle.engine_servers.specs.declared.seats.Seats.{Seats}
+use Rattle.engine_servers.specs.declared.seats.Seats.TheVariants.{Readers, Service}
+
+-- the object or directory that they are on
+abbrev pub target_of : Seats → Found
+target_of (Readers t) = t.of
+target_of (Service s) = FoundObject s.object
+
+abbrev pub name_of : Seats → List ℕ
+name_of (Readers t) = t.name
+name_of (Service s) = s.name
+
+-- the handles, in rising number, with what each has seen
+abbrev pub handles_of : Seats → List (Open Seen)
+handles_of (Readers t) = t.handles
+handles_of (Service s) = s.handles
+
+-- the records that are held for readers; those of a server object stand in queues
+abbrev pub kept_of : Seats → List Entry
+kept_of (Readers t) = t.kept
+kept_of (Service s) = []
+
+abbrev pub is_queue_style : Style → Bool
+is_queue_style Queue = true
+is_queue_style s = false
+
+-- for how many more handles there is memory
+abbrev pub places_of : Seats → ℕ
+places_of (Readers t) = t.places
+places_of (Service s) = s.places
+
+-- there is room for these records, all of this target
+abbrev pub IsReady : List Entry → Seats → Type 0
+IsReady entries (Readers t) = length entries ≤ t.room
+IsReady entries (Service s) = IsServiceReady entries s
+
+-- they are a server object's
+abbrev pub is_service : Seats → Bool
+is_service (Readers t) = false
+is_service (Service s) = true
+
+-- a handle of that kind may be opened on a server object, and on a plain one or a directory
+abbrev pub suits : HandleKind → Bool → Bool → Bool
+suits kind directory true = is_queue_style (style kind)
+suits kind directory false = is_reader kind && same_flag (is_directory_kind kind) directory
+
+abbrev pub Suits : HandleKind → Seats → Type 0
+Suits kind x = suits kind (is_directory (target_of x)) (is_service x) ≡ true
+
+-- the same target, with other handles or other memory
+pub record IsSameTarget (old new : Seats) : Type 0 where
+  pub target : target_of new ≡ target_of old
+  pub name : name_of new ≡ name_of old
+  pub service : is_service new ≡ is_service old
+
+-- the same handles on the same target, and the same records held for them
+pub record IsCopy (x copy : Seats) : Type 0 where
+  pub same : IsSameTarget x copy
+  pub handles : handles_of copy ≡ handles_of x
+  pub kept : kept_of copy ≡ kept_of x
+
+-- room for records stays
+abbrev pub KeepsRoom : Seats → Seats → Type 0
+KeepsRoom old new = (entries : List Entry) → IsReady entries old → IsReady entries new
+
+-- so many shares of a record are enough: one for each handle of a server object that is given it
+abbrev pub IsEnough : ℕ → Entry → Seats → Type 0
+IsEnough count e (Readers t) = Unit {0}
+IsEnough count e (Service s) = length (filter (λ (h : Open Seen). visible h e) s.handles) ≤ count

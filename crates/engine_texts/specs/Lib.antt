@@ -1,4 +1,0 @@
-pub mod After
-pub mod Whole
-pub mod Answered
-pub mod Listed

@@ -1,8 +1,0 @@
-use Rattle.std.proofs.Common.{◌≡◌, ◌++◌, drop, map}
-use Rattle.std.specs.List.{filter_map}
-use Rattle.event_settling.specs.Behind.{row_of}
-use Rattle.event_settling.proofs.members.rows_of.Given as goal
-
--- what is there, and what is still to come
-abbrev pub invariant-places : goal.invariant-places
-invariant-places l = l.rows.items ++ map row_of (filter_map (λ o. o) (drop l.place l.objects)) ≡ map row_of (filter_map (λ o. o) l.objects)

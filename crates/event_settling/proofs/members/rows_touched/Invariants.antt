@@ -1,8 +1,0 @@
-use Rattle.std.proofs.Common.{◌≡◌, ◌++◌}
-use Rattle.std.specs.List.{filter_map}
-use Rattle.event_settling.specs.Behind.{row_by}
-use Rattle.event_settling.proofs.members.rows_touched.Given as goal
-
--- what is there, and what is still to come
-abbrev pub invariant-rows : goal.invariant-rows
-invariant-rows l = l.left.items ++ filter_map (row_by l.entry) l.row-iterator.rest.items ≡ filter_map (row_by l.entry) l.fn.rows.items

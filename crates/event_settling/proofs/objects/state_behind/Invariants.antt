@@ -1,8 +1,0 @@
-use Rattle.std.proofs.Common.{◌≡◌, take}
-use Rattle.std.specs.Prelude.{option_map}
-use Rattle.engine_names.specs.Standing.{content_of, standing_of}
-use Rattle.event_settling.specs.Behind.{attributes_in, state_behind}
-use Rattle.event_settling.proofs.objects.state_behind.Given as goal
-
-abbrev pub invariant-entries : goal.invariant-entries
-invariant-entries l = option_map attributes_in l.state ≡ state_behind (content_of (standing_of l.names)) (take l.entry-index l.entries) l.object

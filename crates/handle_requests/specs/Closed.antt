@@ -1,0 +1,25 @@
+-- How a handle closes.
+use Rattle.std.specs.Prelude.{ℕ, List, Bool, true, false}
+use Rattle.std.specs.List.{flat_map}
+use Rattle.pps_types.specs.Plan.{Move}
+use Rattle.service_state.specs.declared.beginning.Beginning.TheVariants.{Closes}
+use Rattle.service_state.specs.Moves.{closing}
+use Rattle.service_state.specs.Beginning.{moves_of, CanBegin, AreReady}
+use Rattle.service_state.specs.Tables.{Tabled, content_in}
+use Rattle.handle_requests.specs.declared.closes.Closing.{Closing}
+use Rattle.handle_requests.specs.declared.closes.Closing.TheVariants.{Alone, Telling}
+
+-- what a handle's close changes
+abbrev pub moves_in : ℕ → ℕ → Closing → List Move
+moves_in conn handle (Alone parked) = closing conn handle parked
+moves_in conn handle (Telling beginning) = flat_map moves_of beginning.items
+
+-- somebody is told
+abbrev pub is_telling : Closing → Bool
+is_telling (Alone parked) = false
+is_telling (Telling beginning) = true
+
+-- it can be carried out
+abbrev pub IsReady : ℕ → ℕ → Tabled → Closing → Type 0
+IsReady conn handle t (Alone parked) = CanBegin (content_in t) (Closes conn handle parked)
+IsReady conn handle t (Telling beginning) = AreReady beginning.items t

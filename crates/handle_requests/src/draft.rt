@@ -1,0 +1,195 @@
+//! What a text comes to that is written, before the limits of its object are looked at.
+ghost use Rattle.std.specs.Prelude.{◌≡◌, ◌≤◌, [], true, None, Ok, IfOk, IfErr, OnOk, is_some, length, map};
+ghost use Rattle.pps_types.specs.declared.event.Request.TheVariants.{Write};
+ghost use Rattle.pps_types.specs.Text as words;
+ghost use Rattle.pps_types.specs.History as history;
+ghost use Rattle.pps_types.specs.Reading as reading;
+ghost use Rattle.pps_types.specs.Content as content;
+ghost use Rattle.pps_types.specs.Checks as checking;
+ghost use Rattle.pps_types.specs.Plan as planning;
+ghost use Rattle.pps_types.specs.WellFormed.{IsContent};
+ghost use Rattle.service_laws.specs.Bounds.{IsBound};
+ghost use Rattle.name_table.specs.Standing.{known_of};
+ghost use Rattle.service_state.specs.Tables.{content_in};
+ghost use Rattle.service_state.specs.Refused.{Fails, all_request_checks};
+ghost use Rattle.handle_requests.specs.Backlogs.{server_in};
+ghost use Rattle.handle_requests.specs.Writes.{author_of, checks_by, kind_by, server_text_checks, client_text_checks, late_refusal, FailsLate, IsAuthor, IsDrafted, IsDraft};
+
+use crate::address::{addressee, is_foreign};
+use crate::backlog::{message_refusal, server_backlog};
+use crate::message::{message_lines, sent};
+use crate::writer::{Writer, writer_of};
+use attr_text::{WRITE_LIMIT, WriteText, read_write};
+use name_table::NamedObject;
+use pps_types::{Bytes, Conn, Handle, HandleKind, Kind, Lines, ObjId, Refusal};
+use service_state::Tables;
+use std::alloc::Global;
+
+/// A write that passes all checks but those of its object's limits.
+#[derive(Drop)]
+pub(crate) struct Draft {
+    pub(crate) object: ObjId,
+    /// What its record says.
+    pub(crate) kind: Kind,
+    /// Without lines there is no record.
+    pub(crate) has_lines: bool,
+}
+
+// What a write through an object's handle comes to.
+fn object_kind(name: &[u8], object: &NamedObject, text: WriteText) -> Result<Kind, Refusal>
+    ensures passes { OnOk result (checking.first_refusal (checking.own_header name.now text.header) ≡ None) }
+    ensures does { IfOk result (λ kind. kind ≡ Kind.Change (history.resolve object.now.held.attributes text.lines)) }
+    ensures err { IfErr result (λ r. FailsLate (checking.own_header name.now text.header) r) }
+{
+    let (header, lines) = text.into_parts();
+    if is_foreign(name, header.as_ref()) {
+        return Err(Refusal::BadText { line: 1 });
+    }
+    let lines = object.attributes().resolve(lines)?;
+    Ok(Kind::Change(Lines::new(lines)))
+}
+
+// What a write through a server's handle comes to.
+fn server_kind(
+    tables: &Tables,
+    alloc: Global,
+    name: &[u8],
+    object: ObjId,
+    text: WriteText,
+) -> Result<Kind, Refusal>
+    requires { is_some (server_in (content_in tables.now) object) ≡ true }
+    ensures passes { OnOk result (checking.first_refusal (server_text_checks (content_in tables.now) name.now object text) ≡ None) }
+    ensures does { IfOk result (λ kind. kind ≡ planning.sent (checking.addressee name.now text.header) (map history.message_line text.lines)) }
+    ensures err { IfErr result (λ r. FailsLate (server_text_checks (content_in tables.now) name.now object text) r) }
+{
+    let (header, lines) = text.into_parts();
+    let to = addressee(name, header.as_ref());
+    if let Some(refusal) = message_refusal(tables, object, to, !lines.is_empty()) {
+        return Err(refusal);
+    }
+    let lines = message_lines(alloc, lines)?;
+    Ok(sent(to, lines))
+}
+
+// Why a client's message is refused.
+fn client_refusal(
+    tables: &Tables,
+    handle: Handle,
+    name: &[u8],
+    object: ObjId,
+    text: &WriteText,
+) -> Option<Refusal>
+    requires { IsContent (content_in tables.now) }
+    ensures { result ≡ checking.first_refusal (client_text_checks (content_in tables.now) handle name.now object text.now) }
+{
+    if is_foreign(name, text.header()) {
+        return Some(Refusal::BadText { line: 1 });
+    }
+    if text.lines().is_empty() {
+        return None;
+    }
+    server_backlog(tables, object, handle)
+}
+
+// What a write through a client's handle comes to.
+fn client_kind(
+    tables: &Tables,
+    alloc: Global,
+    handle: Handle,
+    name: &[u8],
+    object: ObjId,
+    text: WriteText,
+) -> Result<Kind, Refusal>
+    requires { IsContent (content_in tables.now) }
+    ensures passes { OnOk result (checking.first_refusal (client_text_checks (content_in tables.now) handle name.now object text) ≡ None) }
+    ensures does { IfOk result (λ kind. kind ≡ Kind.FromClient handle (map history.message_line text.lines)) }
+    ensures err { IfErr result (λ r. FailsLate (client_text_checks (content_in tables.now) handle name.now object text) r) }
+{
+    if let Some(refusal) = client_refusal(tables, handle, name, object, &text) {
+        return Err(refusal);
+    }
+    let (_, lines) = text.into_parts();
+    let lines = message_lines(alloc, lines)?;
+    Ok(Kind::FromClient(handle, Lines::new(lines)))
+}
+
+// What a text comes to that passes the checks of the handle's kind, but for its object's limits.
+fn kind_of(
+    tables: &Tables,
+    alloc: Global,
+    writer: &Writer<'_>,
+    text: WriteText,
+) -> Result<Kind, Refusal>
+    requires content { IsContent (content_in tables.now) }
+    requires author { IsAuthor (content_in tables.now) writer.now }
+    ensures passes { IfOk result (λ kind. checking.first_refusal (checks_by (content_in tables.now) (author_of writer.now) writer.now.kind text) ≡ late_refusal (content_in tables.now) writer.now.object.now.object.number kind) }
+    ensures does { IfOk result (λ kind. kind ≡ kind_by (content_in tables.now) (author_of writer.now) writer.now.kind text) }
+    ensures err { IfErr result (λ r. FailsLate (checks_by (content_in tables.now) (author_of writer.now) writer.now.kind text) r) }
+{
+    let object = writer.object.number();
+    match writer.kind {
+        HandleKind::Server => server_kind(tables, alloc, writer.name, object, text),
+        HandleKind::Client => {
+            client_kind(tables, alloc, writer.handle, writer.name, object, text)
+        }
+        _ => object_kind(writer.name, writer.object, text),
+    }
+}
+
+// What a text says that is not too large.
+fn read(alloc: Global, bytes: &Bytes) -> Result<WriteText, Refusal>
+    requires { length bytes.now ≤ WRITE_LIMIT }
+    ensures ok { IfOk result (λ text. words.write_text bytes.now ≡ Ok text) }
+    ensures err { IfErr result (λ r. FailsLate (checking.parsed (words.write_text bytes.now) (λ text. [])) r) }
+{
+    read_write(alloc, bytes.as_slice())
+}
+
+// What bytes come to that are not too large, but for the limits of the object.
+fn draft_of(
+    tables: &Tables,
+    alloc: Global,
+    writer: &Writer<'_>,
+    bytes: &Bytes,
+) -> Result<Draft, Refusal>
+    requires content { IsContent (content_in tables.now) }
+    requires author { IsAuthor (content_in tables.now) writer.now }
+    requires short { length bytes.now ≤ WRITE_LIMIT }
+    ensures ok { IfOk result (λ d. IsDrafted (content_in tables.now) (author_of writer.now) writer.now.kind bytes.now d) }
+    ensures err { IfErr result (λ r. FailsLate (checking.parsed (words.write_text bytes.now) (checks_by (content_in tables.now) (author_of writer.now) writer.now.kind)) r) }
+{
+    let text = match read(alloc, bytes) {
+        Err(refusal) => return Err(refusal),
+        Ok(text) => text,
+    };
+    let has_lines = !text.lines().is_empty();
+    let kind = match kind_of(tables, alloc, writer, text) {
+        Err(refusal) => return Err(refusal),
+        Ok(kind) => kind,
+    };
+    Ok(Draft {
+        object: writer.object.number(),
+        kind,
+        has_lines,
+    })
+}
+
+/// What a write comes to that no check refuses, but for the limits of its object.
+pub(crate) fn drafted(
+    tables: &Tables,
+    alloc: Global,
+    conn: Conn,
+    handle: Handle,
+    bytes: &Bytes,
+) -> Result<Draft, Refusal>
+    requires content { IsContent (content_in tables.now) }
+    requires bound { IsBound (content_in tables.now) }
+    ensures ok { IfOk result (λ d. IsDraft (content_in tables.now) conn handle bytes.now d) }
+    ensures err { IfErr result (λ r. Fails (all_request_checks (content_in tables.now) conn (Write handle bytes.now)) r) }
+{
+    let writer = match writer_of(tables, conn, handle, bytes) {
+        Err(refusal) => return Err(refusal),
+        Ok(writer) => writer,
+    };
+    draft_of(tables, alloc, &writer, bytes)
+}

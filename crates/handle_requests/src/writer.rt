@@ -1,0 +1,55 @@
+//! Who writes, and to what.
+ghost use Rattle.std.specs.Prelude.{◌≡◌, Some, IfOk, IfErr, IsSomeAnd};
+ghost use Rattle.pps_types.specs.declared.event.Request.TheVariants.{Write};
+ghost use Rattle.pps_types.specs.Content as content;
+ghost use Rattle.pps_types.specs.Checks as checking;
+ghost use Rattle.service_laws.specs.Bounds.{IsBound};
+ghost use Rattle.service_state.specs.Tables.{content_in};
+ghost use Rattle.handle_requests.specs.Writes.{IsWriter};
+
+use crate::own::own_handle;
+use attr_text::WRITE_LIMIT;
+use name_table::NamedObject;
+use pps_types::{Bytes, Conn, Handle, HandleKind, ObjId, Refusal};
+use service_state::Tables;
+
+/// An open handle that writes, and the alive object that it is on.
+#[derive(Drop)]
+pub(crate) struct Writer<'a> {
+    pub(crate) handle: Handle,
+    pub(crate) kind: HandleKind,
+    /// The name that the handle was opened under.
+    pub(crate) name: &'a [u8],
+    pub(crate) object: &'a NamedObject,
+}
+
+/// The connection's own handle, where it may write so many bytes, and its object is alive.
+pub(crate) fn writer_of<'a>(
+    tables: &'a Tables,
+    conn: Conn,
+    handle: Handle,
+    bytes: &Bytes,
+) -> Result<Writer<'a>, Refusal>
+    requires { IsBound (content_in tables.now) }
+    ensures ok { IfOk result (λ w. IsSomeAnd (content.own_handle (content_in tables.now) conn handle) (IsWriter (content_in tables.now) bytes.now w)) }
+    ensures err { IfErr result (λ r. checking.first_refusal (checking.request_checks (content_in tables.now) conn (Write handle bytes.now)) ≡ Some r) }
+{
+    let Some(own) = own_handle(tables, conn, handle) else {
+        return Err(Refusal::BadHandle);
+    };
+    if !own.writes() {
+        return Err(Refusal::BadMode);
+    }
+    if bytes.len() > WRITE_LIMIT {
+        return Err(Refusal::TooLarge);
+    }
+    let Some(object) = tables.names().object(ObjId::new(own.target())) else {
+        return Err(Refusal::Gone);
+    };
+    Ok(Writer {
+        handle,
+        kind: own.kind(),
+        name: tables.handles().name_of(own.found()),
+        object,
+    })
+}

@@ -1,4 +1,0 @@
-pub mod Persistent
-pub mod Unique
-pub mod Apart
-pub mod Saved

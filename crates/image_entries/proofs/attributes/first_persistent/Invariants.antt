@@ -1,7 +1,0 @@
-use Rattle.std.proofs.Common.{◌≡◌, drop}
-use Rattle.pps_types.specs.History.{persistent}
-use Rattle.image_entries.proofs.attributes.first_persistent.Given as goal
-
--- none was persistent so far
-abbrev pub invariant-loop-index : goal.invariant-loop-index
-invariant-loop-index l = persistent (drop l.index l.object.attributes) ≡ persistent (drop l.fn.place l.object.attributes)

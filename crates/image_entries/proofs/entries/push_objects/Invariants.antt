@@ -1,7 +1,0 @@
-use Rattle.std.proofs.Common.{◌≡◌, ◌++◌}
-use Rattle.image_entries.specs.Entries.{saved_objects}
-use Rattle.image_entries.proofs.entries.push_objects.Given as goal
-
--- those that were pushed, and those still to come
-abbrev pub invariant-loop-object : goal.invariant-loop-object
-invariant-loop-object l = l.entries.items ++ saved_objects l.object-iterator ≡ l.initial.entries.items ++ saved_objects l.fn.objects

@@ -1,0 +1,16 @@
+-- The attributes that an image saves, as they are lent.
+use Rattle.std.specs.Prelude.{ℕ, List, [], Option, Some, None, map, drop}
+use Rattle.pps_types.specs.History.{persistent}
+use Rattle.pps_types.specs.Image.{SavedLine, saved_line}
+use Rattle.object_state.specs.Held.{Held}
+use Rattle.pps_engine.specs.declared.saved_attributes.SavedAttribute.{SavedAttribute}
+use Rattle.std.specs.Borrow.{Bor}
+
+-- an attribute that is lent, as the line that is saved
+abbrev pub as_saved : SavedAttribute → SavedLine
+as_saved a = record { name = a.name.now; enc = a.enc.now; value = a.value.now }
+
+-- the persistent attributes of an object from a place on, and none of no object
+abbrev pub saved_from : Option (Bor Held) → ℕ → List SavedLine
+saved_from None place = []
+saved_from (Some o) place = map saved_line (persistent (drop place o.now.attributes))

@@ -1,0 +1,64 @@
+//! All that an image saves.
+ghost use Rattle.std.specs.Prelude.{◌≡◌, ◌++◌, IfOk, OnOk};
+ghost use Rattle.pps_types.specs.Content.{Content};
+ghost use Rattle.pps_types.specs.Image as image;
+ghost use Rattle.pps_types.specs.WellFormed.{IsContent};
+ghost use Rattle.name_table.specs.Standing.{known_of, standing_of, standing_in};
+ghost use Rattle.pps_engine.specs.Entries.{saved_directories, saved_objects};
+
+use crate::order::path_order;
+use crate::saved_entry::SavedEntry;
+use name_table::{NamedDirectory, NamedObject, Names};
+use number_table::Iter;
+use std::alloc::{AllocError, Global};
+
+// Pushes the directories but the root.
+fn push_directories<'a>(
+    entries: &mut Vec<SavedEntry<'a>>,
+    directories: Iter<'a, NamedDirectory>,
+) -> Result<(), AllocError>
+    ensures { OnOk result (entries.new.items ≡ entries.old.items ++ saved_directories directories.entry) }
+{
+    for directory in directories {
+        if !directory.path().is_empty() {
+            entries.push(SavedEntry::of_directory(directory))?;
+        }
+    }
+    Ok(())
+}
+
+// Whether an image keeps an object: it is persistent and plain.
+fn is_kept(object: &NamedObject) -> bool
+    ensures { result ≡ image.is_kept (known_of object.now) }
+{
+    !object.is_nopersist() && object.server().is_none()
+}
+
+// Pushes the objects that are kept.
+fn push_objects<'a>(
+    entries: &mut Vec<SavedEntry<'a>>,
+    objects: Iter<'a, NamedObject>,
+) -> Result<(), AllocError>
+    ensures { OnOk result (entries.new.items ≡ entries.old.items ++ saved_objects objects.entry) }
+{
+    for object in objects {
+        if is_kept(object) {
+            entries.push(SavedEntry::of_object(object))?;
+        }
+    }
+    Ok(())
+}
+
+/// What an image of a service saves: the directories other than the root and the persistent plain objects, in the order of
+/// their paths, as the names of the service lend them.
+///
+/// It costs n log n for n entries, and takes the memory of one list of them.
+pub fn saved_entries(alloc: Global, names: &Names) -> Result<Vec<SavedEntry<'_>>, AllocError>
+    ensures { IfOk result (λ entries. (c : Content) → IsContent c → standing_in c ≡ standing_of names.now → entries.items ≡ image.saved c) }
+{
+    let mut entries = Vec::new(alloc);
+    push_directories(&mut entries, names.directories())?;
+    push_objects(&mut entries, names.objects())?;
+    entries.sort_by(|one, other| path_order(one.path(), other.path()))?;
+    Ok(entries)
+}

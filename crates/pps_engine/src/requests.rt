@@ -1,0 +1,241 @@
+//! What a connection asks, each request by the crate that knows it.
+ghost use Rattle.std.specs.Prelude.{◌≡◌, IfOk, IfErr};
+ghost use Rattle.pps_types.specs.declared.event.Request.TheVariants.{Detach, Open, Read, Write, Close, Unlink, Mkdir, List as ListRequest, Receive};
+ghost use Rattle.pps_types.specs.WellFormed.{IsContent};
+ghost use Rattle.service_laws.specs.Bounds.{IsBound};
+ghost use Rattle.service_state.specs.Tables.{content_in};
+ghost use Rattle.handle_requests.specs.Notices.{notify_of};
+ghost use Rattle.pps_engine.specs.Events.{IsAsked, IsRefusedTo};
+ghost use Rattle.pps_engine.specs.EventTold.{number_opened};
+
+use crate::doing::Doing;
+use crate::done::{Done, boxed};
+use engine_targets::Pulse;
+use handle_requests::{Closing, numbers_are_within};
+use path_requests::{Opens, Unlinked};
+use pps_types::{Action, Bytes, Conn, Handle, Mode, Outcome, Refusal};
+use service_laws::events_are_settled;
+use service_state::Tables;
+use std::alloc::Global;
+
+/// A connection leaves.
+pub(crate) fn detach(tables: &mut Tables, alloc: Global, conn: Conn) -> Result<Done, Refusal>
+    requires { IsContent (content_in tables.old) }
+    ensures content { content_in tables.new ≡ content_in tables.old }
+    ensures ok { IfOk result (λ d. IsAsked (content_in tables.old) conn Detach tables.new d) }
+    ensures err { IfErr result (λ r. IsRefusedTo (content_in tables.old) conn Detach r) }
+{
+    let beginning = handle_requests::detach(tables, alloc, conn)?;
+    Ok(Done {
+        reply: Outcome::Done,
+        doing: Doing::Leaves { beginning, conn },
+    })
+}
+
+/// A handle closes.
+pub(crate) fn close(
+    tables: &mut Tables,
+    alloc: Global,
+    conn: Conn,
+    handle: Handle,
+) -> Result<Done, Refusal>
+    requires { IsContent (content_in tables.old) }
+    ensures content { content_in tables.new ≡ content_in tables.old }
+    ensures ok { IfOk result (λ d. IsAsked (content_in tables.old) conn (Close handle) tables.new d) }
+    ensures err { IfErr result (λ r. IsRefusedTo (content_in tables.old) conn (Close handle) r) }
+{
+    let doing = match handle_requests::close(tables, alloc, conn, handle)? {
+        Closing::Alone { is_parked } => Doing::Closes {
+            conn,
+            handle,
+            is_parked,
+        },
+        Closing::Telling(beginning) => Doing::Begins(beginning),
+    };
+    Ok(Done {
+        reply: Outcome::Done,
+        doing,
+    })
+}
+
+// The number of the handle that opens.
+fn handle_opened(opens: &Opens) -> Handle
+    ensures { result ≡ number_opened opens.now }
+{
+    match opens {
+        Opens::OnFound { opening, .. } => opening.number,
+        Opens::Creating { opening, .. } => opening.number,
+        Opens::Replacing { opening, .. } => opening.number,
+    }
+}
+
+/// A handle opens, with the next number.
+pub(crate) fn open(
+    tables: &mut Tables,
+    alloc: Global,
+    conn: Conn,
+    mode: Mode,
+    text: &Bytes,
+) -> Result<Done, Refusal>
+    requires { IsContent (content_in tables.old) }
+    ensures content { content_in tables.new ≡ content_in tables.old }
+    ensures ok { IfOk result (λ d. IsAsked (content_in tables.old) conn (Open mode text.now) tables.new d) }
+    ensures err { IfErr result (λ r. IsRefusedTo (content_in tables.old) conn (Open mode text.now) r) }
+{
+    let opens = path_requests::open(tables, alloc, conn, mode, text)?;
+    let reply = Outcome::Opened(handle_opened(&opens));
+    Ok(Done {
+        reply,
+        doing: Doing::Opens(boxed(alloc, opens)?),
+    })
+}
+
+/// A handle is read.
+pub(crate) fn read(
+    tables: &mut Tables,
+    alloc: Global,
+    conn: Conn,
+    handle: Handle,
+    size: u32,
+) -> Result<Done, Refusal>
+    requires content { IsContent (content_in tables.old) }
+    requires bound { IsBound (content_in tables.old) }
+    ensures content { content_in tables.new ≡ content_in tables.old }
+    ensures ok { IfOk result (λ d. IsAsked (content_in tables.old) conn (Read handle size) tables.new d) }
+    ensures err { IfErr result (λ r. IsRefusedTo (content_in tables.old) conn (Read handle size) r) }
+{
+    events_are_settled();
+    numbers_are_within(tables);
+    let done = handle_requests::read(tables, alloc, conn, handle, size)?;
+    Ok(Done {
+        reply: done.reply,
+        doing: Doing::Reads {
+            conn,
+            handle,
+            effect: done.effect,
+        },
+    })
+}
+
+/// A handle is written to.
+pub(crate) fn write(
+    tables: &mut Tables,
+    alloc: Global,
+    conn: Conn,
+    handle: Handle,
+    bytes: &Bytes,
+) -> Result<Done, Refusal>
+    requires content { IsContent (content_in tables.old) }
+    requires bound { IsBound (content_in tables.old) }
+    ensures content { content_in tables.new ≡ content_in tables.old }
+    ensures ok { IfOk result (λ d. IsAsked (content_in tables.old) conn (Write handle bytes.now) tables.new d) }
+    ensures err { IfErr result (λ r. IsRefusedTo (content_in tables.old) conn (Write handle bytes.now) r) }
+{
+    let written = handle_requests::write(tables, alloc, conn, handle, bytes)?;
+    Ok(Done {
+        reply: written.reply,
+        doing: Doing::Begins(written.beginning),
+    })
+}
+
+/// What a path names is deleted.
+pub(crate) fn unlink(
+    tables: &mut Tables,
+    alloc: Global,
+    conn: Conn,
+    path: &Bytes,
+) -> Result<Done, Refusal>
+    requires { IsContent (content_in tables.old) }
+    ensures content { content_in tables.new ≡ content_in tables.old }
+    ensures ok { IfOk result (λ d. IsAsked (content_in tables.old) conn (Unlink path.now) tables.new d) }
+    ensures err { IfErr result (λ r. IsRefusedTo (content_in tables.old) conn (Unlink path.now) r) }
+{
+    let doing = match path_requests::unlink(tables, alloc, conn, path)? {
+        Unlinked::Object(beginning) => Doing::Begins(beginning),
+        Unlinked::Directory(directory) => Doing::Removes(directory),
+    };
+    Ok(Done {
+        reply: Outcome::Done,
+        doing,
+    })
+}
+
+/// A directory is made.
+pub(crate) fn make_directory(
+    tables: &mut Tables,
+    alloc: Global,
+    conn: Conn,
+    path: &Bytes,
+) -> Result<Done, Refusal>
+    requires { IsContent (content_in tables.old) }
+    ensures content { content_in tables.new ≡ content_in tables.old }
+    ensures ok { IfOk result (λ d. IsAsked (content_in tables.old) conn (Mkdir path.now) tables.new d) }
+    ensures err { IfErr result (λ r. IsRefusedTo (content_in tables.old) conn (Mkdir path.now) r) }
+{
+    let names = path_requests::make_directory(tables, alloc, conn, path)?;
+    Ok(Done {
+        reply: Outcome::Done,
+        doing: Doing::Makes(names),
+    })
+}
+
+/// A directory's members are listed.
+pub(crate) fn list(
+    tables: &Tables,
+    alloc: Global,
+    conn: Conn,
+    path: &Bytes,
+) -> Result<Done, Refusal>
+    requires { IsContent (content_in tables.now) }
+    ensures ok { IfOk result (λ d. IsAsked (content_in tables.now) conn (ListRequest path.now) tables.now d) }
+    ensures err { IfErr result (λ r. IsRefusedTo (content_in tables.now) conn (ListRequest path.now) r) }
+{
+    events_are_settled();
+    numbers_are_within(tables);
+    let reply = path_requests::list(tables, alloc, conn, path)?;
+    Ok(Done {
+        reply,
+        doing: Doing::Nothing,
+    })
+}
+
+/// A handle is asked for notices.
+pub(crate) fn notify(
+    tables: &mut Tables,
+    conn: Conn,
+    handle: Handle,
+    action: Action,
+    pulse: Pulse,
+) -> Result<Done, Refusal>
+    requires { IsContent (content_in tables.old) }
+    ensures content { content_in tables.new ≡ content_in tables.old }
+    ensures ok { IfOk result (λ d. IsAsked (content_in tables.old) conn (notify_of handle action pulse) tables.new d) }
+    ensures err { IfErr result (λ r. IsRefusedTo (content_in tables.old) conn (notify_of handle action pulse) r) }
+{
+    events_are_settled();
+    numbers_are_within(tables);
+    let notified = handle_requests::notify(tables, conn, handle, action, pulse)?;
+    Ok(Done {
+        reply: Outcome::Input(notified.news),
+        doing: Doing::Arms {
+            conn,
+            handle,
+            pulse: notified.pulse,
+        },
+    })
+}
+
+/// What is queued first for a connection is received.
+pub(crate) fn receive(tables: &Tables, conn: Conn) -> Result<Done, Refusal>
+    ensures ok { IfOk result (λ d. IsAsked (content_in tables.now) conn Receive tables.now d) }
+    ensures err { IfErr result (λ r. IsRefusedTo (content_in tables.now) conn Receive r) }
+{
+    events_are_settled();
+    numbers_are_within(tables);
+    let reply = handle_requests::receive(tables, conn)?;
+    let doing = match &reply {
+        Outcome::Item(_) => Doing::Takes(conn),
+        _ => Doing::Nothing,
+    };
+    Ok(Done { reply, doing })
+}

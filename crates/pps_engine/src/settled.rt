@@ -1,0 +1,92 @@
+//! What follows from what an event does, by the records that it tells and the handles that it closes.
+ghost use Rattle.std.specs.Prelude.{◌≡◌, true, IfOk, OnErr};
+ghost use Rattle.pps_types.specs.WellFormed.{IsContent};
+ghost use Rattle.service_state.specs.Beginning.{entries_in};
+ghost use Rattle.service_state.specs.Tables.{content_in};
+ghost use Rattle.pps_engine.specs.EventTold.{closes_in, entries_opened, closes_opened, entries_of, closes_of, takes_memory, IsSettled};
+
+use crate::doing::Doing;
+use crate::settling::settle;
+use handle_requests::entries_in;
+use path_requests::Opens;
+use pps_types::Handle;
+use service_laws::{events_are_settled, moves_are_settled};
+use service_state::{Beginning, Tables};
+use std::alloc::{AllocError, Global};
+use whole_texts::Following;
+
+// The handles that close as an event begins.
+fn handles_of(alloc: Global, beginning: &[Beginning]) -> Result<Vec<Handle>, AllocError>
+    ensures { IfOk result (λ handles. handles.items ≡ closes_in beginning.now) }
+{
+    let mut handles = Vec::new(alloc);
+    'beginning: for each in beginning {
+        if let Beginning::Closes { handle, .. } = each {
+            handles.push(*handle)?;
+        }
+    }
+    Ok(handles)
+}
+
+// What follows from the steps that an event begins with.
+fn settled_begun(
+    tables: &Tables,
+    alloc: Global,
+    beginning: &[Beginning],
+) -> Result<Vec<Following>, AllocError>
+    requires { IsContent (content_in tables.now) }
+    ensures { IfOk result (λ following. IsSettled (content_in tables.now) (entries_in beginning.now) (closes_in beginning.now) following.items) }
+{
+    if let [Beginning::AppendsRecord(told)] = beginning {
+        return settle(tables, alloc, std::slice::from_ref(told.entry()), &[]);
+    }
+    let entries = entries_in(alloc, beginning)?;
+    let closing = handles_of(alloc, beginning)?;
+    settle(tables, alloc, &entries, &closing)
+}
+
+// What follows from an open.
+fn settled_opens(
+    tables: &Tables,
+    alloc: Global,
+    opens: &Opens,
+) -> Result<Vec<Following>, AllocError>
+    requires { IsContent (content_in tables.now) }
+    ensures { IfOk result (λ following. IsSettled (content_in tables.now) (entries_opened opens.now) (closes_opened opens.now) following.items) }
+{
+    match opens {
+        Opens::OnFound { beginning, .. } => settled_begun(tables, alloc, beginning),
+        Opens::Creating { object, .. } => {
+            let entries = std::slice::from_ref(object.creation.entry());
+            settle(tables, alloc, entries, &[])
+        }
+        Opens::Replacing { replacement, .. } => {
+            let mut entries = Vec::new(alloc);
+            entries.push(replacement.deletion.entry().share()?)?;
+            entries.push(replacement.creation.entry().share()?)?;
+            settle(tables, alloc, &entries, &[])
+        }
+    }
+}
+
+/// What follows from what an event does. Where no record is told nothing follows.
+///
+/// AllocError comes only where memory is wanting, and only where records are told.
+pub(crate) fn settled(
+    tables: &Tables,
+    alloc: Global,
+    doing: &Doing,
+) -> Result<Vec<Following>, AllocError>
+    requires { IsContent (content_in tables.now) }
+    ensures ok { IfOk result (λ following. IsSettled (content_in tables.now) (entries_of doing.now) (closes_of doing.now) following.items) }
+    ensures lacking { OnErr result (takes_memory doing.now ≡ true) }
+{
+    events_are_settled();
+    moves_are_settled();
+    match doing {
+        Doing::Begins(beginning) => settled_begun(tables, alloc, beginning),
+        Doing::Leaves { beginning, .. } => settled_begun(tables, alloc, beginning),
+        Doing::Opens(opens) => settled_opens(tables, alloc, opens),
+        _ => Ok(Vec::new(alloc)),
+    }
+}

@@ -1,0 +1,10 @@
+use Rattle.std.proofs.Common.{◌≡◌, length}
+use Rattle.pps_script.specs.Escapes as escapes
+use Rattle.pps_script.proofs.Unescaping.{before}
+use Rattle.pps_script.proofs.escapes.read_escaped.Given as goal
+
+abbrev pub invariant-escapes : goal.invariant-escapes
+invariant-escapes l = before l.bytes.items (escapes.unescaped l.rest) ≡ escapes.unescaped l.text
+
+abbrev pub decreases-escapes : goal.decreases-escapes
+decreases-escapes l = length l.rest

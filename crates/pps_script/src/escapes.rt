@@ -1,0 +1,77 @@
+//! Bytes as scripts and answers write them: with escapes, which begin with a backslash.
+ghost use Rattle.std.specs.Prelude.{◌≡◌, ◌<◌, ◌++◌, IfOk, IfSome, OnOk, option_map};
+ghost use Rattle.pps_script.specs.Escapes as escapes;
+
+use crate::chunks::{ROOM, write_piece};
+use pps_types::{Bytes, split_at_first};
+use std::alloc::{AllocError, Global};
+
+/// Pushes the bytes as answers show them.
+pub(crate) fn push_escaped(out: &mut Vec<u8>, bytes: &[u8]) -> Result<(), AllocError>
+    ensures { OnOk result (out.new.items ≡ out.old.items ++ escapes.escaped bytes.now) }
+{
+    out.reserve(bytes.len())?;
+    let mut text = [0u8; ROOM];
+    let mut rest = bytes;
+    'pieces: while !rest.is_empty() {
+        let (taken, end) = write_piece(&mut text, rest);
+        out.extend_from_slice(&text[..end])?;
+        rest = &rest[taken..];
+    }
+    Ok(())
+}
+
+// The number that a digit stands for, in capitals or not.
+fn hex_value(digit: u8) -> Option<u8>
+    ensures value { result ≡ escapes.hex_value digit }
+    ensures small { IfSome result (λ number. number < 16) }
+{
+    match digit {
+        b'0'..=b'9' => Some(digit - b'0'),
+        b'a'..=b'f' => Some(digit - b'a' + 10),
+        b'A'..=b'F' => Some(digit - b'A' + 10),
+        _ => None,
+    }
+}
+
+// The byte of two digits.
+fn hex_byte(high: u8, low: u8) -> Option<u8>
+    ensures { result ≡ escapes.hex_byte high low }
+{
+    let high = hex_value(high)?;
+    let low = hex_value(low)?;
+    Some(16 * high + low)
+}
+
+// The byte of an escape, behind its backslash, and what stands behind it.
+fn read_escape(text: &[u8]) -> Option<(u8, &[u8])>
+    ensures { option_map (λ parts. (parts.0, parts.1.now)) result ≡ escapes.escape_of text.now }
+{
+    match text {
+        [b'n', behind @ ..] => Some((b'\n', behind)),
+        [b'\\', behind @ ..] => Some((b'\\', behind)),
+        [b'x', high, low, behind @ ..] => {
+            let byte = hex_byte(*high, *low)?;
+            Some((byte, behind))
+        }
+        _ => None,
+    }
+}
+
+/// Reads bytes as scripts write them. `None` says that an escape is malformed.
+pub(crate) fn read_escaped(alloc: Global, text: &[u8]) -> Result<Option<Bytes>, AllocError>
+    ensures { IfOk result (λ read. read ≡ escapes.unescaped text.now) }
+{
+    let mut bytes = Vec::with_capacity(alloc, text.len())?;
+    let mut rest = text;
+    'escapes: while let Some((plain, escape)) = split_at_first(b'\\', rest) {
+        bytes.extend_from_slice(plain)?;
+        let Some((byte, behind)) = read_escape(escape) else {
+            return Ok(None);
+        };
+        bytes.push(byte)?;
+        rest = behind;
+    }
+    bytes.extend_from_slice(rest)?;
+    Ok(Some(Bytes::new(bytes)))
+}

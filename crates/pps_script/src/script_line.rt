@@ -1,0 +1,58 @@
+//! Lines of scripts.
+ghost use Rattle.std.specs.Prelude.{◌≡◌, IfOk, ◌||◌};
+ghost use Rattle.pps_types.specs.Bytes.{is_empty, starts_with};
+ghost use Rattle.pps_script.specs.ScriptLines as script;
+
+use crate::commands::read_request;
+use crate::words::{first_word, read_conn};
+use pps_types::Event;
+use std::alloc::{AllocError, Global};
+
+/// What a line of a script says.
+#[derive(Debug, PartialEq, Eq, Drop)]
+pub enum ScriptLine {
+    /// It is empty, or a comment.
+    Nothing,
+    Command(Event),
+}
+
+fn says_nothing(line: &[u8]) -> bool
+    ensures { result ≡ (is_empty line.now || starts_with 35 line.now) }
+{
+    match line {
+        [] => true,
+        [first, ..] => *first == b'#',
+    }
+}
+
+// A connection, a space and what is asked for.
+fn read_command(alloc: Global, line: &[u8]) -> Result<Option<Event>, AllocError>
+    ensures { IfOk result (λ read. read ≡ script.command line.now) }
+{
+    let Some((conn, behind)) = first_word(line) else {
+        return Ok(None);
+    };
+    let Some(conn) = read_conn(conn) else {
+        return Ok(None);
+    };
+    let Some(request) = read_request(alloc, behind)? else {
+        return Ok(None);
+    };
+    Ok(Some(Event { conn, request }))
+}
+
+/// Reads a line of a script, without its line feed. `None` says that it is a bad script line.
+///
+/// A line that is empty, or whose first byte is `#`, says nothing. Any other is `N command ..`, its words separated by
+/// exactly one space; N is the connection, 0 to 65535. Numbers have no leading zeros.
+pub fn read_line(alloc: Global, line: &[u8]) -> Result<Option<ScriptLine>, AllocError>
+    ensures { IfOk result (λ read. read ≡ script.line_of line.now) }
+{
+    if says_nothing(line) {
+        return Ok(Some(ScriptLine::Nothing));
+    }
+    let Some(event) = read_command(alloc, line)? else {
+        return Ok(None);
+    };
+    Ok(Some(ScriptLine::Command(event)))
+}

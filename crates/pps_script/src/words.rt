@@ -1,0 +1,92 @@
+//! The words of a line.
+ghost use Rattle.std.specs.Prelude.{◌≡◌, ◌≤◌, IfSome, option_map};
+ghost use Rattle.pps_script.specs.ScriptLines as script;
+
+use pps_types::{Action, Conn, Handle, Mode, number_up_to, split_at_first};
+
+/// The most digits of a number.
+const DIGITS_MAX: usize = 10;
+
+/// What stands before the first space, and what stands behind it.
+pub(crate) fn first_word(text: &[u8]) -> Option<(&[u8], &[u8])>
+    ensures { option_map (λ parts. (parts.0.now, parts.1.now)) result ≡ script.first_word text.now }
+{
+    split_at_first(b' ', text)
+}
+
+// A number up to that size in decimal, without leading zeros.
+fn read_number(most: u32, word: &[u8]) -> Option<u32>
+    ensures value { result ≡ script.number_to most word.now }
+    ensures small { IfSome result (λ number. number ≤ most) }
+{
+    if word == b"0".as_slice() {
+        return Some(0);
+    }
+    number_up_to(DIGITS_MAX, most, word)
+}
+
+/// The number of a connection.
+pub(crate) fn read_conn(word: &[u8]) -> Option<Conn>
+    ensures { result ≡ script.conn_of word.now }
+{
+    let number = read_number(65_535, word)?;
+    Some(Conn::new(number as u16))
+}
+
+/// A size or a value.
+pub(crate) fn read_field(word: &[u8]) -> Option<u32>
+    ensures { result ≡ script.field_of word.now }
+{
+    read_number(u32::MAX, word)
+}
+
+pub(crate) fn read_handle(word: &[u8]) -> Option<Handle>
+    ensures { result ≡ script.field_of word.now }
+{
+    let number = read_number(u32::MAX, word)?;
+    Some(Handle::new(number))
+}
+
+/// The code of a pulse.
+pub(crate) fn read_code(word: &[u8]) -> Option<u8>
+    ensures { result ≡ script.code_of word.now }
+{
+    let number = read_number(255, word)?;
+    Some(number as u8)
+}
+
+/// What a Notify asks for.
+pub(crate) fn read_action(word: &[u8]) -> Option<Action>
+    ensures { result ≡ script.action_of word.now }
+{
+    match word {
+        b"poll" => Some(Action::Poll),
+        b"pollarm" => Some(Action::Pollarm),
+        b"tranarm" => Some(Action::Tranarm),
+        _ => None,
+    }
+}
+
+// Whether a letter stands first, and what stands behind it.
+fn letter(wanted: u8, letters: &[u8]) -> (bool, &[u8])
+    ensures { (result.0, result.1.now) ≡ script.letter wanted letters.now }
+{
+    match letters {
+        [first, rest @ ..] if *first == wanted => (true, rest),
+        _ => (false, letters),
+    }
+}
+
+/// A mode: one or more of `r`, `w`, `c` and `t`, in this order.
+pub(crate) fn read_mode(word: &[u8]) -> Option<Mode>
+    ensures { result ≡ script.mode_of word.now }
+{
+    let (r, behind_r) = letter(b'r', word);
+    let (w, behind_w) = letter(b'w', behind_r);
+    let (c, behind_c) = letter(b'c', behind_w);
+    let (t, behind_t) = letter(b't', behind_c);
+    if word.is_empty() || !behind_t.is_empty() {
+        return None;
+    }
+    Some(Mode { r, w, c, t })
+}

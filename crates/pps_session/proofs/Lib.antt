@@ -1,5 +1,0 @@
-pub mod Lines
-pub mod Names
-pub mod Texts
-pub mod Served
-pub mod Regroup

@@ -1,7 +1,0 @@
-use Rattle.std.proofs.Common.{◌≡◌, take}
-use Rattle.pps_dispatch.specs.History.{joined}
-use Rattle.pps_session.specs.Printed.{history_text}
-use Rattle.pps_session.proofs.history.write_history.Given as goal
-
-abbrev pub invariant-loop-segment : goal.invariant-loop-segment
-invariant-loop-segment g l = l.text.items ≡ history_text (joined (take l.segment-index l.segments))

@@ -1,5 +1,0 @@
-pub mod Scripts
-pub mod Reading
-pub mod Named
-pub mod Printed
-pub mod Serving

@@ -1,5 +1,0 @@
-use Rattle.pps_types.proofs.Refusals.{checks-want-nothing}
-use Rattle.pps_types.proofs.laws_of_runs.checks_want_nothing.Goals as goal
-
-pub returns : goal.returns
-returns c = checks-want-nothing

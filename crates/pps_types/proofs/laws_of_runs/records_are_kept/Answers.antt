@@ -1,5 +1,0 @@
-use Rattle.pps_types.proofs.Kept.{records-shown, longest-length, owed-kept}
-use Rattle.pps_types.proofs.laws_of_runs.records_are_kept.Goals as goal
-
-pub returns : goal.returns
-returns c = record { records = records-shown; count = λ s directory target. longest-length directory target s.handles; owed_are_kept = owed-kept }

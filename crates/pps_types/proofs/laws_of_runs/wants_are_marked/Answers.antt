@@ -1,5 +1,0 @@
-use Rattle.pps_types.proofs.Wants.{unmarked, unmarked-seen, just-marked, just-marked-seen}
-use Rattle.pps_types.proofs.laws_of_runs.wants_are_marked.Goals as goal
-
-pub returns : goal.returns
-returns c = record { unmarked = unmarked; unmarked_seen = unmarked-seen; just = just-marked; just_seen = just-marked-seen }

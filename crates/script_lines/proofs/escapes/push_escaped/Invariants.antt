@@ -1,9 +1,0 @@
-use Rattle.std.proofs.Common.{◌≡◌, ◌++◌, length}
-use Rattle.script_lines.specs.Escapes as escapes
-use Rattle.script_lines.proofs.escapes.push_escaped.Given as goal
-
-abbrev pub invariant-pieces : goal.invariant-pieces
-invariant-pieces l = l.out.items ++ escapes.escaped l.rest ≡ l.initial.out.items ++ escapes.escaped l.bytes
-
-abbrev pub decreases-pieces : goal.decreases-pieces
-decreases-pieces l = length l.rest

@@ -1,5 +1,0 @@
-use Rattle.script_lines.proofs.Visible.{answers-visible}
-use Rattle.script_lines.proofs.laws.answers_are_lines.Goals as goal
-
-pub returns : goal.returns
-returns c = answers-visible

@@ -1,5 +1,0 @@
-use Rattle.script_lines.proofs.Spellings.{commands-read}
-use Rattle.script_lines.proofs.laws.commands_are_read.Goals as goal
-
-pub returns : goal.returns
-returns c = commands-read

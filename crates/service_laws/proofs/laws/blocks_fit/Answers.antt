@@ -1,0 +1,5 @@
+use Rattle.service_laws.proofs.BasicLaws.{fitting-longest}
+use Rattle.service_laws.proofs.laws.blocks_fit.Goals as goal
+
+pub returns : goal.returns
+returns c = fitting-longest

@@ -1,0 +1,16 @@
+pub mod PlanLaws
+pub mod Laws
+pub mod FrameLaws
+pub mod ReadLaws
+pub mod RunLaws
+pub mod TextLaws
+pub mod Bounds
+pub mod Fit
+pub mod BoundLaws
+pub mod Told
+pub mod SettlingTargets
+pub mod SettlingReplies
+pub mod Closings
+pub mod Concerned
+pub mod SettlingQueues
+pub mod SettlingLaws

@@ -1,0 +1,116 @@
+-- What moves tell, what they make of one handle by itself, and which handles they wake. Own.
+use Rattle.std.specs.Prelude.{◌≡◌, ℕ, ◌+◌, List, [], ◌∷◌, Bool, true, false, not, ◌&&◌, ◌||◌, ◌==◌, if◌then◌else◌, Option, Some, None, is_some, option_and_then, fold, map}
+use Rattle.std.specs.List.{filter_map, cons_option, list_any}
+use Rattle.pps_types.specs.History.{Entry}
+use Rattle.pps_types.specs.Reading.{Open, reseen, style, visible}
+use Rattle.pps_types.specs.Rests.{Seen}
+use Rattle.pps_types.specs.Content.{Content, news}
+use Rattle.pps_types.specs.WellFormed.{AreRising}
+use Rattle.pps_types.specs.Plan.{Move, Creates, AppendsRecord, Opens, Closes, CatchesUp, Advances, Parks, Arms, creation, offered, offer, caught_up, left, first_seen}
+
+-- ---- records
+
+-- the record that a move tells
+abbrev pub entry_told : Move → Option Entry
+entry_told (Creates o) = Some (creation o)
+entry_told (AppendsRecord e) = Some e
+entry_told _ = None
+
+-- the records that moves tell, in order
+abbrev pub entries_told : List Move → List Entry
+entries_told ms = filter_map entry_told ms
+
+-- ---- handles
+
+-- what a move makes of a handle: none where it closes it
+abbrev pub handle_by : Move → Open Seen → Option (Open Seen)
+handle_by (Creates o) h = Some (offer (creation o) h)
+handle_by (AppendsRecord e) h = Some (offer e h)
+handle_by (Closes number) h = if h.number == number then None else Some h
+handle_by (CatchesUp number) h = Some (if h.number == number then reseen caught_up h else h)
+handle_by (Advances number count) h = Some (if h.number == number then reseen (λ h. left h count h.seen) h else h)
+handle_by (Parks number size) h = Some (if h.number == number then record h { parked = size } else h)
+handle_by (Arms number pulse) h = Some (if h.number == number then record h { armed = pulse } else h)
+handle_by _ h = Some h
+
+-- what moves make of it, one after the other
+abbrev pub handle_after : List Move → Open Seen → Option (Open Seen)
+handle_after [] h = Some h
+handle_after (x ∷ xs) h = option_and_then (handle_after xs) (handle_by x h)
+
+-- the handle that a move opens
+abbrev pub opened_by : Move → Option (Open Seen)
+opened_by (Opens h) = Some (reseen (λ h. first_seen h (style h.kind)) h)
+opened_by _ = None
+
+-- the handles that moves open, each as the moves behind leave it
+abbrev pub handles_opened : List Move → List (Open Seen)
+handles_opened [] = []
+handles_opened (x ∷ xs) = cons_option (option_and_then (handle_after xs) (opened_by x)) (handles_opened xs)
+
+-- ---- numbers of handles
+
+-- the handles stand in rising number, as they do where what stands is well formed
+abbrev pub HandlesRise : Content → Type 0
+HandlesRise c = AreRising 0 (map (λ h. h.number) c.handles) c.next_handle
+
+-- the handle, if there is one, has the next number
+abbrev pub IsNumbered : ℕ → Option (Open Seen) → Type 0
+IsNumbered next None = Unit {0}
+IsNumbered next (Some h) = h.number ≡ next
+
+-- the next number behind it
+abbrev pub number_after : ℕ → Option (Open Seen) → ℕ
+number_after next None = next
+number_after next (Some h) = next + 1
+
+-- each handle that moves open has the next number
+abbrev pub AreNumbered : ℕ → List Move → Type 0
+AreNumbered next [] = Unit {0}
+AreNumbered next (x ∷ xs) = IsNumbered next (opened_by x) × AreNumbered (number_after next (opened_by x)) xs
+
+-- ---- who is woken
+
+-- it has a read parked or a pulse armed
+abbrev pub is_waiting : Open Seen → Bool
+is_waiting h = is_some h.parked || is_some h.armed
+
+-- it had no news, and sees one of the records
+abbrev pub learns : List Entry → Open Seen → Bool
+learns es h = not (news h) && list_any (visible h) es
+
+-- a move that is of the handle of that number, and so changes or closes it
+abbrev pub names_handle : ℕ → Move → Bool
+names_handle n (Closes number) = n == number
+names_handle n (CatchesUp number) = n == number
+names_handle n (Advances number count) = n == number
+names_handle n (Parks number size) = n == number
+names_handle n (Arms number pulse) = n == number
+names_handle n _ = false
+
+-- a move that closes the handle of that number
+abbrev pub closes_handle : ℕ → Move → Bool
+closes_handle n (Closes number) = n == number
+closes_handle n _ = false
+
+-- It waits, had no news, sees one of the moves' records, and stays open.
+abbrev pub is_woken : List Move → Open Seen → Bool
+is_woken ms h = is_waiting h && learns (entries_told ms) h && not (list_any (closes_handle h.number) ms)
+
+-- a move that changes a handle at most by its record, or by closing it
+abbrev pub only_tells : Move → Bool
+only_tells (CatchesUp number) = false
+only_tells (Advances number count) = false
+only_tells (Parks number size) = false
+only_tells (Arms number pulse) = false
+only_tells _ = true
+
+-- ---- records that are offered
+
+-- what a handle has seen once records were offered to it, one after the other
+abbrev pub seen_after : Open Seen → List Entry → Seen → Seen
+seen_after h es seen = fold (λ s e. offered h e s) seen es
+
+-- the handle once they were
+abbrev pub offer_all : List Entry → Open Seen → Open Seen
+offer_all es h = reseen (λ h. seen_after h es h.seen) h

@@ -1,0 +1,31 @@
+-- The memory for lines that change an object.
+use Rattle.std.specs.Prelude.{◌≡◌, ℕ, List, Bool, true, false, Option, Some, None}
+use Rattle.pps_types.specs.declared.line.Line.{Line}
+use Rattle.pps_types.specs.declared.record.Kind.{Kind}
+use Rattle.pps_types.specs.declared.record.Kind.TheVariants.{Change, Deleted}
+use Rattle.pps_types.specs.History.{Entry}
+use Rattle.name_table.specs.Standing.{Named, lines_ready}
+
+abbrev pub HasLinesFor : Kind → ℕ → Named → Type 0
+HasLinesFor (Change lines) number n = lines_ready number n ≡ Some lines
+HasLinesFor _ number n = Unit {0}
+
+-- where a record changes attributes, its lines are ready
+abbrev pub HasLines : Entry → Named → Type 0
+HasLines e n = HasLinesFor e.record_of.kind e.record_of.object n
+
+-- ---- what becomes of its object
+
+abbrev pub deletes : Kind → Bool
+deletes Deleted = true
+deletes _ = false
+
+-- the lines by which it changes attributes, where it does
+abbrev pub change_of : Kind → Option (List Line)
+change_of (Change lines) = Some lines
+change_of _ = None
+
+-- it changes attributes by lines
+abbrev pub is_change : Kind → Bool
+is_change (Change lines) = true
+is_change _ = false

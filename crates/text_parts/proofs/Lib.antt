@@ -1,4 +1,0 @@
-pub mod Cuts
-pub mod Decimals
-pub mod Digits
-pub mod Same

@@ -1,0 +1,70 @@
+-- What a read answers, by what is owed.
+use Rattle.std.specs.Prelude.{◌≡◌, ℕ, ◌^◌, List, [], ◌∷◌, Bool, true, false, ◌==◌, nat_le, nat_lt, if◌then◌else◌, Option, Some, None, filter, map, length}
+use Rattle.pps_types.specs.declared.refusal.Refusal.{Refusal}
+use Rattle.pps_types.specs.declared.refusal.Refusal.TheVariants.{TooSmall, Gone}
+use Rattle.pps_types.specs.Reading as reading
+use Rattle.pps_types.specs.Reading.{Open, block, visible, fitting, whole_answer, idle_answer, owed_answer}
+use Rattle.pps_types.specs.Rests.{Seen, News, Unread, Over, Owed}
+use Rattle.pps_types.specs.Content.{Content, read_answer}
+use Rattle.pps_types.specs.Plan.{Move, CatchesUp, Advances, Parks}
+use Rattle.whole_texts.specs.declared.answer.Answer.{Answer}
+use Rattle.whole_texts.specs.declared.answer.Answer.TheVariants.{Everything, Blocks, Waits, Nothing}
+use Rattle.whole_texts.specs.declared.answer.Fitted.{Fitted}
+use Rattle.whole_texts.specs.declared.answer.Effect.{Effect}
+use Rattle.whole_texts.specs.declared.answer.Effect.TheVariants.{CatchesUp as EffectCatchesUp, Advances as EffectPasses, Parks as EffectParks, Stays}
+use Rattle.whole_texts.specs.Whole.{Source, everything, is_dead, source_of}
+
+-- the answer that it stands for
+abbrev pub meant : Answer → reading.Answer
+meant (Everything text) = reading.Everything text.items
+meant (Blocks count text) = reading.Blocks count text.items
+meant Waits = reading.Waits
+meant Nothing = reading.Nothing
+
+-- the refusal that an answer is told by
+abbrev pub refusal_in : reading.Answer → Option Refusal
+refusal_in (reading.Needs n) = Some (TooSmall n)
+refusal_in reading.TargetGone = Some Gone
+refusal_in a = None
+
+-- there are bytes to give, or a size is needed that is no number of 32 bits
+abbrev pub wants_memory : reading.Answer → Bool
+wants_memory (reading.Everything text) = nat_lt 0 (length text)
+wants_memory (reading.Needs n) = nat_le (2 ^ 32) n
+wants_memory a = false
+
+-- where the blocks that fit are known
+abbrev pub fitted_answer : Bool → Bool → ℕ → List ℕ → reading.Answer
+fitted_answer dead wait count text = if count == 0 then idle_answer dead wait else reading.Blocks count text
+
+-- Everything is to be given, where no fitted blocks are lent.
+abbrev pub answer_by : Source → Bool → ℕ → Option Fitted → reading.Answer
+answer_by w wait max None = whole_answer (everything w) max
+answer_by w wait max (Some g) = fitted_answer (is_dead w) wait g.count g.text.items
+
+-- these are the blocks that fit of a list, of which the first fits
+pub record AreFitting (max : ℕ) (blocks : List (List ℕ)) (g : Fitted) : Type 0 where
+  pub same : (g.count, g.text.items) ≡ fitting max blocks
+  pub fits : refusal_in (owed_answer false blocks false max) ≡ None
+
+-- what a handle that has seen this is owed: everything, or blocks
+abbrev pub Owes : {S : Type 0} → ℕ → Open S → Seen → Option Fitted → Type 0
+Owes max h (News true) owed = owed ≡ None
+Owes max h (News false) None = ⊥
+Owes max h (News false) (Some g) = AreFitting max [] g
+Owes max h Unread owed = owed ≡ None
+Owes max h Over owed = owed ≡ None
+Owes max h (Owed rest) None = ⊥
+Owes max h (Owed rest) (Some g) = AreFitting max (map (block h) (filter (visible h) rest)) g
+
+-- what a read leaves of the handle of that number, as moves
+abbrev pub moves_of : ℕ → Effect → List Move
+moves_of number EffectCatchesUp = CatchesUp number ∷ []
+moves_of number (EffectPasses count) = Advances number count ∷ []
+moves_of number (EffectParks size) = Parks number (Some size) ∷ []
+moves_of number Stays = []
+
+-- the answer to a read of so many bytes is told by what the handle is owed and by its target
+abbrev pub AnswersAreRead : Type 0
+AnswersAreRead = (c : Content) (h : Open Seen) (max : ℕ) (owed : Option Fitted) → Owes max h h.seen owed
+    → read_answer c h max ≡ answer_by (source_of c h) h.wait max owed

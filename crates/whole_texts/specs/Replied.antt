@@ -1,0 +1,35 @@
+-- The late reply to a read that waits.
+use Rattle.std.specs.Prelude.{◌≡◌, ◌≤◌, ℕ, ◌^◌, List, Bool, true, false, ◌||◌, nat_lt, nat_le, if◌then◌else◌, Option, Some, None, filter, length}
+use Rattle.pps_types.specs.History.{Entry}
+use Rattle.pps_types.specs.Reading as reading
+use Rattle.pps_types.specs.Reading.{Open, Member, style, is_full_style, visible, everything_of, whole_answer, owed_answer}
+use Rattle.pps_types.specs.Owed.{is_past_limit}
+use Rattle.engine_targets.specs.Blocks.{blocks_given}
+use Rattle.whole_texts.specs.declared.reply.Reply.{Reply}
+use Rattle.whole_texts.specs.declared.reply.Reply.TheVariants.{Everything, Blocks, TooSmall, Waits, Nothing}
+
+-- the answer that it stands for
+abbrev pub meant : Reply → reading.Answer
+meant (Everything text) = reading.Everything text.items
+meant (Blocks count text) = reading.Blocks count text.items
+meant (TooSmall need) = reading.Needs need
+meant Waits = reading.Waits
+meant Nothing = reading.Nothing
+
+-- there are bytes to give, or a size is needed that is no number of 32 bits
+abbrev pub wants_memory : reading.Answer → Bool
+wants_memory (reading.Everything text) = nat_lt 0 (length text)
+wants_memory (reading.Blocks count text) = true
+wants_memory (reading.Needs n) = nat_le (2 ^ 32) n
+wants_memory a = false
+
+-- a length, where it is a number of 64 bits
+abbrev pub IsLen : Option ℕ → ℕ → Type 0
+IsLen None n = 2 ^ 64 ≤ n
+IsLen (Some len) n = len ≡ n
+
+-- the late reply to a handle, whatever it has seen
+abbrev pub reply_to : {S : Type 0} → Open S → List Entry → Bool → List Member → ℕ → reading.Answer
+reply_to h es alive members size =
+    if is_past_limit h (filter (visible h) es) || is_full_style (style h.kind) then whole_answer (everything_of h.kind h.filter (is_past_limit h (filter (visible h) es)) alive members) size
+    else owed_answer h.wait (blocks_given h es) false size

@@ -1,0 +1,49 @@
+//! Objects as they will be.
+ghost use Rattle.std.specs.Prelude.{◌≡◌, ◌≢◌, Some, IfOk, IsOkUnless, fold};
+ghost use Rattle.pps_types.specs.Checks.{first_refusal, limit_checks};
+ghost use Rattle.pps_types.specs.History.{after_kind, apply_line, persistent};
+ghost use Rattle.pps_types.specs.Names.{refusal_of};
+ghost use Rattle.pps_types.specs.declared.refusal.Refusal.TheVariants.{OutOfMemory};
+ghost use Rattle.whole_texts.specs.After.{refused_after};
+
+use object_state::Object;
+use pps_types::{Kind, Line, Refusal};
+use std::alloc::Global;
+
+// The attributes once these lines are applied.
+fn after_lines(object: &Object, lines: &[Line]) -> Result<Object, Refusal>
+    ensures ok { IfOk result (λ after. after.attributes ≡ fold apply_line object.now.attributes lines.now) }
+    ensures refusal { refusal_of result ≢ Some OutOfMemory → refusal_of result ≡ first_refusal (limit_checks (fold apply_line object.now.attributes lines.now)) }
+{
+    let mut after = object.copy()?;
+    after.apply(lines)?;
+    Ok(after)
+}
+
+// The persistent attributes.
+fn after_drop(object: &Object) -> Result<Object, Refusal>
+    ensures ok { IfOk result (λ after. after.attributes ≡ persistent object.now.attributes) }
+    ensures err { IsOkUnless result Refusal.OutOfMemory }
+{
+    let mut after = object.copy()?;
+    after.drop_nonpersistent();
+    Ok(after)
+}
+
+/// Another object, with the attributes that this one will have after a record of that kind: a late reply that gives
+/// everything is printed from it, before anything changes.
+///
+/// It is TooLarge exactly where lines would bring the object past its limits. Else OutOfMemory is the only error.
+pub fn after_record(alloc: Global, object: &Object, kind: &Kind) -> Result<Object, Refusal>
+    ensures ok { IfOk result (λ after. after.attributes ≡ after_kind object.now.attributes kind.now) }
+    ensures refusal { refusal_of result ≢ Some OutOfMemory → refusal_of result ≡ refused_after object.now.attributes kind.now }
+{
+    match kind {
+        Kind::Change(lines) => after_lines(object, lines.as_slice()),
+        Kind::Dropped => after_drop(object),
+        Kind::Created => Ok(Object::new(alloc)),
+        Kind::Truncated => Ok(Object::new(alloc)),
+        Kind::Deleted => Ok(Object::new(alloc)),
+        _ => object.copy(),
+    }
+}

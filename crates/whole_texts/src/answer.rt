@@ -1,0 +1,53 @@
+//! What a read answers, and what it leaves of its handle.
+ghost use Rattle.std.specs.Prelude.{◌≡◌};
+ghost use Rattle.pps_types.specs.Plan as planning;
+ghost use Rattle.pps_types.specs.Reading.{Open};
+ghost use Rattle.pps_types.specs.Rests.{Seen};
+ghost use Rattle.whole_texts.specs.Answered.{meant, moves_of};
+
+/// The blocks that fit, of what a handle is owed: how many, and their text.
+#[derive(Drop)]
+pub struct Fitted {
+    pub count: usize,
+    pub text: Vec<u8>,
+}
+
+/// What a read answers, where it is not refused.
+#[derive(Drop)]
+pub enum Answer {
+    /// Everything of the target.
+    Everything(Vec<u8>),
+    /// So many of the records that are owed, and their blocks.
+    Blocks { count: usize, text: Vec<u8> },
+    /// There is nothing new, and the read waits for it.
+    Waits,
+    /// There is nothing new.
+    Nothing,
+}
+
+/// What a read leaves of its handle.
+#[derive(Clone, Copy, Debug, PartialEq, Eq)]
+pub enum Effect {
+    /// It has read everything.
+    CatchesUp,
+    /// It has been given so many of the records that it is owed.
+    Advances(usize),
+    /// A read of that size waits on it.
+    Parks(u32),
+    /// It stands where it stood.
+    Stays,
+}
+
+impl Answer {
+    /// What a read of that size leaves of its handle, once it is answered so. It takes no memory.
+    pub fn effect(&self, size: u32) -> Effect
+        ensures { (h : Open Seen) → moves_of h.number result ≡ (planning.read_effect h size (meant self.now)).1 }
+    {
+        match self {
+            Answer::Everything(_) => Effect::CatchesUp,
+            Answer::Blocks { count, .. } => Effect::Advances(*count),
+            Answer::Waits => Effect::Parks(size),
+            Answer::Nothing => Effect::Stays,
+        }
+    }
+}

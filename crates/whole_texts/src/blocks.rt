@@ -1,0 +1,99 @@
+//! The late reply that gives blocks: those of an event's records that fit.
+ghost use Rattle.std.specs.Prelude.{◌≡◌, ◌≤◌, ◌<◌, ◌+◌, ◌++◌, ◌^◌, ℕ, Some, true, false, [], length, OnOk, OnErr, IfOk, IfErr, IsOkUnless};
+ghost use Rattle.pps_types.specs.Reading as reading;
+ghost use Rattle.pps_types.specs.declared.refusal.Refusal.TheVariants.{OutOfMemory};
+ghost use Rattle.engine_targets.specs.Opened.{opened};
+ghost use Rattle.engine_targets.specs.Blocks.{blocks_given};
+ghost use Rattle.whole_texts.specs.Answered.{fitted_answer};
+ghost use Rattle.whole_texts.specs.Replied.{meant, wants_memory, IsLen};
+
+use crate::answer::Fitted;
+use crate::reply::Reply;
+use engine_targets::{Opening, given_block};
+use pps_block::Block;
+use pps_types::Refusal;
+use server_queue::Entry;
+use std::alloc::Global;
+
+// The reply where so many bytes are needed, if that is a number.
+fn too_small(need: Option<usize>) -> Result<Reply, Refusal>
+    ensures ok { (n : ℕ) → IsLen need n → IfOk result (λ r. meant r ≡ reading.Needs n) }
+    ensures err { IsOkUnless result OutOfMemory }
+    ensures lacking { (n : ℕ) → IsLen need n → OnErr result (2 ^ 32 ≤ n) }
+{
+    let Some(need) = need else {
+        return Err(Refusal::OutOfMemory);
+    };
+    match u32::try_from(need) {
+        Ok(need) => Ok(Reply::TooSmall { need }),
+        Err(_) => Err(Refusal::OutOfMemory),
+    }
+}
+
+// How long a block is, where there is room for it; else how long it is, if that is a number.
+fn len_within(block: &Block<'_>, entry: &Entry, room: usize) -> Result<usize, Option<usize>>
+    ensures ok { IfOk result (λ len. (len ≡ length (reading.print_shown entry.now.name (Some block.now))) × (len ≤ room)) }
+    ensures err { IfErr result (λ need. (room < length (reading.print_shown entry.now.name (Some block.now))) × IsLen need (length (reading.print_shown entry.now.name (Some block.now)))) }
+{
+    match block.print_len(entry.name()) {
+        Some(len) if len <= room => Ok(len),
+        need => Err(need),
+    }
+}
+
+// One block more.
+fn put(given: &mut Fitted, block: &Block<'_>, entry: &Entry, len: usize) -> Result<(), Refusal>
+    requires len { len ≡ length (reading.print_shown entry.now.name (Some block.now)) }
+    requires count { given.old.count + 1 < 2 ^ 64 }
+    ensures count { OnOk result (given.new.count ≡ given.old.count + 1) }
+    ensures text { OnOk result (given.new.text.items ≡ given.old.text.items ++ reading.print_shown entry.now.name (Some block.now)) }
+    ensures err { IfErr result (λ r. r ≡ OutOfMemory) }
+{
+    given.text.reserve(len)?;
+    block.push(&mut given.text, entry.name());
+    given.count += 1;
+    Ok(())
+}
+
+// The reply that gives these blocks, or where there are none says whether the read waits on.
+fn reply_of(given: Fitted, wait: bool) -> Reply
+    ensures { meant result ≡ fitted_answer false wait given.count given.text.items }
+{
+    let Fitted { count, text } = given;
+    if count > 0 {
+        return Reply::Blocks { count, text };
+    }
+    if wait { Reply::Waits } else { Reply::Nothing }
+}
+
+/// The longest run of whole blocks that fits into so many bytes, of the records that a handle on the object or directory
+/// of that number is given. Where the first does not fit, no memory is taken. OutOfMemory is the only error.
+pub(crate) fn give(
+    alloc: Global,
+    target: u64,
+    opening: &Opening,
+    entries: &[Entry],
+    size: u32,
+) -> Result<Reply, Refusal>
+    ensures ok { IfOk result (λ r. meant r ≡ reading.owed_answer opening.now.wait (blocks_given (opened target [] opening.now) entries.now) false size) }
+    ensures err { IsOkUnless result OutOfMemory }
+    ensures lacking { OnErr result (wants_memory (reading.owed_answer opening.now.wait (blocks_given (opened target [] opening.now) entries.now) false size) ≡ true) }
+{
+    let mut given = Fitted {
+        count: 0,
+        text: Vec::new(alloc),
+    };
+    'entries: for entry in entries {
+        let Some(block) = given_block(target, opening, entry) else {
+            continue;
+        };
+        let room = size as usize - given.text.len();
+        let len = match len_within(&block, entry, room) {
+            Ok(len) => len,
+            Err(need) if given.count == 0 => return too_small(need),
+            Err(_) => return Ok(reply_of(given, opening.wait)),
+        };
+        put(&mut given, &block, entry, len)?;
+    }
+    Ok(reply_of(given, opening.wait))
+}

@@ -1,0 +1,67 @@
+//! The answer to a read.
+ghost use Rattle.std.specs.Prelude.{◌≡◌, ◌≢◌, Some, None, IfOk, true};
+ghost use Rattle.pps_types.specs.Names.{refusal_of};
+ghost use Rattle.pps_types.specs.Reading as reading;
+ghost use Rattle.pps_types.specs.declared.refusal.Refusal.TheVariants.{OutOfMemory};
+ghost use Rattle.whole_texts.specs.Whole.{everything, is_dead};
+ghost use Rattle.whole_texts.specs.Answered.{meant, refusal_in, wants_memory, fitted_answer, answer_by, AnswersAreRead};
+
+use crate::answer::{Answer, Fitted};
+use crate::whole::Whole;
+use pps_types::Refusal;
+use std::alloc::Global;
+
+// Where nothing is owed.
+fn idle(dead: bool, wait: bool) -> Result<Answer, Refusal>
+    ensures ok { IfOk result (λ a. meant a ≡ reading.idle_answer dead wait) }
+    ensures refusal { refusal_of result ≡ refusal_in (reading.idle_answer dead wait) }
+{
+    if dead {
+        return Err(Refusal::Gone);
+    }
+    if wait {
+        return Ok(Answer::Waits);
+    }
+    Ok(Answer::Nothing)
+}
+
+// Where the blocks that fit are known.
+fn fitted(owed: Fitted, dead: bool, wait: bool) -> Result<Answer, Refusal>
+    ensures ok { IfOk result (λ a. meant a ≡ fitted_answer dead wait owed.count owed.text.items) }
+    ensures refusal { refusal_of result ≡ refusal_in (fitted_answer dead wait owed.count owed.text.items) }
+{
+    let Fitted { count, text } = owed;
+    if count == 0 {
+        return idle(dead, wait);
+    }
+    Ok(Answer::Blocks { count, text })
+}
+
+/// What a read of at most `max` bytes answers: everything, where no blocks are lent, and else the blocks, or where there
+/// are none, that the object is gone, that the read waits, if such reads wait, or nothing.
+///
+/// It is TooSmall, with the size, where everything does not fit, before any memory is taken, and Gone where nothing is
+/// owed of an object that is deleted; else OutOfMemory is the only error, and comes only where everything is to be given
+/// or needs a size that is no number of 32 bits.
+pub fn read_answer(
+    alloc: Global,
+    whole: &Whole<'_>,
+    wait: bool,
+    max: u32,
+    owed: Option<Fitted>,
+) -> Result<Answer, Refusal>
+    ensures ok { IfOk result (λ a. meant a ≡ answer_by whole.now wait max owed) }
+    ensures refusal { refusal_of result ≢ Some OutOfMemory → refusal_of result ≡ refusal_in (answer_by whole.now wait max owed) }
+    ensures lacking { refusal_of result ≡ Some OutOfMemory → wants_memory (answer_by whole.now wait max owed) ≡ true }
+{
+    match owed {
+        None => Ok(Answer::Everything(whole.answer(alloc, max)?)),
+        Some(owed) => fitted(owed, whole.is_dead(), wait),
+    }
+}
+
+/// Does nothing. Its contract is the law that a read of a handle is answered so: with no blocks lent where the handle
+/// has not read yet, has news in full mode, or is past its limit; and else with those that fit of what it is owed.
+pub fn answers_are_read()
+    ensures { AnswersAreRead }
+{}

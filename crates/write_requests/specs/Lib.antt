@@ -1,3 +1,0 @@
-pub mod Addressed
-pub mod Backlogs
-pub mod Writes
