@@ -1,6 +1,7 @@
 -- What the program does with a script.
 use Rattle.std.specs.Prelude.{◌≡◌, ℕ, List, Bool, false, Option, Result, Ok, Err}
 use Rattle.pps_types.specs.Content.{Content}
+use Rattle.pps_script.specs.declared.manner.Manner.{Manner}
 use Rattle.pps_script.specs.Served.{AnswersAll, AnswersUntil, AnswersWhole, AnswersFirst, FaultsAre}
 use Rattle.pps_script.specs.declared.fault.ScriptFault.TheVariants.{ReadFault, WriteFault}
 use Rattle.pps_cli.specs.declared.fault.Fault.{Fault}
@@ -8,11 +9,11 @@ use Rattle.pps_cli.specs.declared.fault.Fault.TheVariants.{BadLine, CannotReadIn
 
 -- All lines are answered, or those before the first bad one, whose number is told; or, where no more can be read, all that
 -- came whole; or, at another fault, the first ones.
-abbrev pub RunsScript : {X : Type 0} → Bool → (from to before after : Option (List ℕ)) → Content → Content → Result X Fault → Type 0
-RunsScript show from to before after old new (Ok done) = AnswersAll show from to before after old new
-RunsScript show from to before after old new (Err (BadLine line)) = AnswersUntil show line from to before after old new
-RunsScript show from to before after old new (Err CannotReadInput) = AnswersWhole show from to before after old new
-RunsScript show from to before after old new (Err _) = AnswersFirst show from to before after old new
+abbrev pub RunsScript : {X : Type 0} → Manner → (from to before after : Option (List ℕ)) → Content → Content → Result X Fault → Type 0
+RunsScript how from to before after old new (Ok done) = AnswersAll how from to before after old new
+RunsScript how from to before after old new (Err (BadLine line)) = AnswersUntil how line from to before after old new
+RunsScript how from to before after old new (Err CannotReadInput) = AnswersWhole how from to before after old new
+RunsScript how from to before after old new (Err _) = AnswersFirst how from to before after old new
 
 -- A fault of the input or of the output is told where the device had it, and nowhere else.
 abbrev pub ScriptFaultsAre : {X : Type 0} → Result X Fault → (read_failed write_failed : Bool) → (reads_old reads_new stalls_old stalls_new : ℕ) → Type 0

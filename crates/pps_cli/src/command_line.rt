@@ -4,6 +4,7 @@ ghost use Rattle.std.specs.Prelude.{◌≡◌, ◌≤◌, IfSome};
 use crate::fault::Fault;
 use clap::error::ErrorKind;
 use clap::{Arg, ArgAction, ArgMatches, Command, value_parser};
+use pps_script::Manner;
 use std::alloc::{AllocError, Global};
 use std::convert::AsStr;
 use std::marker::Model;
@@ -37,8 +38,7 @@ pub(crate) struct ServiceOptions<'w> {
 /// How a script is to be run.
 #[derive(Clone, Copy, Debug, PartialEq, Eq)]
 pub(crate) struct RunOptions<'w> {
-    /// Whether values are shown.
-    pub show: bool,
+    pub manner: Manner,
     pub service: ServiceOptions<'w>,
 }
 
@@ -143,9 +143,14 @@ fn run_command<'a>(alloc: Global) -> Result<Command<'a>, AllocError> {
         .long("show")
         .help("Shows the values of encoding b and b64 in the answers to reads")
         .action(ArgAction::SetTrue);
+    let interactive = Arg::new(alloc, "interactive")
+        .long("interactive")
+        .help("Goes on after a bad line, which is reported on standard error")
+        .action(ArgAction::SetTrue);
     let command = Command::new(alloc, "run")
         .about("Takes a script from standard input, and prints an answer for each of its commands")
-        .arg(show)?;
+        .arg(show)?
+        .arg(interactive)?;
     with_service(alloc, command)
 }
 
@@ -241,7 +246,10 @@ pub(crate) fn read_words<'w, S: AsStr>(alloc: Global, words: &'w [S]) -> Result<
     };
     match matches.subcommand() {
         Some(("run", matches)) => Ok(Asked::Run(RunOptions {
-            show: matches.get_flag("show"),
+            manner: Manner {
+                show: matches.get_flag("show"),
+                patient: matches.get_flag("interactive"),
+            },
             service: asked_service(matches)?,
         })),
         Some(("frames", matches)) => Ok(Asked::Frames(asked_service(matches)?)),

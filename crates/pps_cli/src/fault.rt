@@ -48,7 +48,7 @@ impl Fault {
 
 impl Fault {
     /// What may help whoever reads of the fault.
-    fn advice(self) -> &'static str {
+    pub(crate) fn advice(self) -> &'static str {
         match self {
             Fault::BadLine { .. } => "a line is a connection and a command, as: 1 open rwc /gps",
             Fault::BadCommandLine => "pps --help lists the commands and their options",

@@ -26,15 +26,16 @@ use std::sync::Wait;
 use std::thread::Threads;
 
 // A script is run on a service that begins and is saved as it is asked for.
-fn serve_script<'w, F: Files, I: Read, O: Write>(
+fn serve_script<'w, F: Files, I: Read, O: Write, E: Write>(
     files: &F,
     alloc: Global,
     options: RunOptions<'w>,
     input: &mut I,
     output: &mut O,
+    errors: &mut E,
 ) -> Result<(), Failure<'w>> {
     let mut engine = begin(alloc, files, options.service.beginning)?;
-    run_script(alloc, &mut engine, options.show, input, output)?;
+    run_script(alloc, &mut engine, options.manner, input, output, errors)?;
     end(alloc, files, &engine, options.service.save)
 }
 
@@ -52,15 +53,23 @@ fn serve_requests<'w, F: Files, I: Read, O: Write>(
 }
 
 // What a command line asks for is done.
-fn run_asked<'w, R: AllocGlobal + Files + Threads + Wait + Sync, S: AsStr, I: Read, O: Write>(
+fn run_asked<
+    'w,
+    R: AllocGlobal + Files + Threads + Wait + Sync,
+    S: AsStr,
+    I: Read,
+    O: Write,
+    E: Write,
+>(
     rt: &R,
     words: &'w [S],
     input: &mut I,
     output: &mut O,
+    errors: &mut E,
 ) -> Result<(), Failure<'w>> {
     let alloc = rt.alloc();
     match read_words(alloc, words)? {
-        Asked::Run(options) => serve_script(rt, alloc, options, input, output),
+        Asked::Run(options) => serve_script(rt, alloc, options, input, output, errors),
         Asked::Frames(options) => serve_requests(rt, alloc, options, input, output),
         Asked::Serve(options) => serve_scripts(rt, alloc, &options, output),
         Asked::Text(text) => match output.write_all(text.as_bytes()) {
@@ -88,7 +97,7 @@ fn run_words<
     O: Write,
     E: Write + IsTerminal,
 >(rt: &R, words: &[S], input: &mut I, output: &mut O, errors: &mut E) -> u8 {
-    match run_asked(rt, words, input, output) {
+    match run_asked(rt, words, input, output, errors) {
         Ok(()) => 0,
         Err(failure) => tell(failure, errors),
     }

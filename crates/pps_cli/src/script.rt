@@ -7,29 +7,44 @@ ghost use Rattle.pps_cli.specs.Scripts.{RunsScript, ScriptFaultsAre};
 use crate::fault::Fault;
 use crate::patient::Patient;
 use pps_engine::Engine;
-use pps_script::{ScriptFault, serve_script};
+use pps_script::{BadLines, Manner, ScriptFault, serve_script};
 use pps_types::{Device, Exchange};
 use std::alloc::Global;
 use std::io::{Read, Write};
 
+// Bad lines, reported one by one with what a line looks like. If that can't be written, nothing changes.
+#[derive(Drop)]
+struct Reporter<'e, E> {
+    errors: &'e mut E,
+}
+
+impl<E: Write> BadLines for Reporter<'_, E> {
+    fn report(&mut self, line: u64) {
+        let fault = Fault::BadLine { line };
+        let _ = writeln!(self.errors, "pps: {fault}");
+        let _ = writeln!(self.errors, "     {}", fault.advice());
+    }
+}
+
 // Runs a script, and says what it ended with.
-fn run_exchange<I: Read, O: Write>(
+fn run_exchange<I: Read, O: Write, B: BadLines>(
     alloc: Global,
     engine: &mut Engine,
-    show: bool,
+    manner: Manner,
     exchange: &mut Exchange<I, O>,
+    bad_lines: &mut B,
 ) -> Result<(), Fault>
     requires input { device_failed (input_of exchange.old) ≡ false }
     requires output { device_failed (output_of exchange.old) ≡ false }
     requires held { held_in exchange.old ≡ [] }
-    ensures runs { RunsScript show (I.remaining (device_inner (input_of exchange.old))) (I.remaining (device_inner (input_of exchange.new)))
+    ensures runs { RunsScript manner (I.remaining (device_inner (input_of exchange.old))) (I.remaining (device_inner (input_of exchange.new)))
         (O.contents (device_inner (output_of exchange.old))) (O.contents (device_inner (output_of exchange.new)))
         engine.old.content engine.new.content result }
     ensures fault { ScriptFaultsAre result (device_failed (input_of exchange.new)) (device_failed (output_of exchange.new))
         (device_reads (input_of exchange.old)) (device_reads (input_of exchange.new))
         (device_stalls (output_of exchange.old)) (device_stalls (output_of exchange.new)) }
 {
-    match serve_script(alloc, engine, show, exchange) {
+    match serve_script(alloc, engine, manner, exchange, bad_lines) {
         Ok(()) => Ok(()),
         Err(ScriptFault::BadLine { line }) => Err(Fault::BadLine { line }),
         Err(ScriptFault::OutOfMemory) => Err(Fault::OutOfMemory),
@@ -39,16 +54,19 @@ fn run_exchange<I: Read, O: Write>(
 }
 
 /// Runs a script from the input on a service, and writes its answers to the output, before it reads on. The first fault
-/// ends it; the answers before it are written. If a read or a write is interrupted, it is tried again.
-pub(crate) fn run_script<I: Read, O: Write>(
+/// ends it; the answers before it are written. In an interactive script a bad line is no fault: it is reported to the
+/// errors. If a read or a write is interrupted, it is tried again.
+pub(crate) fn run_script<I: Read, O: Write, E: Write>(
     alloc: Global,
     engine: &mut Engine,
-    show: bool,
+    manner: Manner,
     input: &mut I,
     output: &mut O,
+    errors: &mut E,
 ) -> Result<(), Fault> {
     let input = Device::new(Patient::new(input));
     let output = Device::new(Patient::new(output));
     let mut exchange = Exchange::new(alloc, input, output)?;
-    run_exchange(alloc, engine, show, &mut exchange)
+    let mut reporter = Reporter { errors };
+    run_exchange(alloc, engine, manner, &mut exchange, &mut reporter)
 }

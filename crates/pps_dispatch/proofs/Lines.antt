@@ -30,7 +30,7 @@ use Rattle.pps_dispatch.specs.Reading.{AddsLine, FailsLine}
 -- all of them are the session's, and the bytes are the frames of what they ask for
 pub record AreRead (connection : ℕ) (lines : List (List ℕ)) (bytes : List ℕ) : Type 0 where
   pub events : List Event
-  pub said : script lines ≡ record { events = events; bad = None }
+  pub said : script false lines ≡ record { events = events; bad = None }
   pub good : list_all (λ l. is_own connection (line_of l)) lines ≡ true
   pub own : are_of connection events ≡ true
   pub frames : AreFrames bytes events
@@ -50,10 +50,10 @@ line-read : (connection : ℕ) (lines : List (List ℕ)) (line old new : List �
 line-read connection lines line old new read adds = by (line_of line) refl adds
   where
     whole : (said : Option ScriptLine) → line_of line ≡ said
-        → script (lines ++ line ∷ []) ≡ joined record { events = read.events; bad = None } (length lines) (with_line said record { events = []; bad = None })
+        → script false (lines ++ line ∷ []) ≡ joined record { events = read.events; bad = None } (length lines) (with_line said record { events = []; bad = None })
     whole said is =
-        script-good lines (line ∷ []) (ap (λ s. s.bad) read.said)
-        ∙ ap (λ s. joined s (length lines) (script (line ∷ []))) read.said
+        script-good false lines (line ∷ []) (ap (λ s. s.bad) read.said)
+        ∙ ap (λ s. joined s (length lines) (script false (line ∷ []))) read.said
         ∙ ap (λ s. joined record { events = read.events; bad = None } (length lines) (with_line s record { events = []; bad = None })) is
 
     all-good : (said : Option ScriptLine) → line_of line ≡ said → is_own connection said ≡ true
@@ -154,7 +154,7 @@ module _ (connection : ℕ) (text rest old : List ℕ) (number : ℕ) (none : No
   text-read empty = record {
     events = so_far.read.events;
     asks = record {
-      script = ap script (lines-here ∙ ap (λ r. so_far.lines ++ without_empty_end (r ∷ [])) empty ∙ append-nil so_far.lines) ∙ so_far.read.said;
+      script = ap (script false) (lines-here ∙ ap (λ r. so_far.lines ++ without_empty_end (r ∷ [])) empty ∙ append-nil so_far.lines) ∙ so_far.read.said;
       own = so_far.read.own;
     };
     frames = so_far.read.frames;
@@ -180,7 +180,7 @@ module _ (connection : ℕ) (text rest old : List ℕ) (number : ℕ) (none : No
       let all = line-read connection so_far.lines rest old new so_far.read adds in
       record {
         events = all.events;
-        asks = record { script = ap script (one-more some) ∙ all.said; own = all.own };
+        asks = record { script = ap (script false) (one-more some) ∙ all.said; own = all.own };
         frames = all.frames;
       }
 

@@ -17,7 +17,7 @@ use Rattle.pps_dispatch.specs.declared.session_fault.SessionFault.TheVariants.{B
 
 -- the text is a script of these events, all of this connection
 pub record Asks (connection : ℕ) (text : List ℕ) (events : List Event) : Type 0 where
-  pub script : script_of text ≡ record { events = events; bad = None }
+  pub script : script_of false text ≡ record { events = events; bad = None }
   pub own : are_of connection events ≡ true
 
 -- the bytes are the frames of these events, one after the other

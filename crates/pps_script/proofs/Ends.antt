@@ -10,6 +10,7 @@ use Rattle.pps_types.specs.Stands.{RunsSeen}
 use Rattle.pps_types.proofs.KnownBytes.{Appends-same, Consumes-none, keeps_itself}
 use Rattle.service_laws.proofs.StandsLaw.{runs-stand}
 use Rattle.pps_types.proofs.Writing.{holds-part, holds-sent, part-more}
+use Rattle.pps_script.specs.declared.manner.Manner.{Manner}
 use Rattle.pps_script.specs.declared.fault.ScriptFault.{ScriptFault}
 use Rattle.pps_script.specs.declared.fault.ScriptFault.TheVariants.{BadLine, OutOfMemory, ReadFault, WriteFault}
 use Rattle.pps_script.specs.Script.{Script, script_of, answers_of}
@@ -21,8 +22,8 @@ serves-of : (from to : Option (List ℕ)) (old new : Content) (text : List ℕ) 
 serves-of from to old new text answered read seen = record { read = read; runs = runs-stand answered old new seen; seen = seen }
 
 -- nothing was read
-pub first-none : (show : Bool) (from before : Option (List ℕ)) (c : Content) → AnswersFirst show from from before before c c
-first-none show from before c = record {
+pub first-none : (how : Manner) (from before : Option (List ℕ)) (c : Content) → AnswersFirst how from from before before c c
+first-none how from before c = record {
   text = [];
   answered = [];
   more = [];
@@ -38,9 +39,9 @@ first-none show from before c = record {
 
 -- ---- where reading or writing failed
 
-pub ran-unread : (show : Bool) (from to before after : Option (List ℕ)) (left : List ℕ) (old new : Content)
-    → ServesWhole show from to before after left old new → AnswersWhole show from to before after old new
-ran-unread show from to before after left old new s = record {
+pub ran-unread : (how : Manner) (from to before after : Option (List ℕ)) (left : List ℕ) (old new : Content)
+    → ServesWhole how from to before after left old new → AnswersWhole how from to before after old new
+ran-unread how from to before after left old new s = record {
   text = s.text;
   answered = s.serves.answered;
   served = serves-of from to old new s.text s.serves.answered s.read s.serves.seen;
@@ -48,9 +49,9 @@ ran-unread show from to before after left old new s = record {
   written = Appends-same before after _ _ (sym (s.serves.written.parts ∙ ap (λ t. s.serves.written.sent ++ t) s.sent ∙ append-nil s.serves.written.sent)) s.serves.written.written;
 }
 
-pub ran-unwritten : (show : Bool) (from to before after : Option (List ℕ)) (left : List ℕ) (old new : Content)
-    → EndsInput show from to before after left old new WriteFault → AnswersFirst show from to before after old new
-ran-unwritten show from to before after left old new s = record {
+pub ran-unwritten : (how : Manner) (from to before after : Option (List ℕ)) (left : List ℕ) (old new : Content)
+    → EndsInput how from to before after left old new WriteFault → AnswersFirst how from to before after old new
+ran-unwritten how from to before after left old new s = record {
   text = s.text;
   answered = s.ends.answered;
   more = s.ends.more;
@@ -63,9 +64,9 @@ ran-unwritten show from to before after left old new s = record {
 -- ---- else all that is held is sent, or a part of it
 
 -- what was held of the answers to all
-module _ (show : Bool) (from to before middle after : Option (List ℕ)) (left : List ℕ) (old new : Content) where
-  all-part : (text : List ℕ) (read : Consumes from to text) (bad : Option ℕ) → ServesLines show before [] middle left old new (lines_of text) bad → SendsPart middle after left
-      → AnswersFirst show from to before after old new
+module _ (how : Manner) (from to before middle after : Option (List ℕ)) (left : List ℕ) (old new : Content) where
+  all-part : (text : List ℕ) (read : Consumes from to text) (bad : Option ℕ) → ServesLines how before [] middle left old new (lines_of text) bad → SendsPart middle after left
+      → AnswersFirst how from to before after old new
   all-part text read bad s sends =
       let part = holds-part before middle after left _ [] s.written (subst (λ t. SendsPart middle after t) (sym (append-nil left)) sends) in
       record {
@@ -75,10 +76,10 @@ module _ (show : Bool) (from to before middle after : Option (List ℕ)) (left :
         served = serves-of from to old new text s.answered read s.seen;
         script = ap (λ s. s.events) s.said ∙ sym (append-nil (events_of s.answered));
         sent = part.sent;
-        written = Appends-same before after _ _ (ap (take part.sent) (append-nil (answers_of show s.answered))) part.written;
+        written = Appends-same before after _ _ (ap (take part.sent) (append-nil (answers_of how.show s.answered))) part.written;
       }
 
-  first-part : (s : EndsInput show from to before middle left old new OutOfMemory) → SendsPart before after s.ends.told → AnswersFirst show from to before after old new
+  first-part : (s : EndsInput how from to before middle left old new OutOfMemory) → SendsPart before after s.ends.told → AnswersFirst how from to before after old new
   first-part s sends =
       let part = part-more before after s.ends.told s.ends.untold sends in
       record {
@@ -91,8 +92,8 @@ module _ (show : Bool) (from to before middle after : Option (List ℕ)) (left :
         written = Appends-same before after _ _ (ap (take part.sent) (sym s.ends.parts)) part.written;
       }
 
-  pub ran-sent : (X : Type 0) (r : Result X ScriptFault) → ends_cut_off r ≡ false → RunsInput show from to before middle left old new r → Appends middle after left
-      → Ran show from to before after old new r
+  pub ran-sent : (X : Type 0) (r : Result X ScriptFault) → ends_cut_off r ≡ false → RunsInput how from to before middle left old new r → Appends middle after left
+      → Ran how from to before after old new r
   ran-sent X (Ok x) whole s sends = record {
     text = s.text;
     answered = s.serves.answered;
@@ -115,8 +116,8 @@ module _ (show : Bool) (from to before middle after : Option (List ℕ)) (left :
   ran-sent X (Err ReadFault) whole s sends = absurd (let h = whole in cc)
   ran-sent X (Err WriteFault) whole s sends = absurd (let h = whole in cc)
 
-  pub ran-unsent : (X : Type 0) (r : Result X ScriptFault) → ends_cut_off r ≡ false → RunsInput show from to before middle left old new r → SendsPart middle after left
-      → AnswersFirst show from to before after old new
+  pub ran-unsent : (X : Type 0) (r : Result X ScriptFault) → ends_cut_off r ≡ false → RunsInput how from to before middle left old new r → SendsPart middle after left
+      → AnswersFirst how from to before after old new
   ran-unsent X (Ok x) whole s sends = all-part s.text s.read None s.serves sends
   ran-unsent X (Err (BadLine line)) whole s sends = all-part s.text s.read (Some s.ends.number) s.ends.serves sends
   ran-unsent X (Err OutOfMemory) whole s sends =
@@ -126,10 +127,10 @@ module _ (show : Bool) (from to before middle after : Option (List ℕ)) (left :
   ran-unsent X (Err WriteFault) whole s sends = absurd (let h = whole in cc)
 
 -- where reading or writing failed, nothing more is sent
-pub ran-cut_off : (X : Type 0) (show : Bool) (from to before after : Option (List ℕ)) (left : List ℕ) (old new : Content) (r : Result X ScriptFault) → ends_cut_off r ≡ true
-    → RunsInput show from to before after left old new r → Ran show from to before after old new r
-ran-cut_off X show from to before after left old new (Err ReadFault) cut s = ran-unread show from to before after left old new s
-ran-cut_off X show from to before after left old new (Err WriteFault) cut s = ran-unwritten show from to before after left old new s
-ran-cut_off X show from to before after left old new (Ok x) cut s = absurd (let h = cut in cc)
-ran-cut_off X show from to before after left old new (Err (BadLine line)) cut s = absurd (let h = cut in cc)
-ran-cut_off X show from to before after left old new (Err OutOfMemory) cut s = absurd (let h = cut in cc)
+pub ran-cut_off : (X : Type 0) (how : Manner) (from to before after : Option (List ℕ)) (left : List ℕ) (old new : Content) (r : Result X ScriptFault) → ends_cut_off r ≡ true
+    → RunsInput how from to before after left old new r → Ran how from to before after old new r
+ran-cut_off X how from to before after left old new (Err ReadFault) cut s = ran-unread how from to before after left old new s
+ran-cut_off X how from to before after left old new (Err WriteFault) cut s = ran-unwritten how from to before after left old new s
+ran-cut_off X how from to before after left old new (Ok x) cut s = absurd (let h = cut in cc)
+ran-cut_off X how from to before after left old new (Err (BadLine line)) cut s = absurd (let h = cut in cc)
+ran-cut_off X how from to before after left old new (Err OutOfMemory) cut s = absurd (let h = cut in cc)

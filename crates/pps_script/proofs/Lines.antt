@@ -17,21 +17,22 @@ use Rattle.pps_types.specs.Runs.{Answered, events_of}
 use Rattle.pps_types.specs.Stands.{StepsSeen, RunsSeen}
 use Rattle.service_laws.proofs.RunJoins.{runs-append}
 use Rattle.pps_types.proofs.Writing.{holds-then, holds-part, holds-same, part-more}
+use Rattle.pps_script.specs.declared.manner.Manner.{Manner}
 use Rattle.pps_script.specs.ScriptLines.{line_of}
 use Rattle.pps_script.specs.declared.script_line.ScriptLine.{ScriptLine}
 use Rattle.pps_script.specs.declared.script_line.ScriptLine.TheVariants.{Nothing, Command}
 use Rattle.pps_script.specs.declared.fault.ScriptFault.{ScriptFault}
 use Rattle.pps_script.specs.declared.fault.ScriptFault.TheVariants.{BadLine, OutOfMemory, ReadFault, WriteFault}
 use Rattle.pps_script.specs.Faults.{of_answer}
-use Rattle.pps_script.specs.Script.{Script, script, with_line, printed, answers_of}
+use Rattle.pps_script.specs.Script.{Script, script, heard, or_nothing, with_line, printed, answers_of}
 use Rattle.pps_script.specs.Lines.{ServesLine, Unanswered, ServesLines, HoldsFirst, SendsFirst, EndsAt, EndsLines}
 use Rattle.pps_script.proofs.Scripts.{joined, script-good, script-bad, script-grows}
 
 events-append : (first second : List Answered) → events_of (first ++ second) ≡ events_of first ++ events_of second
 events-append first second = map-append (λ x. x.event) first second
 
-answers-append : (show : Bool) (first second : List Answered) → answers_of show (first ++ second) ≡ answers_of show first ++ answers_of show second
-answers-append show first second = flat_map-append (λ x. printed show x.event x.reply) first second
+answers-append : (how : Manner) (first second : List Answered) → answers_of how.show (first ++ second) ≡ answers_of how.show first ++ answers_of how.show second
+answers-append how first second = flat_map-append (λ x. printed how.show x.event x.reply) first second
 
 -- nothing happens to what is held
 pub holds-itself : (a : Option (List ℕ)) (held : List ℕ) → Holds a a held held
@@ -39,8 +40,8 @@ holds-itself a held = subst (λ t. Holds a a held t) (append-nil held) (holds-sa
 
 -- ---- none, and one
 
-pub serves-none : (show : Bool) (a : Option (List ℕ)) (held : List ℕ) (c : Content) → ServesLines show a held a held c c [] None
-serves-none show a held c = record {
+pub serves-none : (how : Manner) (a : Option (List ℕ)) (held : List ℕ) (c : Content) → ServesLines how a held a held c c [] None
+serves-none how a held c = record {
   answered = [];
   said = refl;
   seen = refl;
@@ -48,11 +49,11 @@ serves-none show a held c = record {
 }
 
 -- a line that says something or nothing, whose text was added to what is held
-pub serves-one : (show : Bool) (a b : Option (List ℕ)) (held left text : List ℕ) (old new : Content) (line : List ℕ)
-    → ServesLine show old (line_of line) text new → Holds a b left (held ++ text) → ServesLines show a held b left old new (line ∷ []) None
-serves-one show a b held left text old new line serves holds = by (line_of line) refl serves
+pub serves-one : (how : Manner) (a b : Option (List ℕ)) (held left text : List ℕ) (old new : Content) (line : List ℕ)
+    → ServesLine how.show old (heard how.patient line) text new → Holds a b left (held ++ text) → ServesLines how a held b left old new (line ∷ []) None
+serves-one how a b held left text old new line serves holds = by (heard how.patient line) refl serves
   where
-    by : (said : Option ScriptLine) → line_of line ≡ said → ServesLine show old said text new → ServesLines show a held b left old new (line ∷ []) None
+    by : (said : Option ScriptLine) → heard how.patient line ≡ said → ServesLine how.show old said text new → ServesLines how a held b left old new (line ∷ []) None
     by None is serves = absurd serves
     by (Some Nothing) is serves = record {
       answered = [];
@@ -64,31 +65,51 @@ serves-one show a b held left text old new line serves holds = by (line_of line)
       answered = record { event = e; reply = reply } ∷ [];
       said = ap (λ s. with_line s record { events = []; bad = None }) is;
       seen = (new, steps, refl);
-      written = subst (λ t. Holds a b left (held ++ t)) (same ∙ sym (append-nil (printed show e reply))) holds;
+      written = subst (λ t. Holds a b left (held ++ t)) (same ∙ sym (append-nil (printed how.show e reply))) holds;
     }
 
--- a bad line
-pub ends-bad : (show : Bool) (a : Option (List ℕ)) (held : List ℕ) (old new : Content) (line : List ℕ) → line_of line ≡ None → new ≡ old
-    → ServesLines show a held a held old new (line ∷ []) (Some 1)
-ends-bad show a held old new line bad same = record {
+-- what is heard of a line that says something, and of one that is not answered
+pub served-heard : (patient show : Bool) (said : Option ScriptLine) (text : List ℕ) (old new : Content) → ServesLine show old said text new → ServesLine show old (or_nothing patient said) text new
+served-heard false show said text old new serves = serves
+served-heard true show None text old new serves = absurd serves
+served-heard true show (Some said) text old new serves = serves
+
+pub unanswered-heard : (patient : Bool) (said : Option ScriptLine) (old new : Content) → Unanswered old said new → Unanswered old (or_nothing patient said) new
+unanswered-heard false said old new un = un
+unanswered-heard true None old new un = un
+unanswered-heard true (Some said) old new un = un
+
+-- a bad line, which ends a script, or at which it goes on
+pub ends-bad : (how : Manner) (a : Option (List ℕ)) (held : List ℕ) (old new : Content) (line : List ℕ) → how.patient ≡ false → line_of line ≡ None → new ≡ old
+    → ServesLines how a held a held old new (line ∷ []) (Some 1)
+ends-bad how a held old new line strict bad same = record {
   answered = [];
-  said = ap (λ s. with_line s record { events = []; bad = None }) bad;
+  said = ap (λ s. with_line s record { events = []; bad = None }) (ap (λ p. or_nothing p (line_of line)) strict ∙ bad);
+  seen = same;
+  written = holds-same a held;
+}
+
+pub passes-bad : (how : Manner) (a : Option (List ℕ)) (held : List ℕ) (old new : Content) (line : List ℕ) → how.patient ≡ true → line_of line ≡ None → new ≡ old
+    → ServesLines how a held a held old new (line ∷ []) None
+passes-bad how a held old new line patient bad same = record {
+  answered = [];
+  said = ap (λ s. with_line s record { events = []; bad = None }) (ap (λ p. or_nothing p (line_of line)) patient ∙ ap (or_nothing true) bad);
   seen = same;
   written = holds-same a held;
 }
 
 -- a line whose answer was not made
-pub holds-one : (show : Bool) (a b : Option (List ℕ)) (held left : List ℕ) (old new : Content) (line : List ℕ)
-    → Unanswered old (line_of line) new → Holds a b left held → HoldsFirst show a held b left old new (line ∷ [])
-holds-one show a b held left old new line un holds = by (line_of line) refl un
+pub holds-one : (how : Manner) (a b : Option (List ℕ)) (held left : List ℕ) (old new : Content) (line : List ℕ)
+    → Unanswered old (heard how.patient line) new → Holds a b left held → HoldsFirst how a held b left old new (line ∷ [])
+holds-one how a b held left old new line un holds = by (heard how.patient line) refl un
   where
     written : Holds a b left (held ++ [])
     written = subst (λ t. Holds a b left t) (sym (append-nil held)) holds
 
-    nothing : new ≡ old → HoldsFirst show a held b left old new (line ∷ [])
-    nothing same = record { answered = []; more = (script (line ∷ [])).events; said = refl; seen = same; told = []; untold = []; parts = refl; written = written }
+    nothing : new ≡ old → HoldsFirst how a held b left old new (line ∷ [])
+    nothing same = record { answered = []; more = (script how.patient (line ∷ [])).events; said = refl; seen = same; told = []; untold = []; parts = refl; written = written }
 
-    by : (said : Option ScriptLine) → line_of line ≡ said → Unanswered old said new → HoldsFirst show a held b left old new (line ∷ [])
+    by : (said : Option ScriptLine) → heard how.patient line ≡ said → Unanswered old said new → HoldsFirst how a held b left old new (line ∷ [])
     by None is un = nothing un
     by (Some Nothing) is un = nothing un
     by (Some (Command e)) is (inl same) = nothing same
@@ -98,30 +119,30 @@ holds-one show a b held left old new line un holds = by (line_of line) refl un
       said = ap (λ s. (with_line s record { events = []; bad = None }).events) is;
       seen = (new, steps, refl);
       told = [];
-      untold = answers_of show (record { event = e; reply = reply } ∷ []);
+      untold = answers_of how.show (record { event = e; reply = reply } ∷ []);
       parts = refl;
       written = written;
     }
 
 -- a line that was served, and whose answer is not held
-pub unheld-one : (show : Bool) (old new : Content) (text line : List ℕ) → ServesLine show old (line_of line) text new → Unanswered old (line_of line) new
-unheld-one show old new text line serves = by (line_of line) serves
+pub unheld-one : (how : Manner) (old new : Content) (text line : List ℕ) → ServesLine how.show old (heard how.patient line) text new → Unanswered old (heard how.patient line) new
+unheld-one how old new text line serves = by (heard how.patient line) serves
   where
-    by : (said : Option ScriptLine) → ServesLine show old said text new → Unanswered old said new
+    by : (said : Option ScriptLine) → ServesLine how.show old said text new → Unanswered old said new
     by None serves = absurd serves
     by (Some Nothing) serves = serves.1
     by (Some (Command e)) (reply, steps, same) = inr (reply, steps)
 
 -- a line whose answer is written in part
-pub sends-one : (show : Bool) (a b : Option (List ℕ)) (held text : List ℕ) (old new : Content) (line : List ℕ)
-    → ServesLine show old (line_of line) text new → SendsPart a b (held ++ text) → SendsFirst show a held b old new (line ∷ [])
-sends-one show a b held text old new line serves sends = by (line_of line) refl serves
+pub sends-one : (how : Manner) (a b : Option (List ℕ)) (held text : List ℕ) (old new : Content) (line : List ℕ)
+    → ServesLine how.show old (heard how.patient line) text new → SendsPart a b (held ++ text) → SendsFirst how a held b old new (line ∷ [])
+sends-one how a b held text old new line serves sends = by (heard how.patient line) refl serves
   where
-    by : (said : Option ScriptLine) → line_of line ≡ said → ServesLine show old said text new → SendsFirst show a held b old new (line ∷ [])
+    by : (said : Option ScriptLine) → heard how.patient line ≡ said → ServesLine how.show old said text new → SendsFirst how a held b old new (line ∷ [])
     by None is serves = absurd serves
     by (Some Nothing) is serves = record {
       answered = [];
-      more = (script (line ∷ [])).events;
+      more = (script how.patient (line ∷ [])).events;
       said = refl;
       seen = serves.1;
       written = subst (λ t. SendsPart a b (held ++ t)) serves.0 sends;
@@ -131,65 +152,65 @@ sends-one show a b held text old new line serves sends = by (line_of line) refl 
       more = [];
       said = ap (λ s. (with_line s record { events = []; bad = None }).events) is;
       seen = (new, steps, refl);
-      written = subst (λ t. SendsPart a b (held ++ t)) (same ∙ sym (append-nil (printed show e reply))) sends;
+      written = subst (λ t. SendsPart a b (held ++ t)) (same ∙ sym (append-nil (printed how.show e reply))) sends;
     }
 
 -- ---- some lines, and others after them
 
-module _ (show : Bool) (a b c : Option (List ℕ)) (held middle left : List ℕ) (old next new : Content) (first : List (List ℕ))
-    (serves : ServesLines show a held b middle old next first None) where
-  good : (script first).bad ≡ None
+module _ (how : Manner) (a b c : Option (List ℕ)) (held middle left : List ℕ) (old next new : Content) (first : List (List ℕ))
+    (serves : ServesLines how a held b middle old next first None) where
+  good : (script how.patient first).bad ≡ None
   good = ap (λ s. s.bad) serves.said
 
   -- the answers to both, behind what was held
-  answers-both : (answered : List Answered) → (held ++ answers_of show serves.answered) ++ answers_of show answered ≡ held ++ answers_of show (serves.answered ++ answered)
-  answers-both answered = append_assoc held (answers_of show serves.answered) (answers_of show answered) ∙ ap (λ t. held ++ t) (sym (answers-append show serves.answered answered))
+  answers-both : (answered : List Answered) → (held ++ answers_of how.show serves.answered) ++ answers_of how.show answered ≡ held ++ answers_of how.show (serves.answered ++ answered)
+  answers-both answered = append_assoc held (answers_of how.show serves.answered) (answers_of how.show answered) ∙ ap (λ t. held ++ t) (sym (answers-append how serves.answered answered))
 
-  events-both : (second : List (List ℕ)) (answered : List Answered) (more : List Event) → (script second).events ≡ events_of answered ++ more
-      → (script (first ++ second)).events ≡ events_of (serves.answered ++ answered) ++ more
+  events-both : (second : List (List ℕ)) (answered : List Answered) (more : List Event) → (script how.patient second).events ≡ events_of answered ++ more
+      → (script how.patient (first ++ second)).events ≡ events_of (serves.answered ++ answered) ++ more
   events-both second answered more said =
-      ap (λ s. s.events) (script-good first second good)
-      ∙ ap (λ s. s.events ++ (script second).events) serves.said
+      ap (λ s. s.events) (script-good how.patient first second good)
+      ∙ ap (λ s. s.events ++ (script how.patient second).events) serves.said
       ∙ ap (λ es. events_of serves.answered ++ es) said
       ∙ sym (append_assoc (events_of serves.answered) (events_of answered) more)
       ∙ ap (λ es. es ++ more) (sym (events-append serves.answered answered))
 
-  pub serves-then : (second : List (List ℕ)) (bad : Option ℕ) → ServesLines show b middle c left next new second bad
-      → ServesLines show a held c left old new (first ++ second) (option_map (λ n. length first + n) bad)
+  pub serves-then : (second : List (List ℕ)) (bad : Option ℕ) → ServesLines how b middle c left next new second bad
+      → ServesLines how a held c left old new (first ++ second) (option_map (λ n. length first + n) bad)
   serves-then second bad q = record {
     answered = serves.answered ++ q.answered;
-    said = script-good first second good
-        ∙ ap (λ s. joined s (length first) (script second)) serves.said
+    said = script-good how.patient first second good
+        ∙ ap (λ s. joined s (length first) (script how.patient second)) serves.said
         ∙ ap (λ s. joined record { events = events_of serves.answered; bad = None } (length first) s) q.said
         ∙ ap (λ es. record { events = es; bad = option_map (λ n. length first + n) bad }) (sym (events-append serves.answered q.answered));
     seen = runs-append old next new serves.answered q.answered serves.seen q.seen;
-    written = subst (λ t. Holds a c left t) (answers-both q.answered) (holds-then a b c middle left _ (answers_of show q.answered) serves.written q.written);
+    written = subst (λ t. Holds a c left t) (answers-both q.answered) (holds-then a b c middle left _ (answers_of how.show q.answered) serves.written q.written);
   }
 
-  pub holds-then-first : (second : List (List ℕ)) → HoldsFirst show b middle c left next new second → HoldsFirst show a held c left old new (first ++ second)
+  pub holds-then-first : (second : List (List ℕ)) → HoldsFirst how b middle c left next new second → HoldsFirst how a held c left old new (first ++ second)
   holds-then-first second q = record {
     answered = serves.answered ++ q.answered;
     more = q.more;
     said = events-both second q.answered q.more q.said;
     seen = runs-append old next new serves.answered q.answered serves.seen q.seen;
-    told = answers_of show serves.answered ++ q.told;
+    told = answers_of how.show serves.answered ++ q.told;
     untold = q.untold;
-    parts = answers-append show serves.answered q.answered ∙ ap (λ t. answers_of show serves.answered ++ t) q.parts ∙ sym (append_assoc (answers_of show serves.answered) q.told q.untold);
-    written = subst (λ t. Holds a c left t) (append_assoc held (answers_of show serves.answered) q.told) (holds-then a b c middle left _ q.told serves.written q.written);
+    parts = answers-append how serves.answered q.answered ∙ ap (λ t. answers_of how.show serves.answered ++ t) q.parts ∙ sym (append_assoc (answers_of how.show serves.answered) q.told q.untold);
+    written = subst (λ t. Holds a c left t) (append_assoc held (answers_of how.show serves.answered) q.told) (holds-then a b c middle left _ q.told serves.written q.written);
   }
 
-  pub sends-then-first : (second : List (List ℕ)) → SendsFirst show b middle c next new second → SendsFirst show a held c old new (first ++ second)
+  pub sends-then-first : (second : List (List ℕ)) → SendsFirst how b middle c next new second → SendsFirst how a held c old new (first ++ second)
   sends-then-first second q = record {
     answered = serves.answered ++ q.answered;
     more = q.more;
     said = events-both second q.answered q.more q.said;
     seen = runs-append old next new serves.answered q.answered serves.seen q.seen;
-    written = subst (λ t. SendsPart a c t) (answers-both q.answered) (holds-part a b c middle _ (answers_of show q.answered) serves.written q.written);
+    written = subst (λ t. SendsPart a c t) (answers-both q.answered) (holds-part a b c middle _ (answers_of how.show q.answered) serves.written q.written);
   }
 
   -- where the script ends after so many lines
   pub ends-then : (count more : ℕ) (second : List (List ℕ)) (fault : ScriptFault) → more ≡ min (count + length first) last_count
-      → EndsLines show more b middle c left next new second fault → EndsLines show count a held c left old new (first ++ second) fault
+      → EndsLines how more b middle c left next new second fault → EndsLines how count a held c left old new (first ++ second) fault
   ends-then count more second (BadLine line) is ends = record {
     number = length first + ends.number;
     told = omega (arith, is, ends.told);
@@ -200,20 +221,20 @@ module _ (show : Bool) (a b c : Option (List ℕ)) (held middle left : List ℕ)
   ends-then count more second ReadFault is ends = absurd ends
 
 -- where the script ends, whatever comes after it
-pub ends-more : (show : Bool) (count : ℕ) (a b : Option (List ℕ)) (held left : List ℕ) (old new : Content) (lines more : List (List ℕ)) (fault : ScriptFault)
-    → EndsLines show count a held b left old new lines fault → EndsLines show count a held b left old new (lines ++ more) fault
-ends-more show count a b held left old new lines more (BadLine line) ends = record {
+pub ends-more : (how : Manner) (count : ℕ) (a b : Option (List ℕ)) (held left : List ℕ) (old new : Content) (lines more : List (List ℕ)) (fault : ScriptFault)
+    → EndsLines how count a held b left old new lines fault → EndsLines how count a held b left old new (lines ++ more) fault
+ends-more how count a b held left old new lines more (BadLine line) ends = record {
   number = ends.number;
   told = ends.told;
   serves = record {
     answered = ends.serves.answered;
-    said = script-bad lines more ends.number (ap (λ s. s.bad) ends.serves.said) ∙ ends.serves.said;
+    said = script-bad how.patient lines more ends.number (ap (λ s. s.bad) ends.serves.said) ∙ ends.serves.said;
     seen = ends.serves.seen;
     written = ends.serves.written;
   };
 }
-ends-more show count a b held left old new lines more OutOfMemory ends =
-    let grown = script-grows lines more in
+ends-more how count a b held left old new lines more OutOfMemory ends =
+    let grown = script-grows how.patient lines more in
     record {
       answered = ends.answered;
       more = ends.more ++ grown.0;
@@ -224,8 +245,8 @@ ends-more show count a b held left old new lines more OutOfMemory ends =
       parts = ends.parts;
       written = ends.written;
     }
-ends-more show count a b held left old new lines more WriteFault ends =
-    let grown = script-grows lines more in
+ends-more how count a b held left old new lines more WriteFault ends =
+    let grown = script-grows how.patient lines more in
     record {
       answered = ends.answered;
       more = ends.more ++ grown.0;
@@ -233,36 +254,36 @@ ends-more show count a b held left old new lines more WriteFault ends =
       seen = ends.seen;
       written = ends.written;
     }
-ends-more show count a b held left old new lines more ReadFault ends = absurd ends
+ends-more how count a b held left old new lines more ReadFault ends = absurd ends
 
 -- lines that are served, and no more memory
-pub held-of : (show : Bool) (a b : Option (List ℕ)) (held left : List ℕ) (old new : Content) (lines : List (List ℕ))
-    → ServesLines show a held b left old new lines None → HoldsFirst show a held b left old new lines
-held-of show a b held left old new lines serves = record {
+pub held-of : (how : Manner) (a b : Option (List ℕ)) (held left : List ℕ) (old new : Content) (lines : List (List ℕ))
+    → ServesLines how a held b left old new lines None → HoldsFirst how a held b left old new lines
+held-of how a b held left old new lines serves = record {
   answered = serves.answered;
   more = [];
   said = ap (λ s. s.events) serves.said ∙ sym (append-nil (events_of serves.answered));
   seen = serves.seen;
-  told = answers_of show serves.answered;
+  told = answers_of how.show serves.answered;
   untold = [];
-  parts = sym (append-nil (answers_of show serves.answered));
+  parts = sym (append-nil (answers_of how.show serves.answered));
   written = serves.written;
 }
 
 -- a line whose answer was not taken
-pub answer-refused : (X : Type 0) (show : Bool) (count : ℕ) (a b : Option (List ℕ)) (held left text given : List ℕ) (old new : Content) (line : List ℕ) (fault : AnswerFault)
-    → ServesLine show old (line_of line) text new → given ≡ text → Answers {X = X} a held b left given (Err fault) → EndsLines show count a held b left old new (line ∷ []) (of_answer fault)
-answer-refused X show count a b held left text given old new line answers.OutOfMemory serves is holds =
-    holds-one show a b held left old new line (unheld-one show old new text line serves) holds
-answer-refused X show count a b held left text given old new line answers.WriteFault serves is sends =
-    sends-one show a b held text old new line serves (subst (λ t. SendsPart a b (held ++ t)) is sends)
+pub answer-refused : (X : Type 0) (how : Manner) (count : ℕ) (a b : Option (List ℕ)) (held left text given : List ℕ) (old new : Content) (line : List ℕ) (fault : AnswerFault)
+    → ServesLine how.show old (heard how.patient line) text new → given ≡ text → Answers {X = X} a held b left given (Err fault) → EndsLines how count a held b left old new (line ∷ []) (of_answer fault)
+answer-refused X how count a b held left text given old new line answers.OutOfMemory serves is holds =
+    holds-one how a b held left old new line (unheld-one how old new text line serves) holds
+answer-refused X how count a b held left text given old new line answers.WriteFault serves is sends =
+    sends-one how a b held text old new line serves (subst (λ t. SendsPart a b (held ++ t)) is sends)
 
 -- ---- the same where whether values are shown stayed as it was
 
-pub serves-shown : {a b : Option (List ℕ)} {held left : List ℕ} {old new : Content} {lines : List (List ℕ)} {bad : Option ℕ} (other show : Bool) → other ≡ show
-    → ServesLines other a held b left old new lines bad → ServesLines show a held b left old new lines bad
-serves-shown {a} {b} {held} {left} {old} {new} {lines} {bad} other show same p = subst (λ s. ServesLines s a held b left old new lines bad) same p
+pub serves-shown : {a b : Option (List ℕ)} {held left : List ℕ} {old new : Content} {lines : List (List ℕ)} {bad : Option ℕ} (other how : Manner) → other ≡ how
+    → ServesLines other a held b left old new lines bad → ServesLines how a held b left old new lines bad
+serves-shown {a} {b} {held} {left} {old} {new} {lines} {bad} other how same p = subst (λ s. ServesLines s a held b left old new lines bad) same p
 
-pub ends-shown : (count : ℕ) (a b : Option (List ℕ)) (held left : List ℕ) (old new : Content) (lines : List (List ℕ)) (fault : ScriptFault) (other show : Bool) → other ≡ show
-    → EndsLines other count a held b left old new lines fault → EndsLines show count a held b left old new lines fault
-ends-shown count a b held left old new lines fault other show same p = subst (λ s. EndsLines s count a held b left old new lines fault) same p
+pub ends-shown : (count : ℕ) (a b : Option (List ℕ)) (held left : List ℕ) (old new : Content) (lines : List (List ℕ)) (fault : ScriptFault) (other how : Manner) → other ≡ how
+    → EndsLines other count a held b left old new lines fault → EndsLines how count a held b left old new lines fault
+ends-shown count a b held left old new lines fault other how same p = subst (λ s. EndsLines s count a held b left old new lines fault) same p

@@ -12,6 +12,7 @@ use Rattle.pps_types.specs.Writing.{SendsPart, Holds}
 use Rattle.pps_types.proofs.KnownBytes.{Appends-none, Consumes-none, Consumes-then, Consumes-same, keeps_itself}
 use Rattle.pps_types.proofs.Writing.{holds-part, holds-sent}
 use Rattle.pps_types.proofs.Cuts.{pieces-first, pieces-one}
+use Rattle.pps_script.specs.declared.manner.Manner.{Manner}
 use Rattle.pps_script.specs.declared.fault.ScriptFault.{ScriptFault}
 use Rattle.pps_script.specs.declared.fault.ScriptFault.TheVariants.{BadLine, OutOfMemory, ReadFault, WriteFault}
 use Rattle.pps_script.specs.Script.{script, whole_lines, answers_of}
@@ -22,48 +23,48 @@ use Rattle.pps_script.proofs.Lines.{serves-none, serves-then, ends-then, ends-mo
 -- ---- one text
 
 -- some lines are served, and the others are those of the rest
-pub record RunsOn (show : Bool) (count now : ℕ) (before : Option (List ℕ)) (held : List ℕ) (after : Option (List ℕ)) (left : List ℕ) (old new : Content)
+pub record RunsOn (how : Manner) (count now : ℕ) (before : Option (List ℕ)) (held : List ℕ) (after : Option (List ℕ)) (left : List ℕ) (old new : Content)
     (text rest : List ℕ) : Type 0 where
   pub lines : List (List ℕ)
   pub parts : pieces 10 text ≡ lines ++ pieces 10 rest
-  pub serves : ServesLines show before held after left old new lines None
+  pub serves : ServesLines how before held after left old new lines None
   pub counted : now ≡ min (count + length lines) last_count
 
-pub runs-start : (show : Bool) (count : ℕ) (a : Option (List ℕ)) (held : List ℕ) (c : Content) (text : List ℕ) → count ≡ min count last_count
-    → RunsOn show count count a held a held c c text text
-runs-start show count a held c text counted = record {
+pub runs-start : (how : Manner) (count : ℕ) (a : Option (List ℕ)) (held : List ℕ) (c : Content) (text : List ℕ) → count ≡ min count last_count
+    → RunsOn how count count a held a held c c text text
+runs-start how count a held c text counted = record {
   lines = [];
   parts = refl;
-  serves = serves-none show a held c;
+  serves = serves-none how a held c;
   counted = omega (arith, counted);
 }
 
-module _ (show : Bool) (count now : ℕ) (a b c : Option (List ℕ)) (held middle left : List ℕ) (old next new : Content) (text rest line behind : List ℕ)
-    (cut : Some (line, behind) ≡ split_at_first 10 rest) (on : RunsOn show count now a held b middle old next text rest) where
+module _ (how : Manner) (count now : ℕ) (a b c : Option (List ℕ)) (held middle left : List ℕ) (old next new : Content) (text rest line behind : List ℕ)
+    (cut : Some (line, behind) ≡ split_at_first 10 rest) (on : RunsOn how count now a held b middle old next text rest) where
   -- the lines so far, this one, and the others
   these : pieces 10 text ≡ (on.lines ++ line ∷ []) ++ pieces 10 behind
   these = on.parts ∙ ap (λ others. on.lines ++ others) (sym (pieces-first 10 rest line behind cut)) ∙ sym (append_assoc on.lines (line ∷ []) (pieces 10 behind))
 
-  pub runs-line : (more : ℕ) → more ≡ counted_once_more now → ServesLines show b middle c left next new (line ∷ []) None
-      → RunsOn show count more a held c left old new text behind
+  pub runs-line : (more : ℕ) → more ≡ counted_once_more now → ServesLines how b middle c left next new (line ∷ []) None
+      → RunsOn how count more a held c left old new text behind
   runs-line more counted one = record {
     lines = on.lines ++ line ∷ [];
     parts = these;
-    serves = serves-then show a b c held middle left old next new on.lines on.serves (line ∷ []) None one;
+    serves = serves-then how a b c held middle left old next new on.lines on.serves (line ∷ []) None one;
     counted = omega (arith, counted, on.counted, length-append on.lines (line ∷ []));
   }
 
-  pub runs-stop : (fault : ScriptFault) → EndsLines show now b middle c left next new (line ∷ []) fault
-      → EndsText show count a held c left old new text fault
+  pub runs-stop : (fault : ScriptFault) → EndsLines how now b middle c left next new (line ∷ []) fault
+      → EndsText how count a held c left old new text fault
   runs-stop fault ends = record {
     lines = on.lines ++ line ∷ [];
     first = record { rest = pieces 10 behind; some = pieces-some 10 behind; parts = these };
-    ends = ends-then show a b c held middle left old next new on.lines on.serves count now (line ∷ []) fault on.counted ends;
+    ends = ends-then how a b c held middle left old next new on.lines on.serves count now (line ∷ []) fault on.counted ends;
   }
 
-pub runs-end : (show : Bool) (count now : ℕ) (a b : Option (List ℕ)) (held left : List ℕ) (old new : Content) (text rest : List ℕ) → None ≡ split_at_first 10 rest
-    → RunsOn show count now a held b left old new text rest → ServesText show count now a held b left old new text rest
-runs-end show count now a b held left old new text rest none on = record {
+pub runs-end : (how : Manner) (count now : ℕ) (a b : Option (List ℕ)) (held left : List ℕ) (old new : Content) (text rest : List ℕ) → None ≡ split_at_first 10 rest
+    → RunsOn how count now a held b left old new text rest → ServesText how count now a held b left old new text rest
+runs-end how count now a b held left old new text rest none on = record {
   lines = on.lines;
   parts = on.parts ∙ ap (λ others. on.lines ++ others) (sym (pieces-one 10 rest none));
   serves = on.serves;
@@ -73,94 +74,94 @@ runs-end show count now a b held left old new text rest none on = record {
 -- ---- a piece behind a part
 
 -- the part that is left could not be kept
-pub kept-not : (show : Bool) (count more : ℕ) (a b : Option (List ℕ)) (held left : List ℕ) (old new : Content) (text part : List ℕ)
-    → ServesText show count more a held b left old new text part → EndsText show count a held b left old new text OutOfMemory
-kept-not show count more a b held left old new text part t = record {
+pub kept-not : (how : Manner) (count more : ℕ) (a b : Option (List ℕ)) (held left : List ℕ) (old new : Content) (text part : List ℕ)
+    → ServesText how count more a held b left old new text part → EndsText how count a held b left old new text OutOfMemory
+kept-not how count more a b held left old new text part t = record {
   lines = t.lines;
   first = record { rest = part ∷ []; some = λ e. let h = e in cc; parts = t.parts };
-  ends = held-of show a b held left old new t.lines t.serves;
+  ends = held-of how a b held left old new t.lines t.serves;
 }
 
 -- nothing of a text was served
-pub none-served : (show : Bool) (count : ℕ) (a : Option (List ℕ)) (held : List ℕ) (c : Content) (text : List ℕ) → EndsText show count a held a held c c text OutOfMemory
-none-served show count a held c text = record {
+pub none-served : (how : Manner) (count : ℕ) (a : Option (List ℕ)) (held : List ℕ) (c : Content) (text : List ℕ) → EndsText how count a held a held c c text OutOfMemory
+none-served how count a held c text = record {
   lines = [];
   first = record { rest = pieces 10 text; some = pieces-some 10 text; parts = refl };
-  ends = held-of show a a held held c c [] (serves-none show a held c);
+  ends = held-of how a a held held c c [] (serves-none how a held c);
 }
 
-pub feeds-part : (show : Bool) (count : ℕ) (a : Option (List ℕ)) (held : List ℕ) (c : Content) (part piece : List ℕ) → count ≡ min count last_count → IsPart part → None ≡ split_at_first 10 piece
-    → ServesText show count count a held a held c c (part ++ piece) (part ++ piece)
-feeds-part show count a held c part piece counted is none = record {
+pub feeds-part : (how : Manner) (count : ℕ) (a : Option (List ℕ)) (held : List ℕ) (c : Content) (part piece : List ℕ) → count ≡ min count last_count → IsPart part → None ≡ split_at_first 10 piece
+    → ServesText how count count a held a held c c (part ++ piece) (part ++ piece)
+feeds-part how count a held c part piece counted is none = record {
   lines = [];
   parts = sym (pieces-one 10 (part ++ piece) (sym (none-behind 10 part piece is (sym none))));
-  serves = serves-none show a held c;
+  serves = serves-none how a held c;
   counted = omega (arith, counted);
 }
 
-module _ (show : Bool) (count now : ℕ) (a b c : Option (List ℕ)) (held middle left : List ℕ) (old next new : Content) (part piece whole line behind : List ℕ)
+module _ (how : Manner) (count now : ℕ) (a b c : Option (List ℕ)) (held middle left : List ℕ) (old next new : Content) (part piece whole line behind : List ℕ)
     (is : IsPart part) (cut : Some (line, behind) ≡ split_at_first 10 piece) (made : whole ≡ part ++ line) where
   -- the line that the piece made whole, and the others
   both : pieces 10 (part ++ piece) ≡ whole ∷ pieces 10 behind
   both = pieces-behind 10 part piece line (pieces 10 behind) is (sym (pieces-first 10 piece line behind cut)) ∙ ap (λ first. first ∷ pieces 10 behind) (sym made)
 
-  pub feeds-bad : (fault : ScriptFault) → EndsLines show count a held b middle old next (whole ∷ []) fault → EndsText show count a held b middle old next (part ++ piece) fault
+  pub feeds-bad : (fault : ScriptFault) → EndsLines how count a held b middle old next (whole ∷ []) fault → EndsText how count a held b middle old next (part ++ piece) fault
   feeds-bad fault ends = record {
     lines = whole ∷ [];
     first = record { rest = pieces 10 behind; some = pieces-some 10 behind; parts = both };
     ends = ends;
   }
 
-  pub feeds-line : (more : ℕ) (rest : List ℕ) → now ≡ counted_once_more count → ServesLines show a held b middle old next (whole ∷ []) None
-      → ServesText show now more b middle c left next new behind rest → ServesText show count more a held c left old new (part ++ piece) rest
+  pub feeds-line : (more : ℕ) (rest : List ℕ) → now ≡ counted_once_more count → ServesLines how a held b middle old next (whole ∷ []) None
+      → ServesText how now more b middle c left next new behind rest → ServesText how count more a held c left old new (part ++ piece) rest
   feeds-line more rest counted one t = record {
     lines = whole ∷ t.lines;
     parts = both ∙ ap (λ others. whole ∷ others) t.parts;
-    serves = serves-then show a b c held middle left old next new (whole ∷ []) one t.lines None t.serves;
+    serves = serves-then how a b c held middle left old next new (whole ∷ []) one t.lines None t.serves;
     counted = omega (arith, counted, t.counted);
   }
 
-  pub feeds-stop : (fault : ScriptFault) → now ≡ counted_once_more count → ServesLines show a held b middle old next (whole ∷ []) None
-      → EndsText show now b middle c left next new behind fault → EndsText show count a held c left old new (part ++ piece) fault
+  pub feeds-stop : (fault : ScriptFault) → now ≡ counted_once_more count → ServesLines how a held b middle old next (whole ∷ []) None
+      → EndsText how now b middle c left next new behind fault → EndsText how count a held c left old new (part ++ piece) fault
   feeds-stop fault counted one t = record {
     lines = whole ∷ t.lines;
     first = record { rest = t.first.rest; some = t.first.some; parts = both ∙ ap (λ others. whole ∷ others) t.first.parts };
-    ends = ends-then show a b c held middle left old next new (whole ∷ []) one count now t.lines fault (omega (arith, counted)) t.ends;
+    ends = ends-then how a b c held middle left old next new (whole ∷ []) one count now t.lines fault (omega (arith, counted)) t.ends;
   }
 
 -- the end of the input is one of its ends
-pub ends-input : (X : Type 0) (show : Bool) (from to before after : Option (List ℕ)) (left : List ℕ) (old new : Content) (fault : ScriptFault) → EndsInput show from to before after left old new fault
-    → RunsInput {X = X} show from to before after left old new (Err fault)
-ends-input X show from to before after left old new (BadLine line) e = e
-ends-input X show from to before after left old new OutOfMemory e = e
-ends-input X show from to before after left old new WriteFault e = e
-ends-input X show from to before after left old new ReadFault e = absurd e.ends
+pub ends-input : (X : Type 0) (how : Manner) (from to before after : Option (List ℕ)) (left : List ℕ) (old new : Content) (fault : ScriptFault) → EndsInput how from to before after left old new fault
+    → RunsInput {X = X} how from to before after left old new (Err fault)
+ends-input X how from to before after left old new (BadLine line) e = e
+ends-input X how from to before after left old new OutOfMemory e = e
+ends-input X how from to before after left old new WriteFault e = e
+ends-input X how from to before after left old new ReadFault e = absurd e.ends
 
 -- ---- all pieces of an input
 
 -- what was read so far is served, but for the part of a line at its end
-pub record SoFar (show : Bool) (from to before after : Option (List ℕ)) (left : List ℕ) (old new : Content) (count : ℕ) (part : List ℕ) : Type 0 where
+pub record SoFar (how : Manner) (from to before after : Option (List ℕ)) (left : List ℕ) (old new : Content) (count : ℕ) (part : List ℕ) : Type 0 where
   pub text : List ℕ
   pub read : Consumes from to text
-  pub serves : ServesText show 0 count before [] after left old new text part
+  pub serves : ServesText how 0 count before [] after left old new text part
 
-pub so_far-none : (show : Bool) (from before : Option (List ℕ)) (c : Content) (count : ℕ) (part : List ℕ) → count ≡ 0 → part ≡ []
-    → SoFar show from from before before [] c c count part
-so_far-none show from before c count part zero none = record {
+pub so_far-none : (how : Manner) (from before : Option (List ℕ)) (c : Content) (count : ℕ) (part : List ℕ) → count ≡ 0 → part ≡ []
+    → SoFar how from from before before [] c c count part
+so_far-none how from before c count part zero none = record {
   text = [];
   read = Consumes-none from from (keeps_itself from);
   serves = record {
     lines = [];
     parts = ap (λ p. p ∷ []) (sym none);
-    serves = serves-none show before [] c;
+    serves = serves-none how before [] c;
     counted = omega (arith, zero);
   };
 }
 
-module _ (show : Bool) (from here before middle : Option (List ℕ)) (left : List ℕ) (old next : Content) (count : ℕ) (part : List ℕ)
-    (far : SoFar show from here before middle left old next count part) where
+module _ (how : Manner) (from here before middle : Option (List ℕ)) (left : List ℕ) (old next : Content) (count : ℕ) (part : List ℕ)
+    (far : SoFar how from here before middle left old next count part) where
   -- all that is held is sent
-  pub so_far-sent : (after : Option (List ℕ)) (none : List ℕ) → Appends middle after left → none ≡ [] → SoFar show from here before after none old next count part
+  pub so_far-sent : (after : Option (List ℕ)) (none : List ℕ) → Appends middle after left → none ≡ [] → SoFar how from here before after none old next count part
   so_far-sent after none sends is = record {
     text = far.text;
     read = far.read;
@@ -172,9 +173,9 @@ module _ (show : Bool) (from here before middle : Option (List ℕ)) (left : Lis
         said = far.serves.serves.said;
         seen = far.serves.serves.seen;
         written = record {
-          sent = answers_of show far.serves.serves.answered;
+          sent = answers_of how.show far.serves.serves.answered;
           written = holds-sent before middle after left _ far.serves.serves.written sends;
-          parts = sym (append-nil (answers_of show far.serves.serves.answered)) ∙ ap (λ t. answers_of show far.serves.serves.answered ++ t) (sym is);
+          parts = sym (append-nil (answers_of how.show far.serves.serves.answered)) ∙ ap (λ t. answers_of how.show far.serves.serves.answered ++ t) (sym is);
         };
       };
       counted = far.serves.counted;
@@ -189,12 +190,12 @@ module _ (show : Bool) (from here before middle : Option (List ℕ)) (left : Lis
   lines-here = ap without_empty_end far.serves.parts ∙ last-lines far.serves.lines (part ∷ []) (λ e. let h = e in cc)
 
   -- or a part of it
-  pub so_far-unsent : (to after : Option (List ℕ)) (other : List ℕ) → to ≡ here → SendsPart middle after left → EndsInput show from to before after other old next WriteFault
+  pub so_far-unsent : (to after : Option (List ℕ)) (other : List ℕ) → to ≡ here → SendsPart middle after left → EndsInput how from to before after other old next WriteFault
   so_far-unsent to after other same sends = record {
     text = far.text;
     read = subst (λ t. Consumes from t far.text) (sym same) far.read;
-    ends = subst (λ ls. SendsFirst show before [] after old next ls) (sym lines-here)
-        (ends-more show 0 before after [] left old next far.serves.lines (without_empty_end (part ∷ [])) WriteFault
+    ends = subst (λ ls. SendsFirst how before [] after old next ls) (sym lines-here)
+        (ends-more how 0 before after [] left old next far.serves.lines (without_empty_end (part ∷ [])) WriteFault
         record {
           answered = far.serves.serves.answered;
           more = [];
@@ -206,36 +207,36 @@ module _ (show : Bool) (from here before middle : Option (List ℕ)) (left : Lis
   }
 
   -- the same input, and as much that is written and held
-  pub so_far-moved : (here' middle' : Option (List ℕ)) (left' : List ℕ) → here' ≡ here → middle' ≡ middle → left' ≡ left → SoFar show from here' before middle' left' old next count part
+  pub so_far-moved : (here' middle' : Option (List ℕ)) (left' : List ℕ) → here' ≡ here → middle' ≡ middle → left' ≡ left → SoFar how from here' before middle' left' old next count part
   so_far-moved here' middle' left' h m l =
-      subst (λ x. SoFar show from x before middle' left' old next count part) (sym h)
-      (subst (λ x. SoFar show from here before x left' old next count part) (sym m) (subst (λ x. SoFar show from here before middle x old next count part) (sym l) far))
+      subst (λ x. SoFar how from x before middle' left' old next count part) (sym h)
+      (subst (λ x. SoFar how from here before x left' old next count part) (sym m) (subst (λ x. SoFar how from here before middle x old next count part) (sym l) far))
 
   module _ (to after : Option (List ℕ)) (rest : List ℕ) (new : Content) (piece : List ℕ) (reads : Consumes here to piece) where
     read-on : Consumes from to (far.text ++ piece)
     read-on = Consumes-then from here to far.text piece far.read reads
 
-    pub so_far-more : (more : ℕ) (others : List ℕ) → ServesText show count more middle left after rest next new (part ++ piece) others
-        → SoFar show from to before after rest old new more others
+    pub so_far-more : (more : ℕ) (others : List ℕ) → ServesText how count more middle left after rest next new (part ++ piece) others
+        → SoFar how from to before after rest old new more others
     so_far-more more others t = record {
       text = far.text ++ piece;
       read = read-on;
       serves = record {
         lines = far.serves.lines ++ t.lines;
         parts = all-lines piece ∙ ap (λ behind. far.serves.lines ++ behind) t.parts ∙ sym (append_assoc far.serves.lines t.lines (others ∷ []));
-        serves = serves-then show before middle after [] left rest old next new far.serves.lines far.serves.serves t.lines None t.serves;
+        serves = serves-then how before middle after [] left rest old next new far.serves.lines far.serves.serves t.lines None t.serves;
         counted = omega (arith, t.counted, far.serves.counted, length-append far.serves.lines t.lines);
       };
     }
 
-    pub so_far-stop : (fault : ScriptFault) → EndsText show count middle left after rest next new (part ++ piece) fault
-        → EndsInput show from to before after rest old new fault
+    pub so_far-stop : (fault : ScriptFault) → EndsText how count middle left after rest next new (part ++ piece) fault
+        → EndsInput how from to before after rest old new fault
     so_far-stop fault t = record {
       text = far.text ++ piece;
       read = read-on;
-      ends = subst (λ ls. EndsLines show 0 before [] after rest old new ls fault) (sym these)
-          (ends-more show 0 before after [] rest old new (far.serves.lines ++ t.lines) (without_empty_end t.first.rest) fault
-          (ends-then show before middle after [] left rest old next new far.serves.lines far.serves.serves 0 count t.lines fault far.serves.counted t.ends));
+      ends = subst (λ ls. EndsLines how 0 before [] after rest old new ls fault) (sym these)
+          (ends-more how 0 before after [] rest old new (far.serves.lines ++ t.lines) (without_empty_end t.first.rest) fault
+          (ends-then how before middle after [] left rest old next new far.serves.lines far.serves.serves 0 count t.lines fault far.serves.counted t.ends));
     }
       where
         these : lines_of (far.text ++ piece) ≡ (far.serves.lines ++ t.lines) ++ without_empty_end t.first.rest
@@ -244,31 +245,31 @@ module _ (show : Bool) (from here before middle : Option (List ℕ)) (left : Lis
 
   -- the end of the input
   pub so_far-end : (to after : Option (List ℕ)) (rest : List ℕ) (new : Content) → Consumes here to [] → IsAtEnd to
-      → ServesLines show middle left after rest next new (without_empty_end (part ∷ [])) None → ServesInput show from to before after rest old new
+      → ServesLines how middle left after rest next new (without_empty_end (part ∷ [])) None → ServesInput how from to before after rest old new
   so_far-end to after rest new reads at_end last = record {
     text = far.text;
     read = Consumes-same from to _ _ (append-nil far.text) (Consumes-then from here to far.text [] far.read reads);
     whole = at_end;
-    serves = subst (λ ls. ServesLines show before [] after rest old new ls None) (sym lines-here)
-        (serves-then show before middle after [] left rest old next new far.serves.lines far.serves.serves (without_empty_end (part ∷ [])) None last);
+    serves = subst (λ ls. ServesLines how before [] after rest old new ls None) (sym lines-here)
+        (serves-then how before middle after [] left rest old next new far.serves.lines far.serves.serves (without_empty_end (part ∷ [])) None last);
   }
 
   pub so_far-bad : (to after : Option (List ℕ)) (rest : List ℕ) (new : Content) (fault : ScriptFault) → Consumes here to []
-      → EndsLines show count middle left after rest next new (without_empty_end (part ∷ [])) fault → EndsInput show from to before after rest old new fault
+      → EndsLines how count middle left after rest next new (without_empty_end (part ∷ [])) fault → EndsInput how from to before after rest old new fault
   so_far-bad to after rest new fault reads last = record {
     text = far.text;
     read = Consumes-same from to _ _ (append-nil far.text) (Consumes-then from here to far.text [] far.read reads);
-    ends = subst (λ ls. EndsLines show 0 before [] after rest old new ls fault) (sym lines-here)
-        (ends-then show before middle after [] left rest old next new far.serves.lines far.serves.serves 0 count (without_empty_end (part ∷ [])) fault far.serves.counted last);
+    ends = subst (λ ls. EndsLines how 0 before [] after rest old new ls fault) (sym lines-here)
+        (ends-then how before middle after [] left rest old next new far.serves.lines far.serves.serves 0 count (without_empty_end (part ∷ [])) fault far.serves.counted last);
   }
 
   -- no more can be read
-  pub so_far-whole : (to : Option (List ℕ)) → Consumes here to [] → left ≡ [] → ServesWhole show from to before middle left old next
+  pub so_far-whole : (to : Option (List ℕ)) → Consumes here to [] → left ≡ [] → ServesWhole how from to before middle left old next
   so_far-whole to reads none = record {
     text = far.text;
     read = Consumes-same from to _ _ (append-nil far.text) (Consumes-then from here to far.text [] far.read reads);
     sent = none;
-    serves = subst (λ ls. ServesLines show before [] middle left old next ls None) (sym these) far.serves.serves;
+    serves = subst (λ ls. ServesLines how before [] middle left old next ls None) (sym these) far.serves.serves;
   }
     where
       these : whole_lines far.text ≡ far.serves.lines
@@ -278,33 +279,33 @@ module _ (show : Bool) (from here before middle : Option (List ℕ)) (left : Lis
 
 -- ---- the same where whether values are shown stayed as it was
 
-pub text-shown : {count more : ℕ} {a b : Option (List ℕ)} {held left : List ℕ} {old new : Content} {text part : List ℕ} (other show : Bool) → other ≡ show
-    → ServesText other count more a held b left old new text part → ServesText show count more a held b left old new text part
-text-shown {count} {more} {a} {b} {held} {left} {old} {new} {text} {part} other show same p = subst (λ s. ServesText s count more a held b left old new text part) same p
+pub text-shown : {count more : ℕ} {a b : Option (List ℕ)} {held left : List ℕ} {old new : Content} {text part : List ℕ} (other how : Manner) → other ≡ how
+    → ServesText other count more a held b left old new text part → ServesText how count more a held b left old new text part
+text-shown {count} {more} {a} {b} {held} {left} {old} {new} {text} {part} other how same p = subst (λ s. ServesText s count more a held b left old new text part) same p
 
-pub end-shown : {count : ℕ} {a b : Option (List ℕ)} {held left : List ℕ} {old new : Content} {text : List ℕ} {fault : ScriptFault} (other show : Bool) → other ≡ show
-    → EndsText other count a held b left old new text fault → EndsText show count a held b left old new text fault
-end-shown {count} {a} {b} {held} {left} {old} {new} {text} {fault} other show same p = subst (λ s. EndsText s count a held b left old new text fault) same p
+pub end-shown : {count : ℕ} {a b : Option (List ℕ)} {held left : List ℕ} {old new : Content} {text : List ℕ} {fault : ScriptFault} (other how : Manner) → other ≡ how
+    → EndsText other count a held b left old new text fault → EndsText how count a held b left old new text fault
+end-shown {count} {a} {b} {held} {left} {old} {new} {text} {fault} other how same p = subst (λ s. EndsText s count a held b left old new text fault) same p
 
 -- a piece after a line that it made whole, whatever became of it
-pub feeds-rest : (X : Type 0) (show other : Bool) (count now more : ℕ) (a b c : Option (List ℕ)) (held middle left : List ℕ) (old next new : Content) (part piece whole line behind rest : List ℕ)
-    (r : Result X ScriptFault) → IsPart part → Some (line, behind) ≡ split_at_first 10 piece → whole ≡ part ++ line → other ≡ show → now ≡ counted_once_more count
-    → ServesLines show a held b middle old next (whole ∷ []) None
+pub feeds-rest : (X : Type 0) (how other : Manner) (count now more : ℕ) (a b c : Option (List ℕ)) (held middle left : List ℕ) (old next new : Content) (part piece whole line behind rest : List ℕ)
+    (r : Result X ScriptFault) → IsPart part → Some (line, behind) ≡ split_at_first 10 piece → whole ≡ part ++ line → other ≡ how → now ≡ counted_once_more count
+    → ServesLines how a held b middle old next (whole ∷ []) None
     → MatchResult r (λ done. ServesText other now more b middle c left next new behind rest) (λ fault. EndsText other now b middle c left next new behind fault)
-    → MatchResult r (λ done. ServesText show count more a held c left old new (part ++ piece) rest) (λ fault. EndsText show count a held c left old new (part ++ piece) fault)
-feeds-rest X show other count now more a b c held middle left old next new part piece whole line behind rest (Ok x) is cut made same counted one t =
-    feeds-line show count now a b c held middle left old next new part piece whole line behind is cut made more rest counted one (text-shown other show same t)
-feeds-rest X show other count now more a b c held middle left old next new part piece whole line behind rest (Err fault) is cut made same counted one t =
-    feeds-stop show count now a b c held middle left old next new part piece whole line behind is cut made fault counted one (end-shown other show same t)
+    → MatchResult r (λ done. ServesText how count more a held c left old new (part ++ piece) rest) (λ fault. EndsText how count a held c left old new (part ++ piece) fault)
+feeds-rest X how other count now more a b c held middle left old next new part piece whole line behind rest (Ok x) is cut made same counted one t =
+    feeds-line how count now a b c held middle left old next new part piece whole line behind is cut made more rest counted one (text-shown other how same t)
+feeds-rest X how other count now more a b c held middle left old next new part piece whole line behind rest (Err fault) is cut made same counted one t =
+    feeds-stop how count now a b c held middle left old next new part piece whole line behind is cut made fault counted one (end-shown other how same t)
 
 -- the last line, if there is one
-pub so_far-finish : (X : Type 0) (show other : Bool) (from here before middle : Option (List ℕ)) (left : List ℕ) (old next : Content) (count : ℕ) (part : List ℕ)
-    (to after : Option (List ℕ)) (rest : List ℕ) (new : Content) (r : Result X ScriptFault) → SoFar show from here before middle left old next count part → other ≡ show → Consumes here to [] → IsAtEnd to
+pub so_far-finish : (X : Type 0) (how other : Manner) (from here before middle : Option (List ℕ)) (left : List ℕ) (old next : Content) (count : ℕ) (part : List ℕ)
+    (to after : Option (List ℕ)) (rest : List ℕ) (new : Content) (r : Result X ScriptFault) → SoFar how from here before middle left old next count part → other ≡ how → Consumes here to [] → IsAtEnd to
     → MatchResult r (λ done. ServesLines other middle left after rest next new (without_empty_end (part ∷ [])) None) (λ fault. EndsLines other count middle left after rest next new (without_empty_end (part ∷ [])) fault)
-    → RunsInput show from to before after rest old new r
-so_far-finish X show other from here before middle left old next count part to after rest new (Ok x) far same reads at_end last =
-    so_far-end show from here before middle left old next count part far to after rest new reads at_end (serves-shown other show same last)
-so_far-finish X show other from here before middle left old next count part to after rest new (Err fault) far same reads at_end last =
-    ends-input X show from to before after rest old new fault
-    (so_far-bad show from here before middle left old next count part far to after rest new fault reads
-    (ends-shown count middle after left rest next new (without_empty_end (part ∷ [])) fault other show same last))
+    → RunsInput how from to before after rest old new r
+so_far-finish X how other from here before middle left old next count part to after rest new (Ok x) far same reads at_end last =
+    so_far-end how from here before middle left old next count part far to after rest new reads at_end (serves-shown other how same last)
+so_far-finish X how other from here before middle left old next count part to after rest new (Err fault) far same reads at_end last =
+    ends-input X how from to before after rest old new fault
+    (so_far-bad how from here before middle left old next count part far to after rest new fault reads
+    (ends-shown count middle after left rest next new (without_empty_end (part ∷ [])) fault other how same last))

@@ -13,6 +13,7 @@ use Rattle.pps_types.specs.declared.exchange.Exchange.{Exchange}
 use Rattle.pps_types.specs.Exchange.{input_of, output_of, held_in}
 use Rattle.pps_types.specs.Runs.{Answered, events_of}
 use Rattle.pps_types.specs.Stands.{StepsSeen, RunsSeen}
+use Rattle.pps_script.specs.declared.manner.Manner.{Manner}
 use Rattle.pps_script.specs.declared.script_line.ScriptLine.{ScriptLine}
 use Rattle.pps_script.specs.declared.script_line.ScriptLine.TheVariants.{Nothing, Command}
 use Rattle.pps_script.specs.declared.fault.ScriptFault.{ScriptFault}
@@ -44,57 +45,57 @@ FailsLine old said new lacks.OutOfMemory = Unanswered old said new
 -- ---- lines, and the answers to them behind those that were held
 
 -- all of them are served, up to the first bad one
-pub record ServesLines (show : Bool) (before : Option (List ℕ)) (held : List ℕ) (after : Option (List ℕ)) (left : List ℕ) (old new : Content)
+pub record ServesLines (how : Manner) (before : Option (List ℕ)) (held : List ℕ) (after : Option (List ℕ)) (left : List ℕ) (old new : Content)
     (lines : List (List ℕ)) (bad : Option ℕ) : Type 0 where
   pub answered : List Answered
-  pub said : script lines ≡ record { events = events_of answered; bad = bad }
+  pub said : script how.patient lines ≡ record { events = events_of answered; bad = bad }
   pub seen : RunsSeen old answered new
-  pub written : Holds before after left (held ++ answers_of show answered)
+  pub written : Holds before after left (held ++ answers_of how.show answered)
 
 -- the first are served, and the first of these are answered
-pub record HoldsFirst (show : Bool) (before : Option (List ℕ)) (held : List ℕ) (after : Option (List ℕ)) (left : List ℕ) (old new : Content)
+pub record HoldsFirst (how : Manner) (before : Option (List ℕ)) (held : List ℕ) (after : Option (List ℕ)) (left : List ℕ) (old new : Content)
     (lines : List (List ℕ)) : Type 0 where
   pub answered : List Answered
   pub more : List Event
-  pub said : (script lines).events ≡ events_of answered ++ more
+  pub said : (script how.patient lines).events ≡ events_of answered ++ more
   pub seen : RunsSeen old answered new
   pub told : List ℕ
   pub untold : List ℕ
-  pub parts : answers_of show answered ≡ told ++ untold
+  pub parts : answers_of how.show answered ≡ told ++ untold
   pub written : Holds before after left (held ++ told)
 
 -- the first are served, and a part of the answers is written
-pub record SendsFirst (show : Bool) (before : Option (List ℕ)) (held : List ℕ) (after : Option (List ℕ)) (old new : Content) (lines : List (List ℕ)) : Type 0 where
+pub record SendsFirst (how : Manner) (before : Option (List ℕ)) (held : List ℕ) (after : Option (List ℕ)) (old new : Content) (lines : List (List ℕ)) : Type 0 where
   pub answered : List Answered
   pub more : List Event
-  pub said : (script lines).events ≡ events_of answered ++ more
+  pub said : (script how.patient lines).events ≡ events_of answered ++ more
   pub seen : RunsSeen old answered new
-  pub written : SendsPart before after (held ++ answers_of show answered)
+  pub written : SendsPart before after (held ++ answers_of how.show answered)
 
 -- how many lines there were
 abbrev pub count_of : Session → ℕ
 count_of session = min session.lines last_count
 
 -- the first bad one of them has this number, after so many others
-pub record EndsAt (show : Bool) (count line : ℕ) (before : Option (List ℕ)) (held : List ℕ) (after : Option (List ℕ)) (left : List ℕ) (old new : Content)
+pub record EndsAt (how : Manner) (count line : ℕ) (before : Option (List ℕ)) (held : List ℕ) (after : Option (List ℕ)) (left : List ℕ) (old new : Content)
     (lines : List (List ℕ)) : Type 0 where
   pub number : ℕ
   pub told : line ≡ min (count + number) last_count
-  pub serves : ServesLines show before held after left old new lines (Some number)
+  pub serves : ServesLines how before held after left old new lines (Some number)
 
 -- what became of lines
-abbrev pub EndsLines : Bool → ℕ → Option (List ℕ) → List ℕ → Option (List ℕ) → List ℕ → Content → Content → List (List ℕ) → ScriptFault → Type 0
-EndsLines show count before held after left old new lines (BadLine line) = EndsAt show count line before held after left old new lines
-EndsLines show count before held after left old new lines OutOfMemory = HoldsFirst show before held after left old new lines
-EndsLines show count before held after left old new lines WriteFault = SendsFirst show before held after old new lines
-EndsLines show count before held after left old new lines ReadFault = ⊥
+abbrev pub EndsLines : Manner → ℕ → Option (List ℕ) → List ℕ → Option (List ℕ) → List ℕ → Content → Content → List (List ℕ) → ScriptFault → Type 0
+EndsLines how count before held after left old new lines (BadLine line) = EndsAt how count line before held after left old new lines
+EndsLines how count before held after left old new lines OutOfMemory = HoldsFirst how before held after left old new lines
+EndsLines how count before held after left old new lines WriteFault = SendsFirst how before held after old new lines
+EndsLines how count before held after left old new lines ReadFault = ⊥
 
 -- a line was served, or it is where the script ends
 abbrev pub RunsLine : {R W X : Type 0} → (W → Option (List ℕ)) → Session → Exchange R W → Exchange R W → Content → Content → List ℕ → Result X ScriptFault → Type 0
 RunsLine contents session x y old new line (Ok done) =
-    ServesLines session.show (contents (device_inner (output_of x))) (held_in x) (contents (device_inner (output_of y))) (held_in y) old new (line ∷ []) None
+    ServesLines session.manner (contents (device_inner (output_of x))) (held_in x) (contents (device_inner (output_of y))) (held_in y) old new (line ∷ []) None
 RunsLine contents session x y old new line (Err fault) =
-    EndsLines session.show (count_of session) (contents (device_inner (output_of x))) (held_in x) (contents (device_inner (output_of y))) (held_in y) old new (line ∷ []) fault
+    EndsLines session.manner (count_of session) (contents (device_inner (output_of x))) (held_in x) (contents (device_inner (output_of y))) (held_in y) old new (line ∷ []) fault
 
 -- ---- texts
 
@@ -109,19 +110,19 @@ pub record AreFirst (lines : List (List ℕ)) (text : List ℕ) : Type 0 where
   pub parts : pieces 10 text ≡ lines ++ rest
 
 -- the whole lines of a text are served, and this part is left of it
-pub record ServesText (show : Bool) (count more : ℕ) (before : Option (List ℕ)) (held : List ℕ) (after : Option (List ℕ)) (left : List ℕ) (old new : Content)
+pub record ServesText (how : Manner) (count more : ℕ) (before : Option (List ℕ)) (held : List ℕ) (after : Option (List ℕ)) (left : List ℕ) (old new : Content)
     (text part : List ℕ) : Type 0 where
   pub lines : List (List ℕ)
   pub parts : pieces 10 text ≡ lines ++ part ∷ []
-  pub serves : ServesLines show before held after left old new lines None
+  pub serves : ServesLines how before held after left old new lines None
   pub counted : more ≡ min (count + length lines) last_count
 
 -- or the script ends in one of them
-pub record EndsText (show : Bool) (count : ℕ) (before : Option (List ℕ)) (held : List ℕ) (after : Option (List ℕ)) (left : List ℕ) (old new : Content)
+pub record EndsText (how : Manner) (count : ℕ) (before : Option (List ℕ)) (held : List ℕ) (after : Option (List ℕ)) (left : List ℕ) (old new : Content)
     (text : List ℕ) (fault : ScriptFault) : Type 0 where
   pub lines : List (List ℕ)
   pub first : AreFirst lines text
-  pub ends : EndsLines show count before held after left old new lines fault
+  pub ends : EndsLines how count before held after left old new lines fault
 
 -- a fault of the output is told where the writer had it, and nowhere else
 abbrev pub LineFaultIs : {X : Type 0} → Result X ScriptFault → (failed_old failed_new : Bool) → (stalls_old stalls_new : ℕ) → Type 0
@@ -132,11 +133,11 @@ LineFaultIs (Err fault) failed_old failed_new old new = (failed_new ≡ failed_o
 -- the same of an exchange, and of a session that counts the lines
 abbrev pub ServesTextOn : {R W : Type 0} → (W → Option (List ℕ)) → Session → Session → Exchange R W → Exchange R W → Content → Content → (text part : List ℕ) → Type 0
 ServesTextOn contents session next x y old new text part =
-    ServesText session.show (count_of session) (count_of next) (contents (device_inner (output_of x))) (held_in x) (contents (device_inner (output_of y))) (held_in y) old new text part
+    ServesText session.manner (count_of session) (count_of next) (contents (device_inner (output_of x))) (held_in x) (contents (device_inner (output_of y))) (held_in y) old new text part
 
 abbrev pub EndsTextOn : {R W : Type 0} → (W → Option (List ℕ)) → Session → Exchange R W → Exchange R W → Content → Content → List ℕ → ScriptFault → Type 0
 EndsTextOn contents session x y old new text fault =
-    EndsText session.show (count_of session) (contents (device_inner (output_of x))) (held_in x) (contents (device_inner (output_of y))) (held_in y) old new text fault
+    EndsText session.manner (count_of session) (contents (device_inner (output_of x))) (held_in x) (contents (device_inner (output_of y))) (held_in y) old new text fault
 
 -- the text is served up to its part of a line, or the script ends in it
 abbrev pub RunsText : {R W X : Type 0} → (W → Option (List ℕ)) → Session → Session → Exchange R W → Exchange R W → Content → Content → (text part : List ℕ) → Result X ScriptFault → Type 0
@@ -147,42 +148,42 @@ RunsText contents session next x y old new text part result =
 abbrev pub RunsRest : {R W X : Type 0} → (W → Option (List ℕ)) → Session → Exchange R W → Exchange R W → Content → Content → (part : List ℕ) → Result X ScriptFault → Type 0
 RunsRest contents session x y old new part result =
     MatchResult result
-    (λ done. ServesLines session.show (contents (device_inner (output_of x))) (held_in x) (contents (device_inner (output_of y))) (held_in y) old new (without_empty_end (part ∷ [])) None)
-    (λ fault. EndsLines session.show (count_of session) (contents (device_inner (output_of x))) (held_in x) (contents (device_inner (output_of y))) (held_in y) old new (without_empty_end (part ∷ [])) fault)
+    (λ done. ServesLines session.manner (contents (device_inner (output_of x))) (held_in x) (contents (device_inner (output_of y))) (held_in y) old new (without_empty_end (part ∷ [])) None)
+    (λ fault. EndsLines session.manner (count_of session) (contents (device_inner (output_of x))) (held_in x) (contents (device_inner (output_of y))) (held_in y) old new (without_empty_end (part ∷ [])) fault)
 
 -- ---- all pieces of an input
 
 -- the input was read to its end, and all its lines are served
-pub record ServesInput (show : Bool) (from to before after : Option (List ℕ)) (left : List ℕ) (old new : Content) : Type 0 where
+pub record ServesInput (how : Manner) (from to before after : Option (List ℕ)) (left : List ℕ) (old new : Content) : Type 0 where
   pub text : List ℕ
   pub read : Consumes from to text
   pub whole : IsAtEnd to
-  pub serves : ServesLines show before [] after left old new (lines_of text) None
+  pub serves : ServesLines how before [] after left old new (lines_of text) None
 
 -- this was read, and its whole lines are served and answered
-pub record ServesWhole (show : Bool) (from to before after : Option (List ℕ)) (left : List ℕ) (old new : Content) : Type 0 where
+pub record ServesWhole (how : Manner) (from to before after : Option (List ℕ)) (left : List ℕ) (old new : Content) : Type 0 where
   pub text : List ℕ
   pub read : Consumes from to text
   pub sent : left ≡ []
-  pub serves : ServesLines show before [] after left old new (whole_lines text) None
+  pub serves : ServesLines how before [] after left old new (whole_lines text) None
 
 -- this was read, and the script ends in it
-pub record EndsInput (show : Bool) (from to before after : Option (List ℕ)) (left : List ℕ) (old new : Content) (fault : ScriptFault) : Type 0 where
+pub record EndsInput (how : Manner) (from to before after : Option (List ℕ)) (left : List ℕ) (old new : Content) (fault : ScriptFault) : Type 0 where
   pub text : List ℕ
   pub read : Consumes from to text
-  pub ends : EndsLines show 0 before [] after left old new (lines_of text) fault
+  pub ends : EndsLines how 0 before [] after left old new (lines_of text) fault
 
-abbrev pub RunsInput : {X : Type 0} → Bool → (from to before after : Option (List ℕ)) → List ℕ → Content → Content → Result X ScriptFault → Type 0
-RunsInput show from to before after left old new (Ok done) = ServesInput show from to before after left old new
-RunsInput show from to before after left old new (Err ReadFault) = ServesWhole show from to before after left old new
-RunsInput show from to before after left old new (Err (BadLine line)) = EndsInput show from to before after left old new (BadLine line)
-RunsInput show from to before after left old new (Err OutOfMemory) = EndsInput show from to before after left old new OutOfMemory
-RunsInput show from to before after left old new (Err WriteFault) = EndsInput show from to before after left old new WriteFault
+abbrev pub RunsInput : {X : Type 0} → Manner → (from to before after : Option (List ℕ)) → List ℕ → Content → Content → Result X ScriptFault → Type 0
+RunsInput how from to before after left old new (Ok done) = ServesInput how from to before after left old new
+RunsInput how from to before after left old new (Err ReadFault) = ServesWhole how from to before after left old new
+RunsInput how from to before after left old new (Err (BadLine line)) = EndsInput how from to before after left old new (BadLine line)
+RunsInput how from to before after left old new (Err OutOfMemory) = EndsInput how from to before after left old new OutOfMemory
+RunsInput how from to before after left old new (Err WriteFault) = EndsInput how from to before after left old new WriteFault
 
 -- the same of an exchange
-abbrev pub RunsPieces : {R W X : Type 0} → (R → Option (List ℕ)) → (W → Option (List ℕ)) → Bool → Exchange R W → Exchange R W → Content → Content → Result X ScriptFault → Type 0
-RunsPieces remaining contents show x y old new result =
-    RunsInput show (remaining (device_inner (input_of x))) (remaining (device_inner (input_of y))) (contents (device_inner (output_of x))) (contents (device_inner (output_of y)))
+abbrev pub RunsPieces : {R W X : Type 0} → (R → Option (List ℕ)) → (W → Option (List ℕ)) → Manner → Exchange R W → Exchange R W → Content → Content → Result X ScriptFault → Type 0
+RunsPieces remaining contents how x y old new result =
+    RunsInput how (remaining (device_inner (input_of x))) (remaining (device_inner (input_of y))) (contents (device_inner (output_of x))) (contents (device_inner (output_of y)))
     (held_in y) old new result
 
 -- a device's fault is told where the device had it, and nowhere else; the output did not stall before

@@ -1,5 +1,5 @@
 -- What a script asks for, and the lines that answer it. Own.
-use Rattle.std.specs.Prelude.{ℕ, ◌+◌, ◌-◌, List, [], ◌∷◌, ◌++◌, Bool, if◌then◌else◌, Option, Some, None, Ok, option_map, length, take}
+use Rattle.std.specs.Prelude.{ℕ, ◌+◌, ◌-◌, List, [], ◌∷◌, ◌++◌, Bool, true, false, if◌then◌else◌, Option, Some, None, Ok, option_map, length, take}
 use Rattle.std.specs.List.{flat_map}
 use Rattle.pps_types.specs.declared.event.Event.{Event}
 use Rattle.pps_types.specs.declared.event.Request.{Request}
@@ -32,12 +32,22 @@ with_line None rest = record { events = []; bad = Some 1 }
 with_line (Some Nothing) rest = one_down rest
 with_line (Some (Command event)) rest = record { events = event ∷ rest.events; bad = (one_down rest).bad }
 
-abbrev pub script : List (List ℕ) → Script
-script [] = record { events = []; bad = None }
-script (line ∷ lines) = with_line (line_of line) (script lines)
+-- what is heard in a line: where a script goes on after bad lines, they ask for nothing
+abbrev pub or_nothing : Bool → Option ScriptLine → Option ScriptLine
+or_nothing false said = said
+or_nothing true None = Some Nothing
+or_nothing true (Some said) = Some said
 
-abbrev pub script_of : List ℕ → Script
-script_of text = script (lines_of text)
+abbrev pub heard : Bool → List ℕ → Option ScriptLine
+heard patient line = or_nothing patient (line_of line)
+
+-- the script of lines, which goes on after bad ones or does not
+abbrev pub script : Bool → List (List ℕ) → Script
+script patient [] = record { events = []; bad = None }
+script patient (line ∷ lines) = with_line (heard patient line) (script patient lines)
+
+abbrev pub script_of : Bool → List ℕ → Script
+script_of patient text = script patient (lines_of text)
 
 -- the lines of a text that may go on: those that end in a line feed
 abbrev pub whole_lines : List ℕ → List (List ℕ)

@@ -6,6 +6,7 @@ use Rattle.pps_types.specs.Content.{Content}
 use Rattle.pps_types.specs.Device.{counted_once_more, last_count}
 use Rattle.pps_types.specs.Runs.{Answered, events_of}
 use Rattle.pps_types.specs.Stands.{Runs, RunsSeen}
+use Rattle.pps_script.specs.declared.manner.Manner.{Manner}
 use Rattle.pps_script.specs.declared.fault.ScriptFault.{ScriptFault}
 use Rattle.pps_script.specs.declared.fault.ScriptFault.TheVariants.{BadLine, OutOfMemory, ReadFault, WriteFault}
 use Rattle.pps_script.specs.Script.{Script, script, script_of, whole_lines, answers_of}
@@ -17,49 +18,49 @@ pub record Serves (from to : Option (List ℕ)) (old new : Content) (text : List
   pub seen : RunsSeen old answered new
 
 -- The input was read to its end, has no bad line, and each event is answered; nothing else is written.
-pub record AnswersAll (show : Bool) (from to before after : Option (List ℕ)) (old new : Content) : Type 0 where
+pub record AnswersAll (how : Manner) (from to before after : Option (List ℕ)) (old new : Content) : Type 0 where
   pub text : List ℕ
   pub answered : List Answered
   pub served : Serves from to old new text answered
   pub whole : IsAtEnd to
-  pub script : script_of text ≡ record { events = events_of answered; bad = None }
-  pub written : Appends before after (answers_of show answered)
+  pub script : script_of how.patient text ≡ record { events = events_of answered; bad = None }
+  pub written : Appends before after (answers_of how.show answered)
 
 -- Each event before the first bad line is answered, and its number is this one, as far as numbers go.
-pub record AnswersUntil (show : Bool) (line : ℕ) (from to before after : Option (List ℕ)) (old new : Content) : Type 0 where
+pub record AnswersUntil (how : Manner) (line : ℕ) (from to before after : Option (List ℕ)) (old new : Content) : Type 0 where
   pub text : List ℕ
   pub answered : List Answered
   pub number : ℕ
   pub served : Serves from to old new text answered
-  pub script : script_of text ≡ record { events = events_of answered; bad = Some number }
+  pub script : script_of how.patient text ≡ record { events = events_of answered; bad = Some number }
   pub told : line ≡ min number last_count
-  pub written : Appends before after (answers_of show answered)
+  pub written : Appends before after (answers_of how.show answered)
 
 -- Each event of the lines that came whole is answered, and none of them is bad.
-pub record AnswersWhole (show : Bool) (from to before after : Option (List ℕ)) (old new : Content) : Type 0 where
+pub record AnswersWhole (how : Manner) (from to before after : Option (List ℕ)) (old new : Content) : Type 0 where
   pub text : List ℕ
   pub answered : List Answered
   pub served : Serves from to old new text answered
-  pub script : script (whole_lines text) ≡ record { events = events_of answered; bad = None }
-  pub written : Appends before after (answers_of show answered)
+  pub script : script how.patient (whole_lines text) ≡ record { events = events_of answered; bad = None }
+  pub written : Appends before after (answers_of how.show answered)
 
 -- The first events were served, and a part of their answers is written.
-pub record AnswersFirst (show : Bool) (from to before after : Option (List ℕ)) (old new : Content) : Type 0 where
+pub record AnswersFirst (how : Manner) (from to before after : Option (List ℕ)) (old new : Content) : Type 0 where
   pub text : List ℕ
   pub answered : List Answered
   pub more : List Event
   pub served : Serves from to old new text answered
-  pub script : (script_of text).events ≡ events_of answered ++ more
+  pub script : (script_of how.patient text).events ≡ events_of answered ++ more
   pub sent : ℕ
-  pub written : Appends before after (take sent (answers_of show answered))
+  pub written : Appends before after (take sent (answers_of how.show answered))
 
 -- what became of a script
-abbrev pub Ran : {X : Type 0} → Bool → (from to before after : Option (List ℕ)) → Content → Content → Result X ScriptFault → Type 0
-Ran show from to before after old new (Ok done) = AnswersAll show from to before after old new
-Ran show from to before after old new (Err (BadLine line)) = AnswersUntil show line from to before after old new
-Ran show from to before after old new (Err ReadFault) = AnswersWhole show from to before after old new
-Ran show from to before after old new (Err OutOfMemory) = AnswersFirst show from to before after old new
-Ran show from to before after old new (Err WriteFault) = AnswersFirst show from to before after old new
+abbrev pub Ran : {X : Type 0} → Manner → (from to before after : Option (List ℕ)) → Content → Content → Result X ScriptFault → Type 0
+Ran how from to before after old new (Ok done) = AnswersAll how from to before after old new
+Ran how from to before after old new (Err (BadLine line)) = AnswersUntil how line from to before after old new
+Ran how from to before after old new (Err ReadFault) = AnswersWhole how from to before after old new
+Ran how from to before after old new (Err OutOfMemory) = AnswersFirst how from to before after old new
+Ran how from to before after old new (Err WriteFault) = AnswersFirst how from to before after old new
 
 -- after how many reads an input counts as one that can't be read
 abbrev pub most_reads : ℕ

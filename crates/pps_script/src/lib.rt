@@ -9,6 +9,7 @@ mod escapes;
 mod fault;
 mod laws;
 mod line;
+mod manner;
 mod script_line;
 mod serving;
 mod session;
@@ -20,6 +21,7 @@ pub use fault::ScriptFault;
 pub use laws::{
     answers_are_lines, answers_are_told, commands_are_read, escapes_are_read, numbers_are_decimal,
 };
+pub use manner::{BadLines, Manner};
 pub use script_line::{ScriptLine, read_line};
 pub use serving::serve_script;
 pub use shown::print_shown;

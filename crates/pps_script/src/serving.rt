@@ -6,6 +6,7 @@ ghost use Rattle.pps_script.specs.Served.{Ran, FaultsAre};
 ghost use Rattle.pps_script.specs.Lines.{RunsPieces, PieceFaultsAre, count_of, ends_cut_off};
 
 use crate::fault::ScriptFault;
+use crate::manner::{BadLines, Manner};
 use crate::session::Session;
 use pps_engine::Engine;
 use pps_types::Exchange;
@@ -19,10 +20,11 @@ const PIECE: usize = 65_536;
 const READS_MAX: u32 = 4_294_967_295;
 
 // Reads to the end. What is answered is sent before each read, since that may have to wait.
-fn run_pieces<R: Read, W: Write>(
+fn run_pieces<R: Read, W: Write, B: BadLines>(
     session: &mut Session,
     engine: &mut Engine,
     exchange: &mut Exchange<R, W>,
+    bad_lines: &mut B,
     part: &mut Vec<u8>,
     buffer: &mut [u8],
 ) -> Result<(), ScriptFault>
@@ -32,18 +34,18 @@ fn run_pieces<R: Read, W: Write>(
     requires input { device_failed (input_of exchange.old) ≡ false }
     requires output { device_failed (output_of exchange.old) ≡ false }
     requires held { held_in exchange.old ≡ [] }
-    ensures runs { RunsPieces R.remaining W.contents session.old.show exchange.old exchange.new
+    ensures runs { RunsPieces R.remaining W.contents session.old.manner exchange.old exchange.new
         engine.old.content engine.new.content result }
     ensures fault { PieceFaultsAre exchange.old exchange.new result }
 {
     'pieces: for _ in 0..READS_MAX {
         exchange.send()?;
         let count = match exchange.read(buffer) {
-            Ok(0) => return session.finish(engine, exchange, part.as_slice()),
+            Ok(0) => return session.finish(engine, exchange, bad_lines, part.as_slice()),
             Ok(count) => count,
             Err(_) => return Err(ScriptFault::ReadFault),
         };
-        session.feed(engine, exchange, part, &buffer[..count])?;
+        session.feed(engine, exchange, bad_lines, part, &buffer[..count])?;
     }
     exchange.send()?;
     Err(ScriptFault::ReadFault)
@@ -59,20 +61,22 @@ fn is_cut_off(ended: &Result<(), ScriptFault>) -> bool
 /// Serves a script: each line that is read is answered by a line, in order, and the values that are read are shown below
 /// it where that is asked for. Answers are sent before more is read.
 ///
-/// BadLine is the end at the first line that is none of a script; what came before it is served and answered. OutOfMemory
-/// comes if memory is wanting for what is read or for an answer's line; ReadFault if the reader fails, or was read
-/// 4,294,967,295 times: the lines that were whole are answered; WriteFault if the writer fails, or takes none of some bytes.
-/// What was written until then answers the first lines that were read, and the engine has the state that these leave.
-pub fn serve_script<R: Read, W: Write>(
+/// BadLine is the end at the first line that is none of a script, unless the script is to go on after bad lines: then each
+/// is reported, and asks for nothing. OutOfMemory comes if memory is wanting for what is read or for an answer's line;
+/// ReadFault if the reader fails, or was read 4,294,967,295 times: the lines that were whole are answered; WriteFault if
+/// the writer fails, or takes none of some bytes. What was written until then answers the first lines that were read, and
+/// the engine has the state that these leave.
+pub fn serve_script<R: Read, W: Write, B: BadLines>(
     alloc: Global,
     engine: &mut Engine,
-    show: bool,
+    manner: Manner,
     exchange: &mut Exchange<R, W>,
+    bad_lines: &mut B,
 ) -> Result<(), ScriptFault>
     requires input { device_failed (input_of exchange.old) ≡ false }
     requires output { device_failed (output_of exchange.old) ≡ false }
     requires held { held_in exchange.old ≡ [] }
-    ensures ran { Ran show (R.remaining (device_inner (input_of exchange.old))) (R.remaining (device_inner (input_of exchange.new)))
+    ensures ran { Ran manner (R.remaining (device_inner (input_of exchange.old))) (R.remaining (device_inner (input_of exchange.new)))
         (W.contents (device_inner (output_of exchange.old))) (W.contents (device_inner (output_of exchange.new)))
         engine.old.content engine.new.content result }
     ensures fault { FaultsAre result (device_failed (input_of exchange.new)) (device_failed (output_of exchange.new))
@@ -82,11 +86,12 @@ pub fn serve_script<R: Read, W: Write>(
     let mut buffer = Vec::new(alloc);
     buffer.resize(PIECE, 0u8)?;
     let mut part = Vec::new(alloc);
-    let mut session = Session::new(alloc, show);
+    let mut session = Session::new(alloc, manner);
     let ended = run_pieces(
         &mut session,
         engine,
         exchange,
+        bad_lines,
         &mut part,
         buffer.as_mut_slice(),
     );

@@ -6,6 +6,7 @@ ghost use Rattle.pps_script.specs.Lines.{RunsLine, ServesTextOn, EndsTextOn, Run
 
 use crate::fault::ScriptFault;
 use crate::line::{LineFault, serve_line};
+use crate::manner::{BadLines, Manner};
 use memchr::memchr;
 use pps_engine::Engine;
 use pps_types::Exchange;
@@ -16,34 +17,35 @@ use std::io::Write;
 #[derive(Drop)]
 pub(crate) struct Session {
     alloc: Global,
-    show: bool,
+    manner: Manner,
     /// What was printed for the last line. It is used again for the next, and keeps the memory of the longest answer.
     text: Vec<u8>,
     lines: u64,
 }
 
 impl Session {
-    /// A session before its first line. Read values are shown below an answer where that is asked for.
-    pub(crate) fn new(alloc: Global, show: bool) -> Session
-        ensures show { result.show ≡ show }
+    /// A session before its first line.
+    pub(crate) fn new(alloc: Global, manner: Manner) -> Session
+        ensures manner { result.manner ≡ manner }
         ensures count { count_of result ≡ 0 }
     {
         Session {
             alloc,
-            show,
+            manner,
             text: Vec::new(alloc),
             lines: 0,
         }
     }
 
-    // Runs a line, without its line feed.
-    fn run_line<R, W: Write>(
+    // Runs a line, without its line feed. A bad one ends the script, or is reported.
+    fn run_line<R, W: Write, B: BadLines>(
         &mut self,
         engine: &mut Engine,
         exchange: &mut Exchange<R, W>,
+        bad_lines: &mut B,
         line: &[u8],
     ) -> Result<(), ScriptFault>
-        ensures show { self.new.show ≡ self.old.show }
+        ensures manner { self.new.manner ≡ self.old.manner }
         ensures count { count_of self.new ≡ counted_once_more (count_of self.old) }
         ensures runs { RunsLine W.contents self.old exchange.old exchange.new
             engine.old.content engine.new.content line.now result }
@@ -52,8 +54,14 @@ impl Session {
         ensures input { input_of exchange.new ≡ input_of exchange.old }
     {
         self.lines = self.lines.saturating_add(1);
-        match serve_line(self.alloc, engine, self.show, line, &mut self.text) {
-            Err(LineFault::BadLine) => return Err(ScriptFault::BadLine { line: self.lines }),
+        match serve_line(self.alloc, engine, self.manner.show, line, &mut self.text) {
+            Err(LineFault::BadLine) => {
+                if !self.manner.patient {
+                    return Err(ScriptFault::BadLine { line: self.lines });
+                }
+                bad_lines.report(self.lines);
+                return Ok(());
+            }
             Err(LineFault::OutOfMemory) => return Err(ScriptFault::OutOfMemory),
             Ok(()) => {}
         }
@@ -62,13 +70,14 @@ impl Session {
     }
 
     // Runs the lines that are whole, and gives what comes after them.
-    fn run_lines<'t, R, W: Write>(
+    fn run_lines<'t, R, W: Write, B: BadLines>(
         &mut self,
         engine: &mut Engine,
         exchange: &mut Exchange<R, W>,
+        bad_lines: &mut B,
         text: &'t [u8],
     ) -> Result<&'t [u8], ScriptFault>
-        ensures show { self.new.show ≡ self.old.show }
+        ensures manner { self.new.manner ≡ self.old.manner }
         ensures part { IfOk result (λ part. IsPart part.now) }
         ensures serves { IfOk result (λ part. ServesTextOn W.contents self.old self.new exchange.old exchange.new
             engine.old.content engine.new.content text.now part.now) }
@@ -80,22 +89,23 @@ impl Session {
     {
         let mut rest = text;
         'lines: while let Some(end) = memchr(b'\n', rest) {
-            self.run_line(engine, exchange, &rest[..end])?;
+            self.run_line(engine, exchange, bad_lines, &rest[..end])?;
             rest = &rest[end + 1..];
         }
         Ok(rest)
     }
 
     // Takes a piece where a line begins. What it ends in is kept as a part of a line.
-    fn begin<R, W: Write>(
+    fn begin<R, W: Write, B: BadLines>(
         &mut self,
         engine: &mut Engine,
         exchange: &mut Exchange<R, W>,
+        bad_lines: &mut B,
         part: &mut Vec<u8>,
         piece: &[u8],
     ) -> Result<(), ScriptFault>
         requires { part.old.items ≡ [] }
-        ensures show { self.new.show ≡ self.old.show }
+        ensures manner { self.new.manner ≡ self.old.manner }
         ensures part { OnOk result (IsPart part.new.items) }
         ensures runs { RunsText W.contents self.old self.new exchange.old exchange.new
             engine.old.content engine.new.content piece.now part.new.items result }
@@ -103,21 +113,22 @@ impl Session {
             (device_stalls (output_of exchange.old)) (device_stalls (output_of exchange.new)) }
         ensures input { input_of exchange.new ≡ input_of exchange.old }
     {
-        let rest = self.run_lines(engine, exchange, piece)?;
+        let rest = self.run_lines(engine, exchange, bad_lines, piece)?;
         part.extend_from_slice(rest)?;
         Ok(())
     }
 
     /// Takes the next piece. What it ends in is kept as a part of a line.
-    pub(crate) fn feed<R, W: Write>(
+    pub(crate) fn feed<R, W: Write, B: BadLines>(
         &mut self,
         engine: &mut Engine,
         exchange: &mut Exchange<R, W>,
+        bad_lines: &mut B,
         part: &mut Vec<u8>,
         piece: &[u8],
     ) -> Result<(), ScriptFault>
         requires { IsPart part.old.items }
-        ensures show { self.new.show ≡ self.old.show }
+        ensures manner { self.new.manner ≡ self.old.manner }
         ensures part { OnOk result (IsPart part.new.items) }
         ensures runs { RunsText W.contents self.old self.new exchange.old exchange.new
             engine.old.content engine.new.content (part.old.items ++ piece.now) part.new.items result }
@@ -126,23 +137,24 @@ impl Session {
         ensures input { input_of exchange.new ≡ input_of exchange.old }
     {
         if part.is_empty() {
-            return self.begin(engine, exchange, part, piece);
+            return self.begin(engine, exchange, bad_lines, part, piece);
         }
         let Some(end) = memchr(b'\n', piece) else {
             part.extend_from_slice(piece)?;
             return Ok(());
         };
         part.extend_from_slice(&piece[..end])?;
-        self.run_line(engine, exchange, part.as_slice())?;
+        self.run_line(engine, exchange, bad_lines, part.as_slice())?;
         part.clear();
-        self.begin(engine, exchange, part, &piece[end + 1..])
+        self.begin(engine, exchange, bad_lines, part, &piece[end + 1..])
     }
 
     /// Runs the rest after the last line feed: it is a line too, unless it is empty.
-    pub(crate) fn finish<R, W: Write>(
+    pub(crate) fn finish<R, W: Write, B: BadLines>(
         &mut self,
         engine: &mut Engine,
         exchange: &mut Exchange<R, W>,
+        bad_lines: &mut B,
         part: &[u8],
     ) -> Result<(), ScriptFault>
         ensures runs { RunsRest W.contents self.old exchange.old exchange.new
@@ -154,6 +166,6 @@ impl Session {
         if part.is_empty() {
             return Ok(());
         }
-        self.run_line(engine, exchange, part)
+        self.run_line(engine, exchange, bad_lines, part)
     }
 }

@@ -14,7 +14,7 @@ pub pieces-init : goal.pieces-init
 pieces-init g c = rw c.requires.held (record {
   room = c.requires.room;
   part = subst IsPart (sym c.requires.begins) refl;
-  show = refl;
+  manner = refl;
   far = so_far-none _ _ _ _ _ c.args.part.now.items c.requires.count c.requires.begins;
   reader = c.requires.input;
   writer = c.requires.output;
@@ -40,8 +40,8 @@ returns-in-Ok-eq0-clause-runs g c =
     let ended = read-none here (remaining (device_inner (input_of c.read.new.self))) c.read.result c.read.new.buf c.in-Ok-eq0.field-0 c.read.ensures.bytes c.in-Ok-eq0.is c.in-Ok-eq0.field-0-test
     (omega (arith, c.pieces.invariant.room, c.read.auto.buf)) in
     let to = ap (λ d. remaining (device_inner d)) c.finish.ensures.input in
-    so_far-finish _ c.args.session.now.show c.pieces.session.show _ here _ middle (held_in c.read.new.self) _ c.pieces.engine.content (count_of c.pieces.session) c.pieces.part.items
-    _ _ (held_in c.finish.new.exchange) c.finish.new.engine.content c.finish.result far c.pieces.invariant.show (rw to ended.0) (rw to ended.1)
+    so_far-finish _ c.args.session.now.manner c.pieces.session.manner _ here _ middle (held_in c.read.new.self) _ c.pieces.engine.content (count_of c.pieces.session) c.pieces.part.items
+    _ _ (held_in c.finish.new.exchange) c.finish.new.engine.content c.finish.result far c.pieces.invariant.manner (rw to ended.0) (rw to ended.1)
     (rw c.as_slice.ensures.value at c.finish.ensures.runs)
 
 pub returns-in-Err-clause-runs : goal.returns-in-Err-clause-runs
@@ -69,7 +69,7 @@ returns-in_err-feed-clause-runs g c =
     rw (p.1, p.2)
     (ends-input (Unit {0}) _ _ _ _ _ _ _ _ c.in_err-feed.field-0.0
     (so_far-stop _ _ _ _ _ _ _ _ _ _ far _ _ (held_in c.feed.new.exchange) c.feed.new.engine.content (take c.in-Ok.count c.read.new.buf) (rw to c.in-Ok.ensures.bytes.0) c.in_err-feed.field-0.0
-    (end-shown _ _ c.pieces.invariant.show c.in_err-feed.ensures.runs)))
+    (end-shown _ _ c.pieces.invariant.manner c.in_err-feed.ensures.runs)))
 
 pub pieces-preserved : goal.pieces-preserved
 pieces-preserved g c =
@@ -84,9 +84,9 @@ pieces-preserved g c =
     record {
       room = omega (arith, c.pieces.invariant.room, c.read.auto.buf);
       part = c.in_ok-feed.ensures.part;
-      show = c.feed.ensures.show ∙ c.pieces.invariant.show;
+      manner = c.feed.ensures.manner ∙ c.pieces.invariant.manner;
       far = so_far-more _ _ _ _ _ _ _ _ _ _ far _ _ (held_in c.feed.new.exchange) c.feed.new.engine.content (take c.in-Ok.count c.read.new.buf) (rw to c.in-Ok.ensures.bytes.0) (count_of c.feed.new.self) _
-          (text-shown _ _ c.pieces.invariant.show c.in_ok-feed.ensures.runs);
+          (text-shown _ _ c.pieces.invariant.manner c.in_ok-feed.ensures.runs);
       reader = ap device_failed c.feed.ensures.input ∙ c.in-Ok.ensures.failed ∙ or_false _ ∙ ap device_failed c.send.ensures.input ∙ c.pieces.invariant.reader;
       writer = c.in_ok-feed.ensures.fault.0 ∙ ap device_failed c.read.ensures.output ∙ c.in_ok-send.ensures.fault.0 ∙ c.pieces.invariant.writer;
       reads = omega (arith, ap device_reads c.feed.ensures.input, c.in-Ok.ensures.reads, ap device_reads c.send.ensures.input, c.pieces.invariant.reads);

@@ -10,8 +10,8 @@ abbrev pub invariant-pieces : goal.invariant-pieces
 invariant-pieces g l = record {
   room : 0 < length l.buffer;
   part : IsPart l.part.items;
-  show : l.session.show ≡ l.fn.session.show;
-  far : SoFar l.fn.session.show (g.R.Read.remaining (device_inner (input_of l.fn.exchange))) (g.R.Read.remaining (device_inner (input_of l.exchange)))
+  manner : l.session.manner ≡ l.fn.session.manner;
+  far : SoFar l.fn.session.manner (g.R.Read.remaining (device_inner (input_of l.fn.exchange))) (g.R.Read.remaining (device_inner (input_of l.exchange)))
       (g.W.Write.contents (device_inner (output_of l.fn.exchange))) (g.W.Write.contents (device_inner (output_of l.exchange))) (held_in l.exchange)
       l.fn.engine.content l.engine.content (count_of l.session) l.part.items;
   reader : device_failed (input_of l.exchange) ≡ false;

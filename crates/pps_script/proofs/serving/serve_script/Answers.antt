@@ -19,8 +19,8 @@ returns-then-is_cut_off-clause-ran g c =
     let x = c.args.exchange.now in
     let y = c.run_pieces-ended.new.exchange in
     let new = c.run_pieces-ended.new.engine.content in
-    let runs = subst (λ s. RunsPieces remaining contents s x y c.args.engine.now.content new c.run_pieces-ended.result) c.new-session.ensures.show c.run_pieces-ended.ensures.runs in
-    ran-cut_off _ c.args.show (remaining (device_inner (input_of x))) (remaining (device_inner (input_of y))) (contents (device_inner (output_of x))) (contents (device_inner (output_of y))) (held_in y)
+    let runs = subst (λ s. RunsPieces remaining contents s x y c.args.engine.now.content new c.run_pieces-ended.result) c.new-session.ensures.manner c.run_pieces-ended.ensures.runs in
+    ran-cut_off _ c.args.manner (remaining (device_inner (input_of x))) (remaining (device_inner (input_of y))) (contents (device_inner (output_of x))) (contents (device_inner (output_of y))) (held_in y)
     c.args.engine.now.content new c.run_pieces-ended.result (sym c.is_cut_off.ensures ∙ c.if-is_cut_off.true) runs
 
 pub returns-in_err-send-clause-ran : goal.returns-in_err-send-clause-ran
@@ -35,10 +35,10 @@ returns-in_err-send-clause-ran g c =
     let before = contents (device_inner (output_of x)) in
     let after = contents (device_inner (output_of c.send.new.self)) in
     let from = remaining (device_inner (input_of x)) in
-    let runs = subst (λ s. RunsPieces remaining contents s x y old new c.run_pieces-ended.result) c.new-session.ensures.show c.run_pieces-ended.ensures.runs in
+    let runs = subst (λ s. RunsPieces remaining contents s x y old new c.run_pieces-ended.result) c.new-session.ensures.manner c.run_pieces-ended.ensures.runs in
     rw (p.1, p.2)
-    (subst (λ t. AnswersFirst c.args.show from t before after old new) (sym (ap (λ d. remaining (device_inner d)) c.send.ensures.input))
-    (ran-unsent c.args.show from (remaining (device_inner (input_of y))) before (contents (device_inner (output_of y))) after (held_in y) old new _ c.run_pieces-ended.result
+    (subst (λ t. AnswersFirst c.args.manner from t before after old new) (sym (ap (λ d. remaining (device_inner d)) c.send.ensures.input))
+    (ran-unsent c.args.manner from (remaining (device_inner (input_of y))) before (contents (device_inner (output_of y))) after (held_in y) old new _ c.run_pieces-ended.result
     (sym c.is_cut_off.ensures ∙ c.if-is_cut_off.false) runs c.in_err-send.ensures.bytes))
 
 pub returns-clause-ran : goal.returns-clause-ran
@@ -52,7 +52,7 @@ returns-clause-ran g c =
     let before = contents (device_inner (output_of x)) in
     let after = contents (device_inner (output_of c.send.new.self)) in
     let from = remaining (device_inner (input_of x)) in
-    let runs = subst (λ s. RunsPieces remaining contents s x y old new c.run_pieces-ended.result) c.new-session.ensures.show c.run_pieces-ended.ensures.runs in
-    subst (λ t. Ran c.args.show from t before after old new c.run_pieces-ended.result) (sym (ap (λ d. remaining (device_inner d)) c.send.ensures.input))
-    (ran-sent c.args.show from (remaining (device_inner (input_of y))) before (contents (device_inner (output_of y))) after (held_in y) old new _ c.run_pieces-ended.result
+    let runs = subst (λ s. RunsPieces remaining contents s x y old new c.run_pieces-ended.result) c.new-session.ensures.manner c.run_pieces-ended.ensures.runs in
+    subst (λ t. Ran c.args.manner from t before after old new c.run_pieces-ended.result) (sym (ap (λ d. remaining (device_inner d)) c.send.ensures.input))
+    (ran-sent c.args.manner from (remaining (device_inner (input_of y))) before (contents (device_inner (output_of y))) after (held_in y) old new _ c.run_pieces-ended.result
     (sym c.is_cut_off.ensures ∙ c.if-is_cut_off.false) runs c.in_ok-send.ensures.bytes.0)

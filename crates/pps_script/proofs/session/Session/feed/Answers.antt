@@ -34,7 +34,7 @@ returns-in_err-run_line-clause-runs g c =
     let piece = c.args.piece.now in
     let end = c.in-Some.end in
     rw (p.1, p.2)
-    (feeds-bad c.args.self.now.show (count_of c.args.self.now) (count_of c.run_line.new.self) (g.W.Write.contents (device_inner (output_of c.args.exchange.now)))
+    (feeds-bad c.args.self.now.manner (count_of c.args.self.now) (count_of c.run_line.new.self) (g.W.Write.contents (device_inner (output_of c.args.exchange.now)))
     (g.W.Write.contents (device_inner (output_of c.run_line.new.exchange))) (g.W.Write.contents (device_inner (output_of c.run_line.new.exchange)))
     (held_in c.args.exchange.now) (held_in c.run_line.new.exchange) (held_in c.run_line.new.exchange) c.args.engine.now.content c.run_line.new.engine.content c.run_line.new.engine.content
     c.args.part.now.items piece c.as_slice.result.now (take end piece) (drop (end + 1) piece) c.requires
@@ -45,9 +45,9 @@ pub returns-clause-runs : goal.returns-clause-runs
 returns-clause-runs g c =
     let piece = c.args.piece.now in
     let end = c.in-Some.end in
-    feeds-rest _ c.args.self.now.show c.run_line.new.self.show (count_of c.args.self.now) (count_of c.run_line.new.self) (count_of c.begin-2.new.self)
+    feeds-rest _ c.args.self.now.manner c.run_line.new.self.manner (count_of c.args.self.now) (count_of c.run_line.new.self) (count_of c.begin-2.new.self)
     (g.W.Write.contents (device_inner (output_of c.args.exchange.now))) (g.W.Write.contents (device_inner (output_of c.run_line.new.exchange))) (g.W.Write.contents (device_inner (output_of c.begin-2.new.exchange)))
     (held_in c.args.exchange.now) (held_in c.run_line.new.exchange) (held_in c.begin-2.new.exchange) c.args.engine.now.content c.run_line.new.engine.content c.begin-2.new.engine.content
     c.args.part.now.items piece c.as_slice.result.now (take end piece) (drop (end + 1) piece) c.begin-2.new.part.items c.begin-2.result c.requires
     (found piece c.memchr.result end c.memchr.ensures c.in-Some.is) (c.as_slice.ensures.value ∙ c.in_ok-extend_from_slice-2.ensures.items)
-    c.run_line.ensures.show c.run_line.ensures.count c.in_ok-run_line.ensures.runs (rw take_rest at c.begin-2.ensures.runs)
+    c.run_line.ensures.manner c.run_line.ensures.count c.in_ok-run_line.ensures.runs (rw take_rest at c.begin-2.ensures.runs)

@@ -13,7 +13,7 @@ use Rattle.pps_script.proofs.session.Session.run_lines.Goals as goal
 pub lines-init : goal.lines-init
 lines-init g c = record {
   shorter = omega arith;
-  show = refl;
+  manner = refl;
   on = runs-start _ _ _ _ _ c.args.text.now (omega arith);
   failed = refl;
   stalls = refl;
@@ -31,7 +31,7 @@ returns-in_err-run_line-clause-ends g c =
     rw (p.1, p.2)
     (runs-stop _ _ _ _ _ c1 _ _ left _ _ new c.args.text.now c.lines.rest.now _ _ cut c.lines.invariant.on fault
     (ends-shown (count_of c.lines.self) (g.W.Write.contents (device_inner (output_of c.lines.exchange))) c1 (held_in c.lines.exchange) left c.lines.engine.content new
-    (take c.in-Some.end c.lines.rest.now ∷ []) fault _ _ c.lines.invariant.show c.in_err-run_line.ensures.runs))
+    (take c.in-Some.end c.lines.rest.now ∷ []) fault _ _ c.lines.invariant.manner c.in_err-run_line.ensures.runs))
 
 pub lines-preserved : goal.lines-preserved
 lines-preserved g c =
@@ -39,9 +39,9 @@ lines-preserved g c =
     let shorter = length-behind 10 c.lines.rest.now _ _ cut in
     rw take_rest (record {
       shorter = omega (arith, shorter, c.lines.invariant.shorter);
-      show = c.run_line.ensures.show ∙ c.lines.invariant.show;
+      manner = c.run_line.ensures.manner ∙ c.lines.invariant.manner;
       on = runs-line _ _ _ _ _ _ _ _ _ _ _ _ c.args.text.now c.lines.rest.now _ _ cut c.lines.invariant.on _ c.run_line.ensures.count
-          (serves-shown _ _ c.lines.invariant.show c.in_ok-run_line.ensures.runs);
+          (serves-shown _ _ c.lines.invariant.manner c.in_ok-run_line.ensures.runs);
       failed = c.in_ok-run_line.ensures.fault.0 ∙ c.lines.invariant.failed;
       stalls = c.in_ok-run_line.ensures.fault.1 ∙ c.lines.invariant.stalls;
       input = c.run_line.ensures.input ∙ c.lines.invariant.input;

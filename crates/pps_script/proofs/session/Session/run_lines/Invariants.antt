@@ -8,8 +8,8 @@ use Rattle.pps_script.proofs.session.Session.run_lines.Given as goal
 abbrev pub invariant-lines : goal.invariant-lines
 invariant-lines g l = record {
   shorter : length l.rest ≤ length l.text;
-  show : l.self.show ≡ l.fn.self.show;
-  on : RunsOn l.fn.self.show (count_of l.fn.self) (count_of l.self) (g.W.Write.contents (device_inner (output_of l.fn.exchange))) (held_in l.fn.exchange)
+  manner : l.self.manner ≡ l.fn.self.manner;
+  on : RunsOn l.fn.self.manner (count_of l.fn.self) (count_of l.self) (g.W.Write.contents (device_inner (output_of l.fn.exchange))) (held_in l.fn.exchange)
       (g.W.Write.contents (device_inner (output_of l.exchange))) (held_in l.exchange) l.fn.engine.content l.engine.content l.text l.rest;
   failed : device_failed (output_of l.exchange) ≡ device_failed (output_of l.fn.exchange);
   stalls : device_stalls (output_of l.exchange) ≡ device_stalls (output_of l.fn.exchange);
