@@ -2,3 +2,5 @@ pub mod Faults
 pub mod Scripts
 pub mod Frames
 pub mod Sessions
+pub mod Images
+pub mod Jobs

@@ -1,6 +1,7 @@
 //! What ends the program before its time.
 ghost use Rattle.std.specs.Prelude.{◌≡◌};
 ghost use Rattle.pps_cli.specs.Faults.{status_of};
+ghost use Rattle.pps_cli.specs.declared.fault.Failure.TheVariants as failures;
 ghost use Rattle.pps_cli.specs.declared.fault.Fault.TheVariants.{OutOfMemory};
 
 use std::alloc::AllocError;
@@ -123,12 +124,16 @@ impl Failure<'_> {
 }
 
 impl<'w> From<Fault> for Failure<'w> {
+    ghost from_gives = { λ fault failure. failure ≡ failures.Fault fault };
+
     fn from(fault: Fault) -> Failure<'w> {
         Failure::Fault(fault)
     }
 }
 
 impl<'w> From<AllocError> for Failure<'w> {
+    ghost from_gives = { λ _ failure. failure ≡ failures.Fault OutOfMemory };
+
     fn from(_refused: AllocError) -> Failure<'w> {
         Failure::Fault(Fault::OutOfMemory)
     }

@@ -5,15 +5,14 @@ ghost use Rattle.pps_types.specs.Exchange.{input_of, output_of, held_in};
 ghost use Rattle.pps_cli.specs.Frames.{ServesStream, DeviceFaults};
 
 use crate::fault::Fault;
-use crate::patient::Patient;
 use pps_engine::Engine;
 use pps_frame::{Ended, RunError, run};
-use pps_types::{Device, Exchange};
+use pps_types::Exchange;
 use std::alloc::Global;
 use std::io::{Read, Write};
 
-// Serves the stream, and says what it ended with.
-fn serve_stream<I: Read, O: Write>(
+/// Serves the frames of the input, and writes a frame for each to the output, before it reads on.
+pub(crate) fn serve_stream<I: Read, O: Write>(
     alloc: Global,
     engine: &mut Engine,
     exchange: &mut Exchange<I, O>,
@@ -40,18 +39,4 @@ fn serve_stream<I: Read, O: Write>(
         Err(RunError::ReadFault) => Err(Fault::CannotReadInput),
         Err(RunError::WriteFault) => Err(Fault::CannotWriteOutput),
     }
-}
-
-/// Serves the frames of the input, and writes a frame for each to the output, before it reads on. If a read or a write is
-/// interrupted, it is tried again.
-pub(crate) fn serve_frames<I: Read, O: Write>(
-    alloc: Global,
-    engine: &mut Engine,
-    input: &mut I,
-    output: &mut O,
-) -> Result<(), Fault> {
-    let input = Device::new(Patient::new(input));
-    let output = Device::new(Patient::new(output));
-    let mut exchange = Exchange::new(alloc, input, output)?;
-    serve_stream(alloc, engine, &mut exchange)
 }

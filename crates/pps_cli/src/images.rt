@@ -1,75 +1,107 @@
 //! What a service begins with, and the file that it is saved to.
+ghost use Rattle.std.specs.Prelude.{IfErr, IfOk, option_map};
+ghost use Rattle.pps_types.specs.Image.{image};
+ghost use Rattle.pps_cli.specs.Images.{BeginsAs, FailsToBegin, FailsToSave, SavesAs};
 
 use crate::command_line::Beginning;
 use crate::fault::{Failure, Fault};
 use crate::patient::Patient;
-use crate::whole_file::{Contents, write_whole};
+use crate::whole_file::write_whole;
 use pps_engine::Engine;
-use pps_persist::{LoadError, SaveError, load, save};
-use pps_types::Device;
+use pps_persist::{Contents, FileFault, ImageFiles, LoadError, load_from, save_to};
 use std::alloc::Global;
 use std::fs::{File, Files};
-use std::io::Write;
 
-// The service that an image begins.
-fn load_image<'w, F: Files>(
-    alloc: Global,
-    files: &F,
-    file: &'w str,
-) -> Result<Engine, Failure<'w>> {
-    let Ok(mut image) = File::open(files, file) else {
-        return Err(Failure::CannotRead { file });
-    };
-    match load(alloc, &mut Device::new(Patient::new(&mut image))) {
-        Ok(engine) => Ok(engine),
-        Err(LoadError::OutOfMemory) => Err(Failure::Fault(Fault::OutOfMemory)),
-        Err(LoadError::BadImage { line }) => Err(Failure::BadImage { line }),
-        Err(LoadError::ReadFault) => Err(Failure::CannotRead { file }),
+/// The files of the system. A read or a write that is interrupted is tried again.
+///
+/// What they hold is not known to a clause, nor what becomes of what is handed over for them: that a file is read and
+/// replaced as it should be is tested.
+#[derive(Drop)]
+pub(crate) struct SystemFiles<'f, F> {
+    files: &'f F,
+}
+
+impl<'f, F: Files> SystemFiles<'f, F> {
+    pub(crate) fn new(files: &'f F) -> SystemFiles<'f, F> {
+        SystemFiles { files }
+    }
+}
+
+impl<F: Files> ImageFiles for SystemFiles<'_, F> {
+    ghost use Rattle.std.specs.Prelude.{None};
+
+    type Image = Patient<F::File>;
+
+    ghost held = { λ _ _. None };
+
+    ghost replaced = { λ _. None };
+
+    fn open(&self, file: &str) -> Result<Patient<F::File>, FileFault> {
+        match File::open(self.files, file) {
+            Ok(image) => Ok(Patient::new(image)),
+            Err(_) => Err(FileFault::Failed),
+        }
+    }
+
+    fn replace<C: Contents>(
+        &mut self,
+        alloc: Global,
+        file: &str,
+        contents: &C,
+    ) -> Result<(), FileFault> {
+        write_whole(alloc, self.files, contents, file)
     }
 }
 
 /// The service that a command line begins with.
-pub(crate) fn begin<'w, F: Files>(
+pub(crate) fn begin<'w, F: ImageFiles>(
     alloc: Global,
     files: &F,
     beginning: Beginning<'w>,
-) -> Result<Engine, Failure<'w>> {
+) -> Result<Engine, Failure<'w>>
+    ensures begins { IfOk result (λ engine.
+        BeginsAs (F.held files.now) beginning.entry engine.content) }
+    ensures fails { IfErr result (FailsToBegin (F.held files.now) beginning.entry) }
+{
     match beginning {
-        Beginning::Empty(limit) => Ok(Engine::with_limit(alloc, u32::from(limit.get()))?),
-        Beginning::Image(file) => load_image(alloc, files, file),
+        Beginning::Empty(limit) => match Engine::with_limit(alloc, u32::from(limit.get())) {
+            Ok(engine) => Ok(engine),
+            Err(_) => Err(Failure::Fault(Fault::OutOfMemory)),
+        },
+        Beginning::Image(file) => match load_from(alloc, files, file) {
+            Ok(engine) => Ok(engine),
+            Err(LoadError::OutOfMemory) => Err(Failure::Fault(Fault::OutOfMemory)),
+            Err(LoadError::BadImage { line }) => Err(Failure::BadImage { line }),
+            Err(LoadError::ReadFault) => Err(Failure::CannotRead { file }),
+        },
     }
 }
 
-// The image of a service.
-#[derive(Clone, Copy)]
-struct ImageOf<'e> {
-    engine: &'e Engine,
-}
-
-impl Contents for ImageOf<'_> {
-    fn write_to<'w, O: Write>(
-        &self,
-        alloc: Global,
-        output: &mut O,
-        file: &'w str,
-    ) -> Result<(), Failure<'w>> {
-        match save(alloc, self.engine, &mut Device::new(Patient::new(output))) {
-            Ok(_) => Ok(()),
-            Err(SaveError::OutOfMemory { .. }) => Err(Failure::Fault(Fault::OutOfMemory)),
-            Err(SaveError::WriteFault { .. }) => Err(Failure::CannotWrite { file }),
-        }
+/// What ends the program if a file is not replaced.
+pub(crate) fn cannot_replace<'w>(fault: FileFault, file: &'w str) -> Failure<'w>
+    ensures { FailsToSave (Some file.now) result }
+{
+    match fault {
+        FileFault::OutOfMemory => Failure::Fault(Fault::OutOfMemory),
+        FileFault::Failed => Failure::CannotWrite { file },
     }
 }
 
-/// Saves a service to a file, if one is named, as a whole.
-pub(crate) fn end<'w, F: Files>(
+/// Saves a service to a file, if one is named.
+pub(crate) fn end<'w, F: ImageFiles>(
     alloc: Global,
-    files: &F,
+    files: &mut F,
     engine: &Engine,
     file: Option<&'w str>,
-) -> Result<(), Failure<'w>> {
-    match file {
-        None => Ok(()),
-        Some(file) => write_whole(alloc, files, &ImageOf { engine }, file),
+) -> Result<(), Failure<'w>>
+    ensures { SavesAs (option_map (λ name. name.now) file.entry)
+        (F.replaced files.old) (F.replaced files.new) (image engine.now.content) result }
+{
+    let Some(file) = file else {
+        return Ok(());
+    };
+    match save_to(alloc, files, file, engine) {
+        Ok(()) => Ok(()),
+        Err(fault) => Err(cannot_replace(fault, file)),
     }
 }

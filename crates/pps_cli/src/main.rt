@@ -5,6 +5,7 @@ mod command_line;
 mod fault;
 mod frames;
 mod images;
+mod jobs;
 mod patient;
 mod script;
 mod sessions;
@@ -12,9 +13,11 @@ mod whole_file;
 
 use command_line::{Asked, RunOptions, ServiceOptions, read_words};
 use fault::{Failure, Fault};
-use frames::serve_frames;
-use images::{begin, end};
-use script::run_script;
+use images::SystemFiles;
+use jobs::{run_frames, run_script};
+use patient::Patient;
+use pps_types::{Device, Exchange};
+use script::Reporter;
 use sessions::serve_scripts;
 use std::alloc::Global;
 use std::convert::AsStr;
@@ -25,7 +28,7 @@ use std::process::ExitCode;
 use std::sync::Wait;
 use std::thread::Threads;
 
-// A script is run on a service that begins and is saved as it is asked for.
+// Runs a script from the input, as it is asked for. A read or a write that is interrupted is tried again.
 fn serve_script<'w, F: Files, I: Read, O: Write, E: Write>(
     files: &F,
     alloc: Global,
@@ -34,12 +37,15 @@ fn serve_script<'w, F: Files, I: Read, O: Write, E: Write>(
     output: &mut O,
     errors: &mut E,
 ) -> Result<(), Failure<'w>> {
-    let mut engine = begin(alloc, files, options.service.beginning)?;
-    run_script(alloc, &mut engine, options.manner, input, output, errors)?;
-    end(alloc, files, &engine, options.service.save)
+    let input = Device::new(Patient::new(input));
+    let output = Device::new(Patient::new(output));
+    let mut exchange = Exchange::new(alloc, input, output)?;
+    let mut files = SystemFiles::new(files);
+    let mut bad_lines = Reporter::new(errors);
+    run_script(alloc, &mut files, options, &mut exchange, &mut bad_lines)
 }
 
-// A stream is served by a service that begins and is saved as it is asked for.
+// Serves the frames of the input, as it is asked for. A read or a write that is interrupted is tried again.
 fn serve_requests<'w, F: Files, I: Read, O: Write>(
     files: &F,
     alloc: Global,
@@ -47,9 +53,10 @@ fn serve_requests<'w, F: Files, I: Read, O: Write>(
     input: &mut I,
     output: &mut O,
 ) -> Result<(), Failure<'w>> {
-    let mut engine = begin(alloc, files, options.beginning)?;
-    serve_frames(alloc, &mut engine, input, output)?;
-    end(alloc, files, &engine, options.save)
+    let input = Device::new(Patient::new(input));
+    let output = Device::new(Patient::new(output));
+    let mut exchange = Exchange::new(alloc, input, output)?;
+    run_frames(alloc, &mut SystemFiles::new(files), options, &mut exchange)
 }
 
 // What a command line asks for is done.
@@ -71,7 +78,11 @@ fn run_asked<
     match read_words(alloc, words)? {
         Asked::Run(options) => serve_script(rt, alloc, options, input, output, errors),
         Asked::Frames(options) => serve_requests(rt, alloc, options, input, output),
-        Asked::Serve(options) => serve_scripts(rt, alloc, &options, output),
+        Asked::Serve(options) => {
+            let mut files = SystemFiles::new(rt);
+            let mut output = Device::new(Patient::new(output));
+            serve_scripts(rt, alloc, &mut files, &options, &mut output)
+        }
         Asked::Text(text) => match output.write_all(text.as_bytes()) {
             Err(_) => Err(Failure::Fault(Fault::CannotWriteOutput)),
             Ok(()) => Ok(()),

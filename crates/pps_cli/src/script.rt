@@ -5,17 +5,22 @@ ghost use Rattle.pps_types.specs.Exchange.{input_of, output_of, held_in};
 ghost use Rattle.pps_cli.specs.Scripts.{RunsScript, ScriptFaultsAre};
 
 use crate::fault::Fault;
-use crate::patient::Patient;
 use pps_engine::Engine;
 use pps_script::{BadLines, Manner, ScriptFault, serve_script};
-use pps_types::{Device, Exchange};
+use pps_types::Exchange;
 use std::alloc::Global;
 use std::io::{Read, Write};
 
-// Bad lines, reported one by one with what a line looks like. If that can't be written, nothing changes.
+/// Bad lines, reported one by one with what a line looks like. If that can't be written, nothing changes.
 #[derive(Drop)]
-struct Reporter<'e, E> {
+pub(crate) struct Reporter<'e, E> {
     errors: &'e mut E,
+}
+
+impl<'e, E: Write> Reporter<'e, E> {
+    pub(crate) fn new(errors: &'e mut E) -> Reporter<'e, E> {
+        Reporter { errors }
+    }
 }
 
 impl<E: Write> BadLines for Reporter<'_, E> {
@@ -26,8 +31,9 @@ impl<E: Write> BadLines for Reporter<'_, E> {
     }
 }
 
-// Runs a script, and says what it ended with.
-fn run_exchange<I: Read, O: Write, B: BadLines>(
+/// Runs a script from the input on a service, and writes its answers to the output, before it reads on. The first fault
+/// ends it; the answers before it are written. In an interactive script a bad line is no fault: it is reported.
+pub(crate) fn run_exchange<I: Read, O: Write, B: BadLines>(
     alloc: Global,
     engine: &mut Engine,
     manner: Manner,
@@ -51,22 +57,4 @@ fn run_exchange<I: Read, O: Write, B: BadLines>(
         Err(ScriptFault::ReadFault) => Err(Fault::CannotReadInput),
         Err(ScriptFault::WriteFault) => Err(Fault::CannotWriteOutput),
     }
-}
-
-/// Runs a script from the input on a service, and writes its answers to the output, before it reads on. The first fault
-/// ends it; the answers before it are written. In an interactive script a bad line is no fault: it is reported to the
-/// errors. If a read or a write is interrupted, it is tried again.
-pub(crate) fn run_script<I: Read, O: Write, E: Write>(
-    alloc: Global,
-    engine: &mut Engine,
-    manner: Manner,
-    input: &mut I,
-    output: &mut O,
-    errors: &mut E,
-) -> Result<(), Fault> {
-    let input = Device::new(Patient::new(input));
-    let output = Device::new(Patient::new(output));
-    let mut exchange = Exchange::new(alloc, input, output)?;
-    let mut reporter = Reporter { errors };
-    run_exchange(alloc, engine, manner, &mut exchange, &mut reporter)
 }

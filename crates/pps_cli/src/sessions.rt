@@ -1,25 +1,25 @@
 //! Script files, served as sessions by several threads.
-ghost use Rattle.std.specs.Prelude.{◌≡◌, All, IfOk, OnErr, length, map};
+ghost use Rattle.std.specs.Prelude.{◌≡◌, All, IfOk, IfErr, OnErr, length, map, option_map};
 ghost use Rattle.pps_types.specs.Device.{device_inner, device_failed, device_stalls};
 ghost use Rattle.pps_types.specs.Writing.{Sends};
 ghost use Rattle.pps_dispatch.specs.History.{joined};
-ghost use Rattle.pps_cli.specs.Sessions.{AnswersFaultAre};
+ghost use Rattle.pps_cli.specs.Images.{SavesAs};
+ghost use Rattle.pps_cli.specs.Sessions.{AnswersFaultAre, IsOfFile, AreOfFiles, FailsSession, FailsSessions, TellsOfScripts, PrintsFiles, PrintsSomeFiles, Serves, scripts_of};
+ghost use Rattle.pps_persist.specs.Files.{HoldsOf};
 ghost use Rattle.pps_dispatch.specs.Named.{Names};
-ghost use Rattle.pps_dispatch.specs.Printed.{sessions_text, connections_of};
-ghost use Rattle.pps_dispatch.specs.Serving.{IsOfScript, AreOfScripts, PrintsAll, PrintsSome};
+ghost use Rattle.pps_dispatch.specs.Printed.{sessions_text, connections_of, history_text};
 
 use crate::command_line::ServeOptions;
 use crate::fault::{Failure, Fault};
-use crate::patient::Patient;
-use crate::whole_file::{Contents, write_whole};
+use crate::images::cannot_replace;
 use pps_dispatch::{
     Gate, Segment, ServeError, Served, Session, SessionFault, distinct, serve, session_of,
     write_history, write_sessions,
 };
 use pps_engine::Engine;
+use pps_persist::{Contents, FileFault, ImageFiles};
 use pps_types::{AnswerFault, Conn, Device};
 use std::alloc::Global;
-use std::fs::{File, Files};
 use std::io::{ErrorKind, Read, Write};
 use std::sync::Wait;
 use std::thread::Threads;
@@ -37,32 +37,34 @@ impl Gate for OpenGate {
 }
 
 // What a file holds.
-fn read_file<'w, F: Files>(
-    alloc: Global,
-    files: &F,
-    file: &'w str,
-) -> Result<Vec<u8>, Failure<'w>> {
-    let Ok(mut script) = File::open(files, file) else {
-        return Err(Failure::CannotRead { file });
-    };
+fn read_file<F: ImageFiles>(alloc: Global, files: &F, file: &str) -> Result<Vec<u8>, FileFault>
+    ensures { IfOk result (λ text.
+        HoldsOf (F.held files.now file.now) (λ bytes. text.items ≡ bytes)) }
+{
+    let mut script = files.open(file)?;
     let mut text = Vec::new(alloc);
     match script.read_to_end(&mut text) {
         Ok(_) => Ok(text),
-        Err(e) if e.kind() == ErrorKind::OutOfMemory => Err(Failure::Fault(Fault::OutOfMemory)),
-        Err(_) => Err(Failure::CannotRead { file }),
+        Err(e) if e.kind() == ErrorKind::OutOfMemory => Err(FileFault::OutOfMemory),
+        Err(_) => Err(FileFault::Failed),
     }
 }
 
 // The session of a script file.
-fn read_session<'w, F: Files>(
+fn read_session<'w, F: ImageFiles>(
     alloc: Global,
     files: &F,
     conn: Conn,
     file: &'w str,
 ) -> Result<Session, Failure<'w>>
-    ensures { IfOk result (λ session. IsOfScript conn session) }
+    ensures session { IfOk result (λ session. IsOfFile (F.held files.now file.now) conn session) }
+    ensures fails { IfErr result (FailsSession (F.held files.now file.now) conn file.now) }
 {
-    let text = read_file(alloc, files, file)?;
+    let text = match read_file(alloc, files, file) {
+        Ok(text) => text,
+        Err(FileFault::OutOfMemory) => return Err(Failure::Fault(Fault::OutOfMemory)),
+        Err(FileFault::Failed) => return Err(Failure::CannotRead { file }),
+    };
     match session_of(alloc, conn, text.as_slice()) {
         Ok(session) => Ok(session),
         Err(SessionFault::BadLine { line }) => Err(Failure::BadLineOf { file, line }),
@@ -71,13 +73,16 @@ fn read_session<'w, F: Files>(
 }
 
 // The sessions of script files: file K is that of connection K.
-fn read_sessions<'w, F: Files>(
+fn read_sessions<'w, F: ImageFiles>(
     alloc: Global,
     files: &F,
     scripts: &[&'w str],
 ) -> Result<Vec<Session>, Failure<'w>>
     ensures count { IfOk result (λ sessions. length sessions.items ≡ length scripts.now) }
-    ensures scripts { IfOk result (λ sessions. AreOfScripts sessions.items) }
+    ensures scripts { IfOk result (λ sessions.
+        AreOfFiles (F.held files.now) (map (λ file. file.now) scripts.now) sessions.items) }
+    ensures fails { IfErr result (
+        FailsSessions (F.held files.now) (map (λ file. file.now) scripts.now)) }
 {
     let mut sessions = Vec::new(alloc);
     let mut conn: u16 = 0;
@@ -120,50 +125,58 @@ struct History<'s> {
 }
 
 impl Contents for History<'_> {
-    fn write_to<'w, O: Write>(
-        &self,
-        alloc: Global,
-        output: &mut O,
-        file: &'w str,
-    ) -> Result<(), Failure<'w>> {
-        let mut output = Device::new(Patient::new(output));
-        match write_history(alloc, self.segments, &mut output) {
+    ghost use Rattle.pps_dispatch.specs.History.{joined};
+    ghost use Rattle.pps_dispatch.specs.Printed.{history_text};
+
+    ghost bytes = { λ it. history_text (joined it.segments.now) };
+
+    fn write_to<O: Write>(&self, alloc: Global, device: &mut Device<O>) -> Result<(), FileFault> {
+        match write_history(alloc, self.segments, device) {
             Ok(()) => Ok(()),
-            Err(AnswerFault::OutOfMemory) => Err(Failure::Fault(Fault::OutOfMemory)),
-            Err(AnswerFault::WriteFault) => Err(Failure::CannotWrite { file }),
+            Err(AnswerFault::OutOfMemory) => Err(FileFault::OutOfMemory),
+            Err(AnswerFault::WriteFault) => Err(FileFault::Failed),
         }
     }
 }
 
-// Writes the order in which the messages were served to a file, if one is named, as a whole.
-fn save_history<'w, F: Files>(
+// Replaces a file, if one is named, by the order in which the messages were served.
+fn save_history<'w, F: ImageFiles>(
     alloc: Global,
-    files: &F,
+    files: &mut F,
     segments: &[Segment],
     file: Option<&'w str>,
-) -> Result<(), Failure<'w>> {
-    match file {
-        None => Ok(()),
-        Some(file) => write_whole(alloc, files, &History { segments }, file),
+) -> Result<(), Failure<'w>>
+    ensures { SavesAs (option_map (λ name. name.now) file.entry)
+        (F.replaced files.old) (F.replaced files.new)
+        (history_text (joined segments.now)) result }
+{
+    let Some(file) = file else {
+        return Ok(());
+    };
+    match files.replace(alloc, file, &History { segments }) {
+        Ok(()) => Ok(()),
+        Err(fault) => Err(cannot_replace(fault, file)),
     }
 }
 
 // Reads the scripts, serves their sessions together, and writes their answers.
-fn serve_sessions<'w, R: Files + Threads + Wait + Sync, O: Write>(
+fn serve_sessions<'w, F: ImageFiles, R: Threads + Wait + Sync, O: Write>(
     rt: &R,
     alloc: Global,
+    files: &F,
     options: &ServeOptions<'w>,
     output: &mut Device<O>,
 ) -> Result<Served, Failure<'w>>
     ensures all { IfOk result (λ served.
-        PrintsAll (map (λ file. file.now) options.now.scripts.items) served.segments.items
+        PrintsFiles (F.held files.now) (scripts_of options.now) served.segments.items
         (O.contents (device_inner output.old)) (O.contents (device_inner output.new))) }
+    ensures told { IfErr result (TellsOfScripts (F.held files.now) (scripts_of options.now)) }
     ensures some { OnErr result (
-        PrintsSome (map (λ file. file.now) options.now.scripts.items)
+        PrintsSomeFiles (F.held files.now) (scripts_of options.now)
         (O.contents (device_inner output.old)) (O.contents (device_inner output.new))) }
 {
     let scripts = options.scripts.as_slice();
-    let sessions = read_sessions(alloc, rt, scripts)?;
+    let sessions = read_sessions(alloc, files, scripts)?;
     if !distinct(sessions.as_slice()) {
         return Err(Failure::Serve { name: "Mismatch" });
     }
@@ -183,13 +196,17 @@ fn serve_sessions<'w, R: Files + Threads + Wait + Sync, O: Write>(
 
 /// Reads the scripts, serves their sessions together, and writes their answers to the output, and the order of their
 /// messages to a file where one is named.
-pub(crate) fn serve_scripts<'w, R: Files + Threads + Wait + Sync, O: Write>(
+pub(crate) fn serve_scripts<'w, F: ImageFiles, R: Threads + Wait + Sync, O: Write>(
     rt: &R,
     alloc: Global,
+    files: &mut F,
     options: &ServeOptions<'w>,
-    output: &mut O,
-) -> Result<(), Failure<'w>> {
-    let mut output = Device::new(Patient::new(output));
-    let served = serve_sessions(rt, alloc, options, &mut output)?;
-    save_history(alloc, rt, served.segments.as_slice(), options.history)
+    output: &mut Device<O>,
+) -> Result<(), Failure<'w>>
+    ensures { Serves (F.held files.old) options.now
+        (O.contents (device_inner output.old)) (O.contents (device_inner output.new))
+        (F.replaced files.old) (F.replaced files.new) result }
+{
+    let served = serve_sessions(rt, alloc, files, options, output)?;
+    save_history(alloc, files, served.segments.as_slice(), options.history)
 }

@@ -1,67 +1,56 @@
 //! A file that is written as a whole, or stays as it was.
 
-use crate::fault::{Failure, Fault};
+use crate::patient::Patient;
+use pps_persist::{Contents, FileFault};
+use pps_types::Device;
 use std::alloc::Global;
 use std::fs::{File, Files, OpenFile, OpenOptions};
-use std::io::{ErrorKind, Write};
+use std::io::ErrorKind;
 use std::path::{AsPath, Path, PathBuf};
 use std::{fs, io};
-
-/// What a file is to hold.
-pub(crate) trait Contents {
-    /// Writes all of it, and nothing else, to what was opened under this name.
-    fn write_to<'w, O: Write>(
-        &self,
-        alloc: Global,
-        output: &mut O,
-        file: &'w str,
-    ) -> Result<(), Failure<'w>>;
-}
 
 /// How many links the system follows from a name to its file.
 const LINKS_MAX: u32 = 40;
 
-// What ends the program where a file cannot be written.
-fn cannot_write<'w>(error: &io::Error, file: &'w str) -> Failure<'w> {
+// Why a file is not replaced.
+fn fault_of(error: &io::Error) -> FileFault {
     match error.kind() {
-        ErrorKind::OutOfMemory => Failure::Fault(Fault::OutOfMemory),
-        _ => Failure::CannotWrite { file },
+        ErrorKind::OutOfMemory => FileFault::OutOfMemory,
+        _ => FileFault::Failed,
     }
 }
 
 // Writes a new file, and brings it to the disk.
-fn write_new<'w, F: Files, C: Contents>(
+fn write_new<F: Files, C: Contents>(
     alloc: Global,
     files: &F,
     contents: &C,
     beside: &str,
-    file: &'w str,
-) -> Result<(), Failure<'w>> {
+) -> Result<(), FileFault> {
     let Ok(mut output) = File::create_new(files, beside) else {
-        return Err(Failure::CannotWrite { file });
+        return Err(FileFault::Failed);
     };
-    contents.write_to(alloc, &mut output, file)?;
+    contents.write_to(alloc, &mut Device::new(Patient::new(&mut output)))?;
     match output.sync_all() {
-        Err(_) => Err(Failure::CannotWrite { file }),
+        Err(_) => Err(FileFault::Failed),
         Ok(()) => Ok(()),
     }
 }
 
 // Writes a file beside its place, and puts it there when it is whole. Else what is there stays.
-fn write_beside<'w, F: Files, C: Contents>(
+fn write_beside<F: Files, C: Contents>(
     alloc: Global,
     files: &F,
     contents: &C,
     place: &str,
-    file: &'w str,
-) -> Result<(), Failure<'w>> {
+) -> Result<(), FileFault> {
     let beside = format!(in alloc; "{place}.saving")?;
     let beside = beside.as_str();
     // What a run that was killed may have left.
     let _ = fs::remove_file(files, beside);
-    let mut written = write_new(alloc, files, contents, beside, file);
+    let mut written = write_new(alloc, files, contents, beside);
     if written.is_ok() && fs::rename(files, beside, place).is_err() {
-        written = Err(Failure::CannotWrite { file });
+        written = Err(FileFault::Failed);
     }
     if written.is_err() {
         let _ = fs::remove_file(files, beside);
@@ -70,16 +59,16 @@ fn write_beside<'w, F: Files, C: Contents>(
 }
 
 // Writes into what is no plain file: a device, or a pipe.
-fn write_into<'w, F: Files, C: Contents>(
+fn write_into<F: Files, C: Contents>(
     alloc: Global,
     files: &F,
     contents: &C,
-    file: &'w str,
-) -> Result<(), Failure<'w>> {
-    let Ok(mut output) = OpenOptions::new().write(true).open(files, file) else {
-        return Err(Failure::CannotWrite { file });
+    file: &str,
+) -> Result<(), FileFault> {
+    let Ok(output) = OpenOptions::new().write(true).open(files, file) else {
+        return Err(FileFault::Failed);
     };
-    contents.write_to(alloc, &mut output, file)
+    contents.write_to(alloc, &mut Device::new(Patient::new(output)))
 }
 
 // The name that a link holds, which is one beside the link unless it begins at the root.
@@ -112,12 +101,12 @@ fn new_place<F: Files>(alloc: Global, files: &F, file: &str) -> io::Result<PathB
 /// A plain file, or one that is not there yet, is replaced as a whole: links are followed, it is written beside its place,
 /// brought to the disk, and renamed. Anything else, such as a device, is written to as it is. If it cannot be looked at,
 /// for another reason than that it is not there, it cannot be written, and nothing changes.
-pub(crate) fn write_whole<'w, F: Files, C: Contents>(
+pub(crate) fn write_whole<F: Files, C: Contents>(
     alloc: Global,
     files: &F,
     contents: &C,
-    file: &'w str,
-) -> Result<(), Failure<'w>> {
+    file: &str,
+) -> Result<(), FileFault> {
     let place = match fs::metadata(files, file) {
         Ok(metadata) if !metadata.is_file() => return write_into(alloc, files, contents, file),
         Ok(_) => files.canonicalize(alloc, file),
@@ -125,7 +114,7 @@ pub(crate) fn write_whole<'w, F: Files, C: Contents>(
         Err(e) => Err(e),
     };
     match place {
-        Ok(place) => write_beside(alloc, files, contents, place.path_text(), file),
-        Err(e) => Err(cannot_write(&e, file)),
+        Ok(place) => write_beside(alloc, files, contents, place.path_text()),
+        Err(e) => Err(fault_of(&e)),
     }
 }

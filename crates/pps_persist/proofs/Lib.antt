@@ -7,3 +7,4 @@ pub mod Taken
 pub mod Cuts
 pub mod Inputs
 pub mod Sendings
+pub mod FromFiles

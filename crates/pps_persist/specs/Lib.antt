@@ -4,3 +4,4 @@ pub mod Held
 pub mod Begun
 pub mod Loads
 pub mod Sent
+pub mod Files

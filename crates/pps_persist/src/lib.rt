@@ -4,6 +4,8 @@
 mod again;
 mod entries;
 mod errors;
+mod files;
+mod filing;
 mod lines;
 mod loading;
 mod number;
@@ -16,6 +18,8 @@ mod saving;
 
 pub use again::loaded_is_saved_alike;
 pub use errors::{LoadError, SaveError};
+pub use files::{Contents, FileFault, ImageFiles};
+pub use filing::{load_from, save_to};
 pub use loading::load;
 pub use printing::{push_attribute, push_beginning, push_directory, push_end, push_object};
 pub use reading::{Beginning, EntryLine, read_attribute, read_beginning, read_entry_line};

@@ -7,6 +7,8 @@ mod books;
 #[cfg(test)]
 mod calls;
 #[cfg(test)]
+mod filing;
+#[cfg(test)]
 mod frames;
 #[cfg(test)]
 mod gates;

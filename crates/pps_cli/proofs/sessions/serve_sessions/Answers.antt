@@ -7,7 +7,9 @@ use Rattle.pps_types.specs.Writing.{SendsPart}
 use Rattle.pps_dispatch.specs.History.{joined}
 use Rattle.pps_dispatch.specs.Printed.{sessions_text, connections_of}
 use Rattle.pps_dispatch.proofs.Names.{served-names}
-use Rattle.pps_dispatch.proofs.SessionsServed.{are-served, prints-all, prints-some}
+use Rattle.pps_dispatch.proofs.SessionsServed.{are-served}
+use Rattle.pps_cli.proofs.FilesServed.{of_scripts, prints-files, prints-some-files}
+use Rattle.pps_cli.specs.Sessions.{AreOfFiles}
 use Rattle.pps_cli.proofs.sessions.serve_sessions.Goals as goal
 
 pub write_answers-requires-clause-named : goal.write_answers-requires-clause-named
@@ -16,7 +18,9 @@ write_answers-requires-clause-named g c =
 
 pub returns-in_err-write_answers-in-Ok-clause-some : goal.returns-in_err-write_answers-in-Ok-clause-some
 returns-in_err-write_answers-in-Ok-clause-some g c =
-    let files = map (λ (file : Bor (List ℕ)). file.now) c.args.options.now.scripts.items in
+    let names = λ (fs : List (Bor (List ℕ))). map (λ (file : Bor (List ℕ)). file.now) fs in
+    let held = g.F.ImageFiles.held c.args.files.now in
+    let files = names c.args.options.now.scripts.items in
     let olds = c.in_ok-sessions.sessions.items in
     let news = c.in-Ok.served.sessions.items in
     let history = c.in-Ok.served.segments.items in
@@ -26,14 +30,17 @@ returns-in_err-write_answers-in-Ok-clause-some g c =
     let count : length olds ≡ length files =
     omega (arith, c.in_ok-sessions.ensures.count, ap length named, length-map c.args.options.now.scripts.items (λ (file : Bor (List ℕ)). file.now)) in
     let distinct : are_distinct (connections_of olds) ≡ true = search rules in
-    let served = are-served files olds history _ _ count c.in_ok-sessions.ensures.scripts distinct c.in_ok-engine.ensures c.in-Ok.ensures.joins c.in-Ok.ensures.replays c.in-Ok.ensures.merge in
-    prints-some files olds news history before after served c.in-Ok.ensures.served _ _ c.from_residual-in_err-write_answers-in-Ok.result
-    (subst (λ (fs : List (Bor (List ℕ))). SendsPart before after (sessions_text (map (λ file. file.now) fs) (connections_of news) (joined history))) named
+    let of = subst (λ (fs : List (Bor (List ℕ))). AreOfFiles held (names fs) olds) named c.in_ok-sessions.ensures.scripts in
+    let served = are-served files olds history _ _ count (of_scripts held files olds of) distinct c.in_ok-engine.ensures c.in-Ok.ensures.joins c.in-Ok.ensures.replays c.in-Ok.ensures.merge in
+    prints-some-files held files olds news history before after of served c.in-Ok.ensures.served _ _ c.from_residual-in_err-write_answers-in-Ok.result
+    (subst (λ (fs : List (Bor (List ℕ))). SendsPart before after (sessions_text (names fs) (connections_of news) (joined history))) named
     c.in_err-write_answers-in-Ok.ensures.bytes)
 
 pub returns-in_ok-write_answers-in-Ok-clause-all : goal.returns-in_ok-write_answers-in-Ok-clause-all
 returns-in_ok-write_answers-in-Ok-clause-all g c =
-    let files = map (λ (file : Bor (List ℕ)). file.now) c.args.options.now.scripts.items in
+    let names = λ (fs : List (Bor (List ℕ))). map (λ (file : Bor (List ℕ)). file.now) fs in
+    let held = g.F.ImageFiles.held c.args.files.now in
+    let files = names c.args.options.now.scripts.items in
     let olds = c.in_ok-sessions.sessions.items in
     let news = c.in-Ok.served.sessions.items in
     let history = c.in-Ok.served.segments.items in
@@ -43,7 +50,8 @@ returns-in_ok-write_answers-in-Ok-clause-all g c =
     let count : length olds ≡ length files =
     omega (arith, c.in_ok-sessions.ensures.count, ap length named, length-map c.args.options.now.scripts.items (λ (file : Bor (List ℕ)). file.now)) in
     let distinct : are_distinct (connections_of olds) ≡ true = search rules in
-    let served = are-served files olds history _ _ count c.in_ok-sessions.ensures.scripts distinct c.in_ok-engine.ensures c.in-Ok.ensures.joins c.in-Ok.ensures.replays c.in-Ok.ensures.merge in
-    prints-all files olds news history before after served c.in-Ok.ensures.served
-    (subst (λ (fs : List (Bor (List ℕ))). Appends before after (sessions_text (map (λ file. file.now) fs) (connections_of news) (joined history))) named
+    let of = subst (λ (fs : List (Bor (List ℕ))). AreOfFiles held (names fs) olds) named c.in_ok-sessions.ensures.scripts in
+    let served = are-served files olds history _ _ count (of_scripts held files olds of) distinct c.in_ok-engine.ensures c.in-Ok.ensures.joins c.in-Ok.ensures.replays c.in-Ok.ensures.merge in
+    prints-files held files olds news history before after of served c.in-Ok.ensures.served
+    (subst (λ (fs : List (Bor (List ℕ))). Appends before after (sessions_text (names fs) (connections_of news) (joined history))) named
     c.in_ok-write_answers-in-Ok.ensures.bytes)
