@@ -1,11 +1,18 @@
 /* A library to be loaded before others: the most bytes that were allocated at once are written into the file COUNTED at the
-   end. */
+   end. If REGION is a number above 0, what would be more than so many bytes at once is refused. */
 #define _GNU_SOURCE
 #include <dlfcn.h>
+#include <errno.h>
 #include <malloc.h>
 #include "../tools/count.h"
 
 static long held = 0;
+
+static int is_too_much(long more) {
+    const char *region = getenv("REGION");
+    long most = region ? atol(region) : 0;
+    return most > 0 && held + more > most;
+}
 
 static void *taken(void *block) {
     if (block) {
@@ -22,6 +29,7 @@ static void given(void *block) {
 void *malloc(size_t size) {
     static void *(*next)(size_t);
     if (!next) next = dlsym(RTLD_NEXT, "malloc");
+    if (is_too_much((long)size)) { errno = ENOMEM; return NULL; }
     return taken(next(size));
 }
 
@@ -29,6 +37,7 @@ void *realloc(void *old, size_t size) {
     static void *(*next)(void *, size_t);
     if (!next) next = dlsym(RTLD_NEXT, "realloc");
     long before = old ? (long)malloc_usable_size(old) : 0;
+    if (is_too_much((long)size - before)) { errno = ENOMEM; return NULL; }
     void *block = next(old, size);
     if (block) {
         /* The old block and the new one may both have been there for a while. */

@@ -1,5 +1,7 @@
 """Random scripts: of all commands, over few names and few handles, so that they meet."""
 
+import random
+
 PATHS = ["/a", "/b", "/d", "/d/a", "/d/b", "/d/e", "/d/e/a", "/", "/.all", "/d/.all", "/none/a", "bad"]
 OPTIONS = ["delta", "deltadir", "wait", "nopersist", "reflect", "server", "critical", "limit=1", "limit=3", "f=x", "f=x>3+y"]
 MODES = ["r", "w", "rw", "rc", "wc", "rwc", "rwct", "wct"]
@@ -40,3 +42,14 @@ def session(chance, connection, length, handles):
     commands = ["attach"] if chance.random() < 0.9 else []
     commands += [command(chance, handles) for _ in range(length)]
     return [f"{connection} {words}" for words in commands]
+
+
+def scripts(count, seed):
+    """So many scripts of three connections, each by its name; with no seed by one of its own, which is in the names."""
+    seed = random.randrange(1 << 32) if seed is None else seed
+    for number in range(count):
+        chance = random.Random(f"{seed} {number}")
+        lines = [line for conn in (1, 2, 3) for line in session(chance, conn, chance.choice([5, 15, 40]), 6)]
+        chance.shuffle(lines)
+        lines = [f"{conn} attach" for conn in (1, 2, 3)] + lines
+        yield f"random script {number} of seed {seed}", "".join(f"{line}\n" for line in lines).encode()

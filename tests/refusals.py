@@ -25,6 +25,12 @@ TOLD = b"pps: out of memory\n"
 # How many allocations of each work are refused, if not all: each by itself, and some with all that follow.
 SINGLE, LATER = 200, 30
 
+# How many bytes the larger regions lack at most.
+LARGER = 16_384
+
+# Of how many messages that are refused in a run it is seen that they need memory.
+JUDGED = 3
+
 
 class Ended(NamedTuple):
     """What a run ended with: its status, its answers, one by one, what it said on standard error, and the files it left."""
@@ -35,22 +41,23 @@ class Ended(NamedTuple):
     left: dict
 
 
-def run(words, given, files, loaded, refused, **more):
-    """What the program ends with, and prints, where these allocations are refused: "7", or "7+" for all from there on."""
+def run(words, given, files, loaded, refused, program=PPS, **more):
+    """What the program ends with, and prints, where these allocations are refused: "7", "7+" for all from there on, or "700b" for
+    those that would make it hold more than so many bytes (the first two with tools/refuse.c, the last with tests/memory.c)."""
     with tempfile.TemporaryDirectory() as folder:
         for name, content in files.items():
             (Path(folder) / name).write_bytes(content)
-        environment = {**os.environ, "LD_PRELOAD": str(loaded), "REFUSED": refused, **more}
+        environment = {**os.environ, "LD_PRELOAD": str(loaded), "REFUSED": refused, "REGION": refused, **more}
         how = {"env": environment, "cwd": folder, "capture_output": True, "check": False, "timeout": 60}
-        ran = subprocess.run([PPS, *words], input=given, **how)
+        ran = subprocess.run([program, *words], input=given, **how)
         left = {path.name: path.read_bytes() for path in Path(folder).iterdir()}
     return ran, left
 
 
-def count(words, given, files, loaded):
-    """How many allocations there are."""
+def count(words, given, files, loaded, program=PPS):
+    """How many allocations there are, or with tests/memory.c, how many bytes are held at most."""
     with tempfile.NamedTemporaryFile() as counted:
-        run(words, given, files, loaded, "0", COUNTED=counted.name)
+        run(words, given, files, loaded, "0", program, COUNTED=counted.name)
         return int(Path(counted.name).read_text())
 
 
@@ -110,6 +117,11 @@ class Work:
     def count(self):
         return count(self.words, self.given(frozenset()), self.files, self.loaded)
 
+    def needs_no_memory(self, at, answer):
+        """Whether the message at this place needs no memory, if this is its answer where nothing is refused."""
+        line = self.lines[at]
+        return line is not None and needs_no_memory(line, self.line_of_answer(answer), list(filter(None, self.lines)))
+
     def wrong_again(self, refused, at):
         """What is wrong where the message at this place, which is refused for this allocation, is given again at once."""
         if at not in self.works_with_twice:
@@ -130,16 +142,27 @@ class Work:
         wanted = list(right.answers)
         for at in wanting:
             wanted.insert(at, self.out_of_memory(at))
-        if wanting and self.lines[wanting[0]] is not None:
-            line, answer = self.lines[wanting[0]], self.line_of_answer(self.run_without(frozenset()).answers[wanting[0]])
-            if needs_no_memory(line, answer, list(filter(None, self.lines))):
-                return f"{line!r} needs no memory"
+        for before, at in enumerate(wanting[:JUDGED]):
+            answer = self.run_without(frozenset(wanting[:before])).answers[at - before]
+            if self.needs_no_memory(at, answer):
+                return f"{self.lines[at]!r} needs no memory"
         if (ended.status, ended.errors) == (3, TOLD):
             is_right = ended.answers == wanted[: len(ended.answers)] and ended.left == self.files
             return "" if is_right else "out of memory, but other answers or files"
         if ended != right._replace(answers=wanted):
             return "not as without the messages that are refused"
         return self.wrong_again(refused, wanting[0]) if len(wanting) == 1 and refused.isdecimal() else ""
+
+
+def sizes(most, name, is_all):
+    """Regions of memory that are too small where so many bytes are held at most: the larger ones, in which messages are refused,
+    and some in which the program itself is out of memory."""
+    larger, smaller = range(max(most - LARGER, 16), most, 16), range(1_024, max(most - LARGER, 16), 1_024)
+    if not is_all:
+        chance = random.Random(name)
+        larger = chance.sample(larger, min(LATER, len(larger)))
+        smaller = chance.sample(smaller, min(5, len(smaller)))
+    return [f"{size}b" for size in [*larger, *smaller]]
 
 
 def numbers(count, name, is_all):
@@ -153,13 +176,12 @@ def numbers(count, name, is_all):
     return [str(number) for number in single] + [f"{number}+" for number in later]
 
 
-def tried(name, count, wrong_of, pool, is_all):
-    """How many refusals there were, and how many went wrong, which are named."""
-    asked = numbers(count, name, is_all)
+def tried(name, asked, wrong_of, pool):
+    """How many refusals there were of those that are asked for, and how many went wrong, which are named."""
     wrong = [(number, words) for number, words in zip(asked, pool.map(wrong_of, asked)) if words]
     for number, words in wrong[:3]:
-        print(f"{name}: allocation {number} refused: {words}", file=sys.stderr, flush=True)
-    print(f"{name}: {count} allocations, {len(asked)} refusals, {len(wrong)} wrong", flush=True)
+        print(f"{name}: refused {number}: {words}", file=sys.stderr, flush=True)
+    print(f"{name}: {len(asked)} refusals, {len(wrong)} wrong", flush=True)
     return len(asked), len(wrong)
 
 
@@ -168,6 +190,7 @@ def main(description, works, seconds, more=()):
     wrong where some are refused. A work without allocations counts as wrong."""
     parser = argparse.ArgumentParser(description=description, formatter_class=argparse.RawDescriptionHelpFormatter)
     parser.add_argument("--all", action="store_true", help="refuse each allocation, by itself and with all that follow")
+    parser.add_argument("--regions", action="store_true", help="refuse what is more than a region of memory, of many sizes")
     for words, options in more:
         parser.add_argument(words, **options)
     parser.add_argument("paths", nargs="*", type=Path)
@@ -175,9 +198,10 @@ def main(description, works, seconds, more=()):
     begin((20 if asked.all else 1) * (seconds + 10 * getattr(asked, "random", 0)))
     refused = wrong = number = 0
     with tempfile.TemporaryDirectory() as folder, ThreadPoolExecutor(os.cpu_count()) as pool:
-        loaded = compiled(folder, "tools/refuse.c")
+        loaded = compiled(folder, "tests/memory.c" if asked.regions else "tools/refuse.c")
+        chosen = sizes if asked.regions else numbers
         for name, allocations, wrong_of in works(asked, loaded):
-            more_refused, more_wrong = tried(name, allocations, wrong_of, pool, asked.all)
+            more_refused, more_wrong = tried(name, chosen(allocations, name, asked.all), wrong_of, pool)
             refused, wrong, number = refused + more_refused, wrong + more_wrong + (allocations == 0), number + 1
     print(f"{Path(sys.argv[0]).name}: {number} works, {refused} refusals, {wrong} wrong")
     return 1 if wrong or not refused else 0

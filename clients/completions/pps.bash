@@ -21,7 +21,7 @@ _pps() {
     return
   fi
   case $command in
-    run) mapfile -t COMPREPLY < <(compgen -W "--show --image --save --limit --help -h" -- "$word") ;;
+    run) mapfile -t COMPREPLY < <(compgen -W "--show --interactive --image --save --limit --help -h" -- "$word") ;;
     frames) mapfile -t COMPREPLY < <(compgen -W "--image --save --limit --help -h" -- "$word") ;;
     serve)
       mapfile -t COMPREPLY < <(compgen -W "--workers --history --help -h" -- "$word")

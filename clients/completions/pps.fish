@@ -9,6 +9,7 @@ complete -c pps -n "not __fish_seen_subcommand_from $commands" -a serve -d "Run 
 complete -c pps -n "not __fish_seen_subcommand_from $commands" -l version -d "Print version"
 complete -c pps -s h -l help -d "Print help"
 complete -c pps -n "__fish_seen_subcommand_from run" -l show -d "Show values of encoding b and b64"
+complete -c pps -n "__fish_seen_subcommand_from run" -l interactive -d "Go on after a bad line"
 complete -c pps -n "__fish_seen_subcommand_from run frames" -l image -r -F -d "Begin with the image in a file"
 complete -c pps -n "__fish_seen_subcommand_from run frames" -l save -r -F -d "Save the service to a file at the end"
 complete -c pps -n "__fish_seen_subcommand_from run frames" -l limit -x -a "16 256 4096 65535" -d "How many changes a handle may be owed"

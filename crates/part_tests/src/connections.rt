@@ -1,3 +1,4 @@
+use crate::samples::is_refused;
 use notify_box::{Connections, Outbox};
 use pps_types::{Conn, Handle, Item, Refusal, SharedBytes};
 use std::alloc::{AllocError, Global};
@@ -195,26 +196,35 @@ fn is_played(
     conn: Conn,
     handle: Handle,
     step: Step,
-) -> bool {
+) -> Result<bool, Refusal> {
     match step {
-        Does(done) => carry_out(connections, alloc, conn, handle, done) == Ok(()),
-        IsRefused(done, refusal) => {
-            carry_out(connections, alloc, conn, handle, done) == Err(refusal)
+        Does(done) => {
+            carry_out(connections, alloc, conn, handle, done)?;
+            Ok(true)
         }
-        Sees(seen) => holds(connections, conn, handle, seen),
-        Takes(sent) => is_sent(take(connections, conn).as_ref(), sent),
+        IsRefused(done, refusal) => {
+            is_refused(carry_out(connections, alloc, conn, handle, done), refusal)
+        }
+        Sees(seen) => Ok(holds(connections, conn, handle, seen)),
+        Takes(sent) => Ok(is_sent(take(connections, conn).as_ref(), sent)),
     }
 }
 
-fn play(rt: &impl Abort, alloc: Global, connections: &mut Connections, rows: &[Row]) {
+fn play(
+    rt: &impl Abort,
+    alloc: Global,
+    connections: &mut Connections,
+    rows: &[Row],
+) -> Result<(), Refusal> {
     for (place, (conn, handle, step)) in rows.iter().enumerate() {
         let conn = Conn::new(*conn);
         let handle = Handle::new(*handle);
         assert!(rt;
-            is_played(connections, alloc, conn, handle, *step),
+            is_played(connections, alloc, conn, handle, *step)?,
             "step {place}"
         );
     }
+    Ok(())
 }
 
 const ATTACHING_AND_LEAVING: [Row; 29] = [
@@ -319,17 +329,17 @@ const CLOSING_A_PARKED_READ: [Row; 14] = [
 ];
 
 /// Plays rows on new connections.
-fn play_new(rt: &impl Abort, alloc: Global, rows: &[Row]) {
+fn play_new(rt: &impl Abort, alloc: Global, rows: &[Row]) -> Result<(), Refusal> {
     let mut connections = Connections::new(alloc);
-    play(rt, alloc, &mut connections, rows);
+    play(rt, alloc, &mut connections, rows)
 }
 
 #[test]
 fn connections_have_handles_and_queues(rt: HostRuntime) -> Result<(), Fail> {
-    play_new(&rt, rt.alloc(), &ATTACHING_AND_LEAVING);
-    play_new(&rt, rt.alloc(), &OPENING_AND_CLOSING);
-    play_new(&rt, rt.alloc(), &EACH_HAS_ITS_OWN);
-    play_new(&rt, rt.alloc(), &CLOSING_A_PARKED_READ);
+    play_new(&rt, rt.alloc(), &ATTACHING_AND_LEAVING)?;
+    play_new(&rt, rt.alloc(), &OPENING_AND_CLOSING)?;
+    play_new(&rt, rt.alloc(), &EACH_HAS_ITS_OWN)?;
+    play_new(&rt, rt.alloc(), &CLOSING_A_PARKED_READ)?;
     Ok(())
 }
 
@@ -346,12 +356,12 @@ const BESIDE_A_FULL_OUTBOX: [Row; 6] = [
 fn full_outbox(rt: HostRuntime) -> Result<(), Fail> {
     let mut connections = Connections::new(rt.alloc());
     let attaching = [(1, 0, Does(Attach)), (2, 0, Does(Attach))];
-    play(&rt, rt.alloc(), &mut connections, &attaching);
+    play(&rt, rt.alloc(), &mut connections, &attaching)?;
     for handle in 0..1_024 {
         let arming = [(2, handle, Does(Arm))];
-        play(&rt, rt.alloc(), &mut connections, &arming);
+        play(&rt, rt.alloc(), &mut connections, &arming)?;
     }
-    play(&rt, rt.alloc(), &mut connections, &BESIDE_A_FULL_OUTBOX);
+    play(&rt, rt.alloc(), &mut connections, &BESIDE_A_FULL_OUTBOX)?;
     Ok(())
 }
 
@@ -361,14 +371,14 @@ type Stage<'a> = (bool, &'a [Row], bool);
 /// Plays rows, copies the connections, and plays the stages on them and their copy.
 fn compare(rt: &impl Abort, alloc: Global, begin: &[Row], stages: &[Stage]) -> Result<(), Refusal> {
     let mut connections = Connections::new(alloc);
-    play(rt, alloc, &mut connections, begin);
+    play(rt, alloc, &mut connections, begin)?;
     let mut copy = connections.copy()?;
     assert!(rt; copy.same(&connections));
     for (is_copy, rows, are_same) in stages {
         if *is_copy {
-            play(rt, alloc, &mut copy, rows);
+            play(rt, alloc, &mut copy, rows)?;
         } else {
-            play(rt, alloc, &mut connections, rows);
+            play(rt, alloc, &mut connections, rows)?;
         }
         assert_eq!(rt; copy.same(&connections), *are_same);
     }

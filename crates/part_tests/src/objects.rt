@@ -415,7 +415,7 @@ fn write_again(
     write(alloc, object, text)
 }
 
-/// Run with each request for memory refused in turn (`tools/refuse_in_tests`).
+/// Run with requests for memory refused (`tools/refuse_in_tests`).
 #[test]
 fn a_write_without_memory_leaves_the_object(rt: HostRuntime) -> Result<(), Fail> {
     let mut object = Object::new(rt.alloc());

@@ -1,5 +1,5 @@
-//! Tests of the service: the engine's calls, how much it keeps and owes, full directories, refused requests for memory,
-//! streams of frames, what images restore and save, books, and workers with the sessions that they serve.
+//! Tests of the service: the engine's calls, how much it keeps and owes, full directories, streams of frames, what images
+//! restore and save, books, and workers with the sessions that they serve.
 #![tactic(auto)]
 
 #[cfg(test)]
@@ -20,8 +20,6 @@ mod images;
 mod persisting;
 #[cfg(test)]
 mod private;
-#[cfg(test)]
-mod refusals;
 #[cfg(test)]
 mod scripts;
 #[cfg(test)]

@@ -128,19 +128,6 @@ fn assert_answer(
     Ok(())
 }
 
-/// The commands of a script, each with its answer.
-fn assert_answers(
-    rt: &impl Abort,
-    alloc: Global,
-    engine: &mut Engine,
-    script: &[[&[u8]; 2]],
-) -> Result<(), Refusal> {
-    for [line, wanted] in script {
-        assert_answer(rt, alloc, engine, line, wanted)?;
-    }
-    Ok(())
-}
-
 /// Runs commands, none of which is refused.
 fn run(alloc: Global, engine: &mut Engine, lines: &[&[u8]]) -> Result<(), Refusal> {
     for line in lines {
@@ -291,14 +278,4 @@ pub(crate) fn play(
 ) -> Result<(), Refusal> {
     let mut engine = started(alloc, start)?;
     play_steps(rt, alloc, &mut engine, before, steps)
-}
-
-/// The commands of a script, each with its answer, on a new engine.
-pub(crate) fn play_script(
-    rt: &impl Abort,
-    alloc: Global,
-    script: &[[&[u8]; 2]],
-) -> Result<(), Refusal> {
-    let mut engine = new_engine(alloc)?;
-    assert_answers(rt, alloc, &mut engine, script)
 }
