@@ -6,11 +6,13 @@
 mod books;
 mod devices;
 mod engines;
+mod failing;
 mod images;
 mod lists;
 mod refused;
 mod rows;
 mod script;
+mod served;
 mod sessions;
 mod slip;
 mod streams;

@@ -4,7 +4,7 @@ use crate::engines::Giving;
 use crate::refused::Refused;
 use crate::rows::Row;
 use crate::slip::Slip;
-use crate::{books, devices, engines, images, lists, sessions, streams};
+use crate::{books, devices, engines, images, lists, served, sessions, streams};
 use pps_engine::Engine;
 use std::alloc::Global;
 use std::sync::Wait;
@@ -29,6 +29,8 @@ pub(crate) enum Way {
     Image,
     /// As text over devices of which each call fails in turn.
     Devices,
+    /// As frames over devices of which each call fails in turn.
+    Frames,
     /// As sessions that one worker serves.
     Worker,
     /// As sessions that eight workers serve.
@@ -48,6 +50,7 @@ impl Way {
             b"pieces" => Ok(Way::Pieces),
             b"image" => Ok(Way::Image),
             b"devices" => Ok(Way::Devices),
+            b"frames" => Ok(Way::Frames),
             b"worker" => Ok(Way::Worker),
             b"workers" => Ok(Way::Workers),
             _ => Err(Slip::UnknownWay),
@@ -110,6 +113,7 @@ impl<'t> Script<'t> {
             Way::Pieces => streams::play(alloc, rows, 7, refused),
             Way::Image => images::play(alloc, rows, refused),
             Way::Devices => devices::play(alloc, rows),
+            Way::Frames => served::play(alloc, rows),
             Way::Worker => sessions::play(rt, alloc, rows, 1, refused),
             Way::Workers => sessions::play(rt, alloc, rows, 8, refused),
         }
