@@ -1,12 +1,13 @@
 -- What a directory is seen as.
-use Rattle.std.specs.Prelude.{ℕ, List, [], ◌∷◌, Bool, true, false, ◌⊎◌, refl}
+use Rattle.std.specs.Prelude.{ℕ, List, [], ◌∷◌, Bool, true, false, ◌⊎◌, refl, Option}
 use Rattle.std.proofs.Common.{inl, inr}
 use Rattle.std.specs.FinMap.{code, entries}
 use Rattle.std.specs.FinMap.Entries.{where_key}
 use Rattle.std.specs.Coded.{Coded, code_by, coded×, coded⊎, coded_ℕ, coded_list}
 use Rattle.pps_types.specs.declared.found.Found.{Found}
 use Rattle.pps_types.specs.declared.found.Found.TheVariants.{Object, Directory}
-use Rattle.pps_types.specs.Names.{Name, Path, Map, path_cmp}
+use Rattle.pps_types.specs.Names.{Name, Path, Map, path_cmp, members_in}
+use Rattle.alloc_tree.specs.Path.{Changes}
 
 pub record Contents : Type 0 where
   -- the directory's number
@@ -25,6 +26,14 @@ is_below (n ∷ p) = true
 -- the directory itself and what stands below it, a path before what is below that, and names in byte order
 unfoldable pub whole : Contents → List (Path × Found)
 whole c = ([], Directory c.id) ∷ where_key path_cmp is_below (entries c.below)
+
+-- what is directly in the directory at a path, in byte order of names
+abbrev pub members_at : Path → Contents → List (Name × Found)
+members_at path c = members_in path (whole c)
+
+-- at the path the new contents have this, and elsewhere what the old ones have
+abbrev pub ChangesAt : (old new : Contents) → Path → Option Found → Type 0
+ChangesAt old new path found = Changes (whole old) (whole new) path found
 
 -- ---- codes
 

@@ -23,6 +23,14 @@ pub record Held : Type 0 where
 abbrev pub root_alone : Map
 root_alone = insert empty [] (FoundDirectory 0)
 
+-- the map with this object at the path
+abbrev pub with_object : Map → Path → ℕ → Map
+with_object map path id = insert map path (FoundObject id)
+
+-- the map with this directory there
+abbrev pub with_directory : Map → Path → ℕ → Map
+with_directory map path id = insert map path (FoundDirectory id)
+
 -- why nothing of that kind can be added
 abbrev pub new_of : NodeKind → Map → Path → Option Refusal
 new_of Object map path = add_refusal map path

@@ -1,12 +1,12 @@
 //! A directory: named objects and directories, in byte order of names.
-ghost use Rattle.std.specs.Prelude.{◌≡◌, ◌≢◌, ◌↔◌, IsTrue, ◌<◌, ◌++◌, ℕ, [], ◌∷◌, None, Some, IfOk, IfErr, OnOk, OnErr, length, map, slice_get};
+ghost use Rattle.std.specs.Prelude.{◌≡◌, ◌↔◌, IsTrue, ◌<◌, ◌++◌, [], ◌∷◌, None, Some, IfOk, IfErr, OnOk, OnErr, length, map, slice_get};
 ghost use Rattle.std.specs.Bool.{OnTrue};
 ghost use Rattle.pps_types.specs.Bytes.{is_empty};
 ghost use Rattle.pps_types.specs.declared.found.Found.TheVariants.{Directory as FoundDirectory};
-ghost use Rattle.pps_types.specs.declared.refusal.Refusal.TheVariants.{OutOfMemory};
-ghost use Rattle.pps_types.specs.Names.{place, find_at, new_refusal, refusal_of, last_name, members_in};
-ghost use Rattle.alloc_tree.specs.Path.{at, room_for, Changes};
-ghost use Rattle.alloc_tree.specs.Contents.{whole};
+ghost use Rattle.pps_types.specs.Names.{place, find_at, new_refusal, refusal_of, last_name};
+ghost use Rattle.pps_types.specs.Refused.{IsRefusedAs};
+ghost use Rattle.alloc_tree.specs.Path.{at, room_for};
+ghost use Rattle.alloc_tree.specs.Contents.{whole, members_at, ChangesAt};
 ghost use Rattle.alloc_tree.specs.Walk.{names, beyond_path, LeadsTo, LeadsNowhere};
 ghost use Rattle.alloc_tree.specs.Refused.{new_refused, list_refused, edit_refused, left_by, count_in};
 
@@ -107,7 +107,7 @@ impl<A: Allocator> Directory<A> {
     /// The directory at a path.
     pub(crate) fn directory(&self, path: &[Bytes]) -> Result<&Directory<A>, Refusal>
         ensures refusal { refusal_of result ≡ list_refused (whole self.now) path.now }
-        ensures members { IfOk result (λ d. members_in [] (whole d.now) ≡ members_in path.now (whole self.now)) }
+        ensures members { IfOk result (λ d. members_at [] d.now ≡ members_at path.now self.now) }
         ensures found { IfOk result (λ d. LeadsTo (whole self.now) path.now (whole d.now)) }
         ensures none { IfErr result (LeadsNowhere (whole self.now) path.now) }
     {
@@ -176,7 +176,7 @@ impl<A: Allocator> Directory<A> {
     pub(crate) fn prepare(&mut self, path: &[Bytes], kind: NodeKind) -> Result<Ready<A>, Refusal>
     where
         A: Clone,
-        ensures refusal { refusal_of result ≢ Some OutOfMemory → refusal_of result ≡ new_refused kind (whole self.old) path.now }
+        ensures refusal { IsRefusedAs result (new_refused kind (whole self.old) path.now) }
         ensures ready { IfOk result (λ r. ready_seen (Some r) ≡ Some (kind, last_name path.now)) }
         ensures same { whole self.new ≡ whole self.old }
         ensures room { OnOk result (0 < room_for (at self.new.rooms) path.now) }
@@ -216,7 +216,7 @@ impl<A: Allocator> Directory<A> {
         requires room { 0 < room_for (at self.old.rooms) path.now }
         requires name { name.items ≡ last_name path.now }
         requires alone { IsAlone node }
-        ensures { Changes (whole self.old) (whole self.new) path.now (Some (node_found node)) }
+        ensures { ChangesAt self.old self.new path.now (Some (node_found node)) }
     {
         let Some((first, rest)) = path.split_first() else {
             unreachable!()
@@ -237,7 +237,7 @@ impl<A: Allocator> Directory<A> {
 
     /// Whether nothing stands in it.
     pub(crate) fn is_empty(&self) -> bool
-        ensures value { result ≡ is_empty (members_in [] (whole self.now)) }
+        ensures value { result ≡ is_empty (members_at [] self.now) }
         ensures alone { OnTrue result (whole self.now ≡ ([], FoundDirectory self.now.id) ∷ []) }
     {
         self.entries.is_empty()
@@ -246,7 +246,7 @@ impl<A: Allocator> Directory<A> {
     /// Changes what stands at a path, where nothing refuses that.
     pub(crate) fn edit(&mut self, path: &[Bytes], edit: Edit) -> Result<(), Refusal>
         ensures refusal { refusal_of result ≡ edit_refused edit (whole self.old) path.now }
-        ensures ok { OnOk result (Changes (whole self.old) (whole self.new) path.now (left_by edit)) }
+        ensures ok { OnOk result (ChangesAt self.old self.new path.now (left_by edit)) }
         ensures err { OnErr result (self.new ≡ self.old) }
     {
         let Some((name, rest)) = path.split_first() else {
@@ -274,23 +274,23 @@ impl<A: Allocator> Directory<A> {
 
     /// How many entries it has.
     pub(crate) fn len(&self) -> usize
-        ensures { result ≡ length (members_in [] (whole self.now)) }
+        ensures { result ≡ length (members_at [] self.now) }
     {
         self.entries.len()
     }
 
     /// What stands at a place among its entries.
     pub(crate) fn found(&self, place: usize) -> Found
-        requires { place < length (members_in [] (whole self.now)) }
-        ensures { slice_get (map (λ m. m.1) (members_in [] (whole self.now))) place ≡ Some result }
+        requires { place < length (members_at [] self.now) }
+        ensures { slice_get (map (λ m. m.1) (members_at [] self.now)) place ≡ Some result }
     {
         found_of(&self.entries[place].node)
     }
 
     /// The name at a place among its entries, and what stands there.
     pub(crate) fn listed_at(&self, place: usize) -> (&[u8], Found)
-        requires { place < length (members_in [] (whole self.now)) }
-        ensures { slice_get (members_in [] (whole self.now)) place ≡ Some (result.0.now, result.1) }
+        requires { place < length (members_at [] self.now) }
+        ensures { slice_get (members_at [] self.now) place ≡ Some (result.0.now, result.1) }
     {
         let entry = &self.entries[place];
         (entry.name.as_slice(), found_of(&entry.node))
@@ -299,7 +299,7 @@ impl<A: Allocator> Directory<A> {
     fn members(&self) -> Result<Vec<Member<A>, A>, AllocError>
     where
         A: Clone,
-        ensures { IfOk result (λ members. members.items ≡ members_in [] (whole self.now)) }
+        ensures { IfOk result (λ members. members.items ≡ members_at [] self.now) }
     {
         list_entries(&self.entries)
     }
@@ -308,8 +308,8 @@ impl<A: Allocator> Directory<A> {
     pub(crate) fn list(&self, path: &[Bytes]) -> Result<Vec<Member<A>, A>, Refusal>
     where
         A: Clone,
-        ensures refusal { refusal_of result ≢ Some OutOfMemory → refusal_of result ≡ list_refused (whole self.now) path.now }
-        ensures ok { IfOk result (λ members. members.items ≡ members_in path.now (whole self.now)) }
+        ensures refusal { IsRefusedAs result (list_refused (whole self.now) path.now) }
+        ensures ok { IfOk result (λ members. members.items ≡ members_at path.now self.now) }
     {
         Ok(self.directory(path)?.members()?)
     }

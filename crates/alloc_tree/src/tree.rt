@@ -1,10 +1,11 @@
 //! A tree of named objects and directories.
-ghost use Rattle.std.specs.Prelude.{◌≡◌, ◌≢◌, ◌↔◌, IsTrue, [], ◌∷◌, None, Some, IfOk, IfErr, OnOk, OnErr};
+ghost use Rattle.std.specs.Prelude.{◌≡◌, ◌↔◌, IsTrue, [], ◌∷◌, None, IfOk, IfErr, OnOk, OnErr};
 ghost use Rattle.std.specs.FinMap as finite;
-ghost use Rattle.pps_types.specs.declared.found.Found.TheVariants.{Object as FoundObject, Directory as FoundDirectory};
 ghost use Rattle.pps_types.specs.declared.refusal.Refusal.TheVariants.{OutOfMemory};
 ghost use Rattle.pps_types.specs.Names as names;
-ghost use Rattle.alloc_tree.specs.Held.{IsReady, new_of, edit_of, edited, root_alone};
+ghost use Rattle.pps_types.specs.Names.{members_of};
+ghost use Rattle.pps_types.specs.Refused.{IsRefusedAs};
+ghost use Rattle.alloc_tree.specs.Held.{IsReady, new_of, edit_of, edited, root_alone, with_object, with_directory};
 ghost use Rattle.alloc_tree.specs.declared.kind.NodeKind.TheVariants.{Object as AnObject, Directory as ADirectory};
 
 use crate::directory::{Directory, Node, Ready};
@@ -87,7 +88,7 @@ impl<A: Allocator> Tree<A> {
     fn keep_ready(&mut self, path: &[Bytes], kind: NodeKind) -> Result<(), Refusal>
     where
         A: Clone,
-        ensures refusal { names.refusal_of result ≢ Some OutOfMemory → names.refusal_of result ≡ new_of kind self.old.map path.now }
+        ensures refusal { IsRefusedAs result (new_of kind self.old.map path.now) }
         ensures ok { OnOk result (IsReady self.new kind path.now) }
         ensures same { self.new.map ≡ self.old.map }
         ensures err { OnErr result (self.new ≡ self.old) }
@@ -102,7 +103,7 @@ impl<A: Allocator> Tree<A> {
     pub fn add_ready(&mut self, path: &[Bytes]) -> Result<(), Refusal>
     where
         A: Clone,
-        ensures refusal { names.refusal_of result ≢ Some OutOfMemory → names.refusal_of result ≡ names.add_refusal self.old.map path.now }
+        ensures refusal { IsRefusedAs result (names.add_refusal self.old.map path.now) }
         ensures ok { OnOk result (IsReady self.new AnObject path.now) }
         ensures same { self.new.map ≡ self.old.map }
         ensures err { OnErr result (self.new.ready ≡ None) }
@@ -114,7 +115,7 @@ impl<A: Allocator> Tree<A> {
     /// Adds the object that was made ready at this path. It takes no memory.
     pub fn add_commit(&mut self, path: &[Bytes], id: ObjId)
         requires { IsReady self.old AnObject path.now }
-        ensures map { self.new.map ≡ finite.insert self.old.map path.now (FoundObject id) }
+        ensures map { self.new.map ≡ with_object self.old.map path.now id }
         ensures ready { self.new.ready ≡ None }
     {
         match self.ready.take() {
@@ -131,8 +132,8 @@ impl<A: Allocator> Tree<A> {
     pub fn add(&mut self, path: &[Bytes], id: ObjId) -> Result<(), Refusal>
     where
         A: Clone,
-        ensures refusal { names.refusal_of result ≢ Some OutOfMemory → names.refusal_of result ≡ names.add_refusal self.old.map path.now }
-        ensures map { OnOk result (self.new.map ≡ finite.insert self.old.map path.now (FoundObject id)) }
+        ensures refusal { IsRefusedAs result (names.add_refusal self.old.map path.now) }
+        ensures map { OnOk result (self.new.map ≡ with_object self.old.map path.now id) }
         ensures ready { OnOk result (self.new.ready ≡ None) }
         ensures err { OnErr result (self.new ≡ self.old) }
     {
@@ -147,7 +148,7 @@ impl<A: Allocator> Tree<A> {
     pub fn mkdir_ready(&mut self, path: &[Bytes]) -> Result<(), Refusal>
     where
         A: Clone,
-        ensures refusal { names.refusal_of result ≢ Some OutOfMemory → names.refusal_of result ≡ names.mkdir_refusal self.old.map path.now }
+        ensures refusal { IsRefusedAs result (names.mkdir_refusal self.old.map path.now) }
         ensures ok { OnOk result (IsReady self.new ADirectory path.now) }
         ensures same { self.new.map ≡ self.old.map }
         ensures err { OnErr result (self.new.ready ≡ None) }
@@ -159,7 +160,7 @@ impl<A: Allocator> Tree<A> {
     /// Adds the directory that was made ready at this path. It takes no memory.
     pub fn mkdir_commit(&mut self, path: &[Bytes], id: DirId)
         requires { IsReady self.old ADirectory path.now }
-        ensures map { self.new.map ≡ finite.insert self.old.map path.now (FoundDirectory id) }
+        ensures map { self.new.map ≡ with_directory self.old.map path.now id }
         ensures ready { self.new.ready ≡ None }
     {
         match self.ready.take() {
@@ -179,8 +180,8 @@ impl<A: Allocator> Tree<A> {
     pub fn mkdir(&mut self, path: &[Bytes], id: DirId) -> Result<(), Refusal>
     where
         A: Clone,
-        ensures refusal { names.refusal_of result ≢ Some OutOfMemory → names.refusal_of result ≡ names.mkdir_refusal self.old.map path.now }
-        ensures map { OnOk result (self.new.map ≡ finite.insert self.old.map path.now (FoundDirectory id)) }
+        ensures refusal { IsRefusedAs result (names.mkdir_refusal self.old.map path.now) }
+        ensures map { OnOk result (self.new.map ≡ with_directory self.old.map path.now id) }
         ensures ready { OnOk result (self.new.ready ≡ None) }
         ensures err { OnErr result (self.new ≡ self.old) }
     {
@@ -206,7 +207,7 @@ impl<A: Allocator> Tree<A> {
     /// It is refused as [`remove`](Tree::remove) is.
     pub fn replace(&mut self, path: &[Bytes], id: ObjId) -> Result<(), Refusal>
         ensures refusal { names.refusal_of result ≡ names.object_refusal self.old.map path.now }
-        ensures map { OnOk result (self.new.map ≡ finite.insert self.old.map path.now (FoundObject id)) }
+        ensures map { OnOk result (self.new.map ≡ with_object self.old.map path.now id) }
         ensures ready { OnOk result (self.new.ready ≡ None) }
         ensures err { OnErr result (self.new ≡ self.old) }
     {
@@ -245,8 +246,8 @@ impl<A: Allocator> Tree<A> {
     pub fn list(&self, path: &[Bytes]) -> Result<Vec<Member<A>, A>, Refusal>
     where
         A: Clone,
-        ensures refusal { names.refusal_of result ≢ Some OutOfMemory → names.refusal_of result ≡ names.list_refusal self.now.map path.now }
-        ensures ok { IfOk result (λ members. members.items ≡ names.members_of self.now.map path.now) }
+        ensures refusal { IsRefusedAs result (names.list_refusal self.now.map path.now) }
+        ensures ok { IfOk result (λ members. members.items ≡ members_of self.now.map path.now) }
     {
         self.root.list(path)
     }
@@ -256,7 +257,7 @@ impl<A: Allocator> Tree<A> {
     /// It is NotFound or NotDirectory as [`find`](Tree::find) is, and NotDirectory also where an object stands there.
     pub fn lent(&self, path: &[Bytes]) -> Result<Lent<'_, A>, Refusal>
         ensures refusal { names.refusal_of result ≡ names.list_refusal self.now.map path.now }
-        ensures ok { IfOk result (λ members. members ≡ names.members_of self.now.map path.now) }
+        ensures ok { IfOk result (λ members. members ≡ members_of self.now.map path.now) }
     {
         match self.root.directory(path) {
             Err(refusal) => Err(refusal),

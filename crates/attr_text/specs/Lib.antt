@@ -1,2 +1,3 @@
 pub mod ReadWrite
 pub mod Written
+pub mod Printed

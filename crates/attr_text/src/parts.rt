@@ -1,5 +1,5 @@
 //! The parts of a written line.
-ghost use Rattle.std.specs.Prelude.{◌≡◌, option_map};
+ghost use Rattle.std.specs.Prelude.{◌≡◌};
 ghost use Rattle.std.specs.List.{list_all};
 ghost use Rattle.memchr.specs.Find.{IsFirstByte, is_byte};
 ghost use Rattle.pps_types.specs.Bytes as bytes_words;
@@ -38,7 +38,7 @@ pub fn is_encoding(bytes: &[u8]) -> bool
 /// What stands before the first line feed, and what stands behind it.
 #[inline]
 pub fn split_at_line_feed(bytes: &[u8]) -> Option<(&[u8], &[u8])>
-    ensures { option_map (λ parts. (parts.0.now, parts.1.now)) result ≡ bytes_words.split_at_first LINE_FEED bytes.now }
+    ensures { bytes_words.lent_parts result ≡ bytes_words.split_at_first LINE_FEED bytes.now }
 {
     split_at_first(LINE_FEED, bytes)
 }
@@ -54,7 +54,7 @@ fn colon_in(bytes: &[u8]) -> Option<usize>
 /// What stands before the first colon, and what stands behind it.
 #[inline]
 pub fn split_at_colon(bytes: &[u8]) -> Option<(&[u8], &[u8])>
-    ensures { option_map (λ parts. (parts.0.now, parts.1.now)) result ≡ bytes_words.split_at_first COLON bytes.now }
+    ensures { bytes_words.lent_parts result ≡ bytes_words.split_at_first COLON bytes.now }
 {
     let at = colon_in(bytes)?;
     Some((&bytes[..at], &bytes[at + 1..]))

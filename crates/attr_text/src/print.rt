@@ -1,7 +1,8 @@
 //! The one printing of lines and headers.
-ghost use Rattle.std.specs.Prelude.{◌≡◌, ◌+◌, ◌<◌, ◌≤◌, ◌^◌, ◌++◌, true, length, vec_len, vec_capacity, IfOk, IfSome, IfNone, OnErr, IsErrOf, if◌then◌else◌, codes, decimal, []};
+ghost use Rattle.std.specs.Prelude.{◌≡◌, ◌+◌, ◌<◌, ◌≤◌, ◌^◌, ◌++◌, true, length, vec_len, vec_capacity, IfOk, IfSome, IfNone, OnErr, IsErrOf, if◌then◌else◌, codes, []};
 ghost use Rattle.std.specs.Option.{ForSome, option_to_list};
 ghost use Rattle.pps_types.specs.Text as text;
+ghost use Rattle.attr_text.specs.Printed.{set_text, header_text, client_header_text, HasRoomFor};
 
 use itoa::Buffer;
 use pps_types::{Handle, Line, Refusal};
@@ -9,8 +10,8 @@ use std::alloc::Global;
 
 /// The length of the printing of a line that sets an attribute, where it is a length. It takes no memory.
 pub fn set_len(name: &[u8], enc: &[u8], value: &[u8], n: bool) -> Option<usize>
-    ensures some { IfSome result (λ len. len ≡ length (text.print_line (Line.Set name.now enc.now value.now n))) }
-    ensures none { IfNone result (2 ^ 64 ≤ length (text.print_line (Line.Set name.now enc.now value.now n))) }
+    ensures some { IfSome result (λ len. len ≡ length (set_text name.now enc.now value.now n)) }
+    ensures none { IfNone result (2 ^ 64 ≤ length (set_text name.now enc.now value.now n)) }
 {
     let marks: usize = if n { 6 } else { 3 };
     let named = marks.checked_add(name.len())?;
@@ -36,7 +37,7 @@ pub fn line_len(line: &Line) -> Option<usize>
 
 /// Pushes bytes for which there is room.
 fn push_bytes(out: &mut Vec<u8>, bytes: &[u8])
-    requires { vec_len out.old + length bytes.now ≤ vec_capacity out.old }
+    requires { HasRoomFor out.old bytes.now }
     ensures items { out.new.items ≡ out.old.items ++ bytes.now }
     ensures len { vec_len out.new ≡ vec_len out.old + length bytes.now }
     ensures capacity { vec_capacity out.old ≤ vec_capacity out.new }
@@ -46,7 +47,7 @@ fn push_bytes(out: &mut Vec<u8>, bytes: &[u8])
 
 /// Pushes the bracket of a nonpersistent attribute, for which there is room.
 fn push_bracket(out: &mut Vec<u8>, n: bool)
-    requires { vec_len out.old + length (if n then codes "[n]" else []) ≤ vec_capacity out.old }
+    requires { HasRoomFor out.old (if n then codes "[n]" else []) }
     ensures items { out.new.items ≡ out.old.items ++ (if n then codes "[n]" else []) }
     ensures len { vec_len out.new ≡ vec_len out.old + length (if n then codes "[n]" else []) }
     ensures capacity { vec_capacity out.old ≤ vec_capacity out.new }
@@ -59,8 +60,8 @@ fn push_bracket(out: &mut Vec<u8>, n: bool)
 /// Pushes the printing of a line that sets an attribute, for which there is room. It takes no memory.
 #[tactic(auto, using(crate::proofs::Regroup::regroup))]
 pub fn push_set(out: &mut Vec<u8>, name: &[u8], enc: &[u8], value: &[u8], n: bool)
-    requires { vec_len out.old + length (text.print_line (Line.Set name.now enc.now value.now n)) ≤ vec_capacity out.old }
-    ensures items { out.new.items ≡ out.old.items ++ text.print_line (Line.Set name.now enc.now value.now n) }
+    requires { HasRoomFor out.old (set_text name.now enc.now value.now n) }
+    ensures items { out.new.items ≡ out.old.items ++ set_text name.now enc.now value.now n }
     ensures capacity { vec_capacity out.old ≤ vec_capacity out.new }
 {
     push_bracket(out, n);
@@ -75,7 +76,7 @@ pub fn push_set(out: &mut Vec<u8>, name: &[u8], enc: &[u8], value: &[u8], n: boo
 /// Pushes the printing of a line, for which there is room. It takes no memory.
 #[tactic(auto, using(crate::proofs::Regroup::regroup))]
 pub fn push_line(out: &mut Vec<u8>, line: &Line)
-    requires { vec_len out.old + length (text.print_line line.now) ≤ vec_capacity out.old }
+    requires { HasRoomFor out.old (text.print_line line.now) }
     ensures items { out.new.items ≡ out.old.items ++ text.print_line line.now }
     ensures capacity { vec_capacity out.old ≤ vec_capacity out.new }
 {
@@ -107,8 +108,8 @@ pub fn print_line(alloc: Global, line: &Line) -> Result<Vec<u8>, Refusal>
 
 /// The length of the printing of a header, where it is a length. It takes no memory.
 pub fn header_len(mark: Option<u8>, name: &[u8]) -> Option<usize>
-    ensures some { IfSome result (λ len. len ≡ length (text.print_header (option_to_list mark) name.now)) }
-    ensures none { IfNone result (2 ^ 64 ≤ length (text.print_header (option_to_list mark) name.now)) }
+    ensures some { IfSome result (λ len. len ≡ length (header_text mark name.now)) }
+    ensures none { IfNone result (2 ^ 64 ≤ length (header_text mark name.now)) }
 {
     let marks: usize = if mark.is_some() { 3 } else { 2 };
     marks.checked_add(name.len())
@@ -116,7 +117,7 @@ pub fn header_len(mark: Option<u8>, name: &[u8]) -> Option<usize>
 
 /// Pushes the mark of a header, if there is one, and `@`, for which there is room.
 fn push_mark(out: &mut Vec<u8>, mark: Option<u8>)
-    requires { vec_len out.old + length (option_to_list mark ++ codes "@") ≤ vec_capacity out.old }
+    requires { HasRoomFor out.old (option_to_list mark ++ codes "@") }
     ensures items { out.new.items ≡ out.old.items ++ option_to_list mark ++ codes "@" }
     ensures len { vec_len out.new ≡ vec_len out.old + length (option_to_list mark ++ codes "@") }
     ensures capacity { vec_capacity out.old ≤ vec_capacity out.new }
@@ -130,8 +131,8 @@ fn push_mark(out: &mut Vec<u8>, mark: Option<u8>)
 /// Pushes the printing of a header, for which there is room: the mark, if there is one, `@` and the name. It takes no memory.
 pub fn push_header(out: &mut Vec<u8>, mark: Option<u8>, name: &[u8])
     requires marked { ForSome mark (λ byte. text.is_header_mark byte ≡ true) }
-    requires room { vec_len out.old + length (text.print_header (option_to_list mark) name.now) ≤ vec_capacity out.old }
-    ensures items { out.new.items ≡ out.old.items ++ text.print_header (option_to_list mark) name.now }
+    requires room { HasRoomFor out.old (header_text mark name.now) }
+    ensures items { out.new.items ≡ out.old.items ++ header_text mark name.now }
     ensures capacity { vec_capacity out.old ≤ vec_capacity out.new }
 {
     push_mark(out, mark);
@@ -143,7 +144,7 @@ pub fn push_header(out: &mut Vec<u8>, mark: Option<u8>, name: &[u8])
 /// (`+`), deleted or closed (`-`) or truncated (`#`), or that its nonpersistent attributes were dropped (`*`).
 pub fn print_header(alloc: Global, mark: Option<u8>, name: &[u8]) -> Result<Vec<u8>, Refusal>
     requires { ForSome mark (λ byte. text.is_header_mark byte ≡ true) }
-    ensures ok { IfOk result (λ printed. printed.items ≡ text.print_header (option_to_list mark) name.now) }
+    ensures ok { IfOk result (λ printed. printed.items ≡ header_text mark name.now) }
     ensures err { OnErr result (IsErrOf result Refusal.OutOfMemory) }
 {
     let len = header_len(mark, name).ok_or(Refusal::OutOfMemory)?;
@@ -154,8 +155,8 @@ pub fn print_header(alloc: Global, mark: Option<u8>, name: &[u8]) -> Result<Vec<
 
 /// The length of the printing of a header of a server's client, where it is a length. It takes no memory.
 pub fn client_header_len(mark: Option<u8>, name: &[u8], client: Handle) -> Option<usize>
-    ensures some { IfSome result (λ len. len ≡ length (text.print_header (option_to_list mark) (name.now ++ codes "." ++ decimal client))) }
-    ensures none { IfNone result (2 ^ 64 ≤ length (text.print_header (option_to_list mark) (name.now ++ codes "." ++ decimal client))) }
+    ensures some { IfSome result (λ len. len ≡ length (client_header_text mark name.now client)) }
+    ensures none { IfNone result (2 ^ 64 ≤ length (client_header_text mark name.now client)) }
 {
     let mut buffer = Buffer::new();
     let digits = buffer.format(client.number());
@@ -168,8 +169,8 @@ pub fn client_header_len(mark: Option<u8>, name: &[u8], client: Handle) -> Optio
 #[tactic(auto, using(crate::proofs::Regroup::regroup))]
 pub fn push_client_header(out: &mut Vec<u8>, mark: Option<u8>, name: &[u8], client: Handle)
     requires marked { ForSome mark (λ byte. text.is_header_mark byte ≡ true) }
-    requires room { vec_len out.old + length (text.print_header (option_to_list mark) (name.now ++ codes "." ++ decimal client)) ≤ vec_capacity out.old }
-    ensures items { out.new.items ≡ out.old.items ++ text.print_header (option_to_list mark) (name.now ++ codes "." ++ decimal client) }
+    requires room { HasRoomFor out.old (client_header_text mark name.now client) }
+    ensures items { out.new.items ≡ out.old.items ++ client_header_text mark name.now client }
     ensures capacity { vec_capacity out.old ≤ vec_capacity out.new }
 {
     let mut buffer = Buffer::new();

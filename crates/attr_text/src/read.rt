@@ -3,7 +3,7 @@ ghost use Rattle.std.specs.Prelude.{◌≡◌, ◌↔◌, ◌<◌, ◌≤◌, �
 ghost use Rattle.std.specs.Option.{option_copied};
 ghost use Rattle.pps_types.specs.Bytes as bytes_words;
 ghost use Rattle.pps_types.specs.Text as text;
-ghost use Rattle.attr_text.specs.ReadWrite.{first_line_of, IsLinesRefusal, IsTextRefusal};
+ghost use Rattle.attr_text.specs.ReadWrite.{first_line_of, lines_from, IsLinesRefusal, IsTextRefusal};
 
 use crate::parts::{is_encoding, split_at_colon, split_at_line_feed};
 use pps_types::{Bytes, Mark, Refusal, WriteLine, is_attribute_name};
@@ -122,7 +122,7 @@ pub fn first_line(bytes: &[u8]) -> (&[u8], &[u8])
 /// Reads the lines of the bytes, the first of which has that number.
 fn read_lines(alloc: Global, first: u32, bytes: &[u8]) -> Result<Vec<WriteLine>, Refusal>
     requires { first + length bytes.now < 2 ^ 32 }
-    ensures ok { IfOk result (λ lines. text.write_lines first (text.lines_of bytes.now) ≡ Ok lines.items) }
+    ensures ok { IfOk result (λ lines. lines_from first bytes.now ≡ Ok lines.items) }
     ensures err { IfErr result (λ refusal. IsLinesRefusal first bytes.now refusal) }
 {
     let mut lines = Vec::new(alloc);

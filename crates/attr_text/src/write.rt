@@ -1,7 +1,6 @@
 //! The one printing of lines, written into a place that is there.
 ghost use Rattle.std.specs.Prelude.{◌≡◌, ◌+◌, ◌≤◌, ◌++◌, ◌∷◌, [], length, if◌then◌else◌, codes};
-ghost use Rattle.pps_types.specs.Text as text;
-ghost use Rattle.pps_types.specs.declared.line.Line.TheVariants.{Set};
+ghost use Rattle.attr_text.specs.Printed.{set_text};
 ghost use Rattle.attr_text.specs.Written.{overwritten};
 
 // Writes a byte from `at` on, and says where it ends.
@@ -84,9 +83,9 @@ fn write_bracket(out: &mut [u8], at: usize, n: bool) -> usize
 ///
 /// Where many lines are printed this is quicker than [`push_set`](crate::push_set), since nothing asks for room.
 pub fn write_set(out: &mut [u8], at: usize, name: &[u8], enc: &[u8], value: &[u8], n: bool) -> usize
-    requires { at + length (text.print_line (Set name.now enc.now value.now n)) ≤ length out.old }
-    ensures text { out.new ≡ overwritten out.old at (text.print_line (Set name.now enc.now value.now n)) }
-    ensures end { result ≡ at + length (text.print_line (Set name.now enc.now value.now n)) }
+    requires { at + length (set_text name.now enc.now value.now n) ≤ length out.old }
+    ensures text { out.new ≡ overwritten out.old at (set_text name.now enc.now value.now n) }
+    ensures end { result ≡ at + length (set_text name.now enc.now value.now n) }
 {
     let at = write_bracket(out, at, n);
     let at = write_name(out, at, name);

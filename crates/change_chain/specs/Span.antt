@@ -1,5 +1,5 @@
 -- What a chain is: its first position, its items from there on, and for how many more there is room.
-use Rattle.std.specs.Prelude.{◌≡◌, ℕ, ◌+◌, Bool, ◌&&◌, ◌==◌, List, length}
+use Rattle.std.specs.Prelude.{◌≡◌, ℕ, ◌+◌, Bool, ◌&&◌, ◌==◌, List, length, Result, IfOk}
 use Rattle.std.specs.Cmp.Lexicographic.{pointwise}
 
 pub record Span (T : Type 0) : Type 0 where
@@ -18,3 +18,7 @@ is_same eq one other = (one.start == other.start) && pointwise eq one.items othe
 -- a clone equals what it is a clone of
 abbrev pub ClonesAreEqual : {T : Type 0} → (T → T → Type 0) → Type 0
 ClonesAreEqual {T} is_clone = (item clone : T) → is_clone item clone → clone ≡ item
+
+-- where each clone equals its item, the copy has the same items
+abbrev pub CopiesItems : {T E : Type 0} → (T → T → Type 0) → Span T → Result (Span T) E → Type 0
+CopiesItems is_clone chain result = ClonesAreEqual is_clone → IfOk result (λ copy. copy.items ≡ chain.items)

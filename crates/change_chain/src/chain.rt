@@ -1,7 +1,7 @@
 //! A list with an absolute first position.
 ghost use Rattle.std.specs.Prelude.{◌≡◌, ◌+◌, ◌-◌, ◌^◌, ◌<◌, ◌≤◌, [], ◌∷◌, ◌++◌, length, drop, Some, OnOk, OnErr, IfOk, slice_get};
 ghost use Rattle.std.specs.List.{AllZip};
-ghost use Rattle.change_chain.specs.Span.{end_of, is_same, ClonesAreEqual};
+ghost use Rattle.change_chain.specs.Span.{end_of, is_same, CopiesItems};
 
 use std::alloc::{AllocError, Global};
 use std::collections::VecDeque;
@@ -112,7 +112,7 @@ impl<T: Clone> Chain<T> {
     pub fn copy(&self) -> Result<Chain<T>, AllocError>
         ensures start { IfOk result (λ copy. copy.start ≡ self.now.start) }
         ensures clones { IfOk result (λ copy. AllZip T.is_clone self.now.items copy.items) }
-        ensures items { ClonesAreEqual T.is_clone → IfOk result (λ copy. copy.items ≡ self.now.items) }
+        ensures items { CopiesItems T.is_clone self.now result }
         ensures end { IfOk result (λ copy. end_of copy ≡ end_of self.now) }
     {
         Ok(Chain {

@@ -1,5 +1,5 @@
 -- The handles of a server object, as the definitions have them.
-use Rattle.std.specs.Prelude.{◌≡◌, ℕ, Bool, List, [], ◌∷◌, true, false, not, ◌&&◌, nat_lt}
+use Rattle.std.specs.Prelude.{◌≡◌, ℕ, Bool, List, [], ◌∷◌, true, false, not, ◌&&◌, nat_lt, filter, length}
 use Rattle.std.specs.List.{AllByRecursion}
 use Rattle.pps_types.specs.declared.handle_kind.HandleKind.TheVariants.{Client as ClientHandle}
 use Rattle.pps_types.specs.History.{Entry}
@@ -44,6 +44,14 @@ IsQueued x = style x.opening.kind ≡ Queue
 -- it is given a record, on the object of that number
 abbrev pub sees : ℕ → Entry → Holder → Bool
 sees object e x = visible (opened object [] x.opening) e
+
+-- how many of them are given it
+abbrev pub seer_count : ℕ → Entry → List Holder → ℕ
+seer_count object e holders = length (filter (sees object e) holders)
+
+-- those of the records that a handle on the object is given which was opened so
+abbrev pub entries_for : ℕ → Opening → List Entry → List Entry
+entries_for object o entries = filter (visible (opened object [] o)) entries
 
 -- it is a client's, which is owed as many messages of its server as it takes
 abbrev pub is_full_client : Holder → Bool

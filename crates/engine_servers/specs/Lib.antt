@@ -8,3 +8,4 @@ pub mod Woken
 pub mod Held
 pub mod Spans
 pub mod Seated
+pub mod Backlogs

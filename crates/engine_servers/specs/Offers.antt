@@ -5,7 +5,8 @@ use Rattle.pps_types.specs.History.{Entry}
 use Rattle.server_queue.specs.Senders.{client_messages}
 use Rattle.engine_targets.specs.Opened.{opened}
 use Rattle.engine_servers.specs.declared.holder.Holder.{Holder}
-use Rattle.engine_servers.specs.Holders.{sees}
+use Rattle.engine_servers.specs.Holders.{sees, seer_count}
+use Rattle.engine_servers.specs.Shared.{Shared}
 use Rattle.engine_servers.specs.Standing.{HasRoom, spare_of}
 
 -- the queue of a handle has room for those of the records that are for it
@@ -29,3 +30,7 @@ abbrev pub AreOffered : ℕ → Entry → List Holder → List Holder → Type 0
 AreOffered object e [] [] = Unit {0}
 AreOffered object e (x ∷ xs) (y ∷ ys) = IsOffered object e x y × AreOffered object e xs ys
 AreOffered object e _ _ = ⊥
+
+-- a share of the record was taken for each of the handles that is given it
+abbrev pub TakesShares : ℕ → List Holder → Shared → Shared → Type 0
+TakesShares object holders old new = new.count + seer_count object old.entry holders ≡ old.count

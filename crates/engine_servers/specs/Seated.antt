@@ -1,5 +1,7 @@
 -- The handles on an object or a directory, whichever they are.
-use Rattle.std.specs.Prelude.{◌≡◌, ◌≤◌, ◌&&◌, ℕ, true, List, [], length, filter, Bool, false}
+use Rattle.std.specs.Prelude.{◌≡◌, ◌≤◌, ◌&&◌, ℕ, true, List, [], ◌∷◌, Option, length, filter, Bool, false}
+use Rattle.std.specs.List.{AllByRecursion}
+use Rattle.std.specs.Borrow.{Bor}
 use Rattle.pps_types.specs.declared.found.Found.{Found}
 use Rattle.pps_types.specs.declared.found.Found.TheVariants.{Object as FoundObject}
 use Rattle.pps_types.specs.declared.handle_kind.HandleKind.{HandleKind}
@@ -7,7 +9,11 @@ use Rattle.pps_types.specs.History.{Entry}
 use Rattle.pps_types.specs.Reading.{Open, Style, Queue, style, is_directory_kind, visible}
 use Rattle.pps_types.specs.Rests.{Seen}
 use Rattle.pps_types.specs.Owed.{same_flag}
-use Rattle.engine_targets.specs.Opened.{is_directory, is_reader}
+use Rattle.engine_targets.specs.declared.glance.Glance.{Glance}
+use Rattle.engine_targets.specs.declared.opening.Opening.{Opening}
+use Rattle.engine_targets.specs.Opened.{is_directory, number_of, is_reader, IsOpeningAt}
+use Rattle.engine_targets.specs.Glances.{IsGlanceAt}
+use Rattle.engine_targets.specs.HandleAt.{with_opened}
 use Rattle.engine_servers.specs.Standing.{IsReady as IsServiceReady}
 use Rattle.engine_servers.specs.declared.seats.Seats.{Seats}
 use Rattle.engine_servers.specs.declared.seats.Seats.TheVariants.{Readers, Service}
@@ -78,3 +84,31 @@ KeepsRoom old new = (entries : List Entry) → IsReady entries old → IsReady e
 abbrev pub IsEnough : ℕ → Entry → Seats → Type 0
 IsEnough count e (Readers t) = Unit {0}
 IsEnough count e (Service s) = length (filter (λ (h : Open Seen). visible h e) s.handles) ≤ count
+
+-- where there was room for a record and others, there is room for the others
+abbrev pub UsesRoomFor : Entry → Seats → Seats → Type 0
+UsesRoomFor e old new = (entries : List Entry) → IsReady (e ∷ entries) old → IsReady entries new
+
+-- ---- their handles
+
+-- with one more that was opened on the target
+abbrev pub handles_with : Opening → Seats → List (Open Seen)
+handles_with opening x = with_opened (number_of (target_of x)) (name_of x) opening (handles_of x)
+
+-- what an open fixed of the handle of a number, if it is one of them
+abbrev pub HasOpening : Seats → ℕ → Option (Bor Opening) → Type 0
+HasOpening x number opening = IsOpeningAt number (number_of (target_of x)) (name_of x) (handles_of x) opening
+
+-- what is seen of it at one look
+abbrev pub HasGlance : Seats → ℕ → Option Glance → Type 0
+HasGlance x number glance = IsGlanceAt number (number_of (target_of x)) (name_of x) (handles_of x) glance
+
+-- each of these is a server's or a client's just if the flag is set
+abbrev pub AreQueuedJustIf : Bool → List (Open Seen) → Type 0
+AreQueuedJustIf service handles = AllByRecursion (λ (h : Open Seen). is_queue_style (style h.kind) ≡ service) handles
+
+-- the same target with the same handles
+abbrev pub AreSame : Seats → Seats → Type 0
+AreSame one other =
+    (target_of one ≡ target_of other) × (is_service one ≡ is_service other) × (name_of one ≡ name_of other)
+    × (handles_of one ≡ handles_of other)

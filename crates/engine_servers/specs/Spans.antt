@@ -5,6 +5,7 @@ use Rattle.pps_types.specs.declared.record.Kind.{Kind}
 use Rattle.pps_types.specs.History.{Entry}
 use Rattle.pps_types.specs.Reading.{shown}
 use Rattle.engine_servers.specs.declared.holder.Holder.{Holder}
+use Rattle.engine_servers.specs.declared.span.Span.{Span}
 use Rattle.engine_servers.specs.Holders.{number_in, sees}
 
 -- so many of the first are such
@@ -37,3 +38,7 @@ IsBlind kind x = is_some (shown x.opening.kind x.opening.number x.opening.filter
 -- it is given none of the records, on the object of that number
 abbrev pub IsUnseen : ℕ → List Entry → Holder → Type 0
 IsUnseen object es x = AllByRecursion (λ e. sees object e x ≡ false) es
+
+-- all handles that are given one of the records are in the span
+abbrev pub CoversSeers : ℕ → List Entry → Span → List Holder → Type 0
+CoversSeers object es span holders = IsSpan (IsUnseen object es) span.from span.to holders

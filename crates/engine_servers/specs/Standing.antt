@@ -1,10 +1,13 @@
 -- What stands of a server object's handles.
-use Rattle.std.specs.Prelude.{ℕ, ◌≤◌, List, [], ◌∷◌, filter, length}
-use Rattle.std.specs.List.{sum_by}
+use Rattle.std.specs.Prelude.{◌≡◌, ℕ, Bool, false, ◌≤◌, List, [], ◌∷◌, filter, length}
+use Rattle.std.specs.List.{sum_by, AllByRecursion}
 use Rattle.pps_types.specs.History.{Entry}
-use Rattle.pps_types.specs.Reading.{Open, visible}
-use Rattle.pps_types.specs.Rests.{Seen}
+use Rattle.pps_types.specs.Reading.{Open, Queue, style, visible}
+use Rattle.pps_types.specs.Rests.{Seen, is_over}
+use Rattle.pps_types.specs.Owed.{longest_rest}
 use Rattle.server_queue.specs.Senders.{client_messages}
+use Rattle.engine_targets.specs.declared.opening.Opening.{Opening}
+use Rattle.engine_targets.specs.HandleAt.{with_opened}
 use Rattle.engine_servers.specs.declared.holder.Holder.{Holder}
 
 -- for how many more records a handle's queue has memory, and for how many more messages of clients it can count them
@@ -41,3 +44,35 @@ HaveRoom entries (h ∷ hs) (s ∷ ss) = HasRoom entries h s × HaveRoom entries
 -- each queue has room for those of the records that are for its handle
 abbrev pub IsReady : List Entry → Standing → Type 0
 IsReady entries s = HaveRoom entries s.handles s.spares
+
+-- room for records stays
+abbrev pub KeepsRoom : Standing → Standing → Type 0
+KeepsRoom old new = (entries : List Entry) → IsReady entries old → IsReady entries new
+
+-- where there was room for a record and others, there is room for the others
+abbrev pub UsesRoomFor : Entry → Standing → Standing → Type 0
+UsesRoomFor e old new = (entries : List Entry) → IsReady (e ∷ entries) old → IsReady entries new
+
+-- its handles and one more that was opened on it
+abbrev pub handles_with : Opening → Standing → List (Open Seen)
+handles_with opening s = with_opened s.object s.name opening s.handles
+
+-- of the same number and name
+abbrev pub IsSameObject : Standing → Standing → Type 0
+IsSameObject one other = (one.object ≡ other.object) × (one.name ≡ other.name)
+
+-- the same object with the same handles
+abbrev pub AreSame : Standing → Standing → Type 0
+AreSame one other = (one.object ≡ other.object) × (one.name ≡ other.name) × (one.handles ≡ other.handles)
+
+-- each of these handles is a server's or a client's
+abbrev pub AreQueued : List (Open Seen) → Type 0
+AreQueued handles = AllByRecursion (λ (h : Open Seen). style h.kind ≡ Queue) handles
+
+-- none of them is owed more than its limit
+abbrev pub AreWithinLimits : List (Open Seen) → Type 0
+AreWithinLimits handles = AllByRecursion (λ (h : Open Seen). is_over h.seen ≡ false) handles
+
+-- whatever they are on, none of them is owed records of a list that handles share
+abbrev pub ShareNoList : List (Open Seen) → Type 0
+ShareNoList handles = (directory : Bool) (target : ℕ) → longest_rest directory target handles ≡ []

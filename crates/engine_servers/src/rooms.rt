@@ -1,12 +1,11 @@
 //! Room in the queues of handles.
-ghost use Rattle.std.specs.Prelude.{◌≡◌, ◌+◌, ◌<◌, ◌≤◌, IsOk, length, filter, [], vec_len, vec_capacity, OnOk};
+ghost use Rattle.std.specs.Prelude.{◌≡◌, ◌+◌, ◌<◌, ◌≤◌, IsOk, length, vec_len, vec_capacity, OnOk};
 ghost use Rattle.std.specs.List.{AllByRecursion};
 ghost use Rattle.pps_types.specs.Reading as reading;
-ghost use Rattle.engine_targets.specs.Opened.{opened};
-ghost use Rattle.engine_servers.specs.Holders.{IsQueued};
+ghost use Rattle.engine_servers.specs.Holders.{IsQueued, entries_for};
 ghost use Rattle.engine_servers.specs.Offers.{RoomIn, RoomInEach};
 ghost use Rattle.engine_servers.specs.Rooms.{IsKept, AreKept};
-ghost use Rattle.engine_servers.specs.Spans.{IsSpan, IsUnseen};
+ghost use Rattle.engine_servers.specs.Spans.{CoversSeers};
 ghost use Rattle.engine_servers.specs.Standing.{messages_in};
 
 use crate::holder::Holder;
@@ -28,8 +27,8 @@ struct Wanted {
 // How many of the records are for a handle.
 fn needs(object: u64, opening: &Opening, entries: &[Entry]) -> Wanted
     requires { reading.style opening.now.kind ≡ reading.Queue }
-    ensures records { result.records ≡ length (filter (reading.visible (opened object [] opening.now)) entries.now) }
-    ensures messages { result.messages ≡ messages_in (filter (reading.visible (opened object [] opening.now)) entries.now) }
+    ensures records { result.records ≡ length (entries_for object opening.now entries.now) }
+    ensures messages { result.messages ≡ messages_in (entries_for object opening.now entries.now) }
 {
     let mut needs = Wanted {
         records: 0,
@@ -67,7 +66,7 @@ pub(crate) fn reserve_each(
     entries: &[Entry],
 ) -> Result<(), AllocError>
     requires queue { AllByRecursion IsQueued holders.old.items }
-    requires span { IsSpan (IsUnseen object entries.now) span.from span.to holders.old.items }
+    requires span { CoversSeers object entries.now span holders.old.items }
     ensures kept { AreKept holders.old.items holders.new.items }
     ensures room { OnOk result (RoomInEach object entries.now holders.new.items) }
     ensures succeeds { RoomInEach object entries.now holders.old.items → IsOk result }

@@ -1,29 +1,25 @@
 //! Readers or the handles of a server object.
-ghost use Rattle.std.specs.Prelude.{◌≡◌, ◌≢◌, ◌^◌, ◌↔◌, ◌∷◌, ◌++◌, ◌+◌, ◌<◌, ◌≤◌, ◌&&◌, nat_le, [], IsTrue, Some, None, true, false, List, length, filter, find, IfOk, IfErr, IsOk, option_map, option_and_then, OnOk, OnErr, map};
-ghost use Rattle.std.specs.Option.{option_copied, option_map_or};
-ghost use Rattle.std.specs.List.{AllByRecursion};
-ghost use Rattle.pps_types.specs.Reading as reading;
-ghost use Rattle.pps_types.specs.Rests as rests;
-ghost use Rattle.pps_types.specs.Plan as planning;
-ghost use Rattle.pps_types.specs.Owed as owing;
-ghost use Rattle.pps_types.specs.History as history;
-ghost use Rattle.pps_types.specs.Content as content;
-ghost use Rattle.pps_types.specs.Checks as checking;
-ghost use Rattle.pps_types.specs.Names.{refusal_of};
+ghost use Rattle.std.specs.Prelude.{◌≡◌, ◌↔◌, ◌∷◌, ◌+◌, ◌<◌, ◌≤◌, [], IsTrue, true, false, length, IfOk, IfErr, IsOk, OnOk, OnErr};
 ghost use Rattle.pps_types.specs.declared.found.Found.TheVariants.{Object as FoundObject, Directory as FoundDirectory};
 ghost use Rattle.pps_types.specs.declared.refusal.Refusal.TheVariants.{OutOfMemory};
-ghost use Rattle.engine_targets.specs.Blocks.{owed_blocks, refused_for, first_len};
-ghost use Rattle.engine_targets.specs.Opened.{opened, as_opened, armed_pulse, handle_at, is_directory, number_of};
-ghost use Rattle.engine_targets.specs.Seated.{AreSeated};
-ghost use Rattle.engine_targets.specs.Glances.{glanced, glance_on};
-ghost use Rattle.engine_targets.specs.Woken as waking;
-ghost use Rattle.engine_servers.specs.Seated.{target_of, name_of, handles_of, kept_of, places_of, is_queue_style, is_service, IsReady, Suits, IsSameTarget, KeepsRoom, IsEnough};
+ghost use Rattle.pps_types.specs.Plan.{without_number};
+ghost use Rattle.engine_targets.specs.Blocks.{owed_blocks_at, GivesFitting, RefusesTooSmall, ChecksSizeFirst, NeedsMemoryForBlocks};
+ghost use Rattle.engine_targets.specs.Opened.{armed_pulse};
+ghost use Rattle.engine_targets.specs.HandleAt.{parked_at, armed_at, has_news_at, owed_at, AreBelow};
+ghost use Rattle.engine_targets.specs.HandleAt.{with_offered, with_caught_up, with_passed, with_parked, with_armed};
+ghost use Rattle.engine_targets.specs.Seated.{AreSeatedOn, longest_rest_on, HaveName};
+ghost use Rattle.engine_targets.specs.Glances.{IsGlanceAt};
+ghost use Rattle.engine_targets.specs.Woken.{woken_by};
+ghost use Rattle.engine_servers.specs.Seated.{target_of, name_of, handles_of, kept_of, places_of, is_service, handles_with};
+ghost use Rattle.engine_servers.specs.Seated.{IsReady, Suits, IsSameTarget, AreSame, KeepsRoom, UsesRoomFor, IsEnough};
+ghost use Rattle.engine_servers.specs.Seated.{HasOpening, HasGlance, AreQueuedJustIf};
+ghost use Rattle.engine_servers.specs.Backlogs.{is_server_full_at, is_client_full_at, full_client_in};
 
 use crate::service::Service;
 use crate::shares::Shares;
-use engine_targets::{Given, Glance, Opening, Pulse, Target};
+use engine_targets::{Glance, Opening, Pulse, Target};
 use pps_types::{Bytes, DirId, Found, Handle, ObjId, Refusal};
-use server_queue::Entry;
+use server_queue::{Entry, GivenBlocks};
 use std::alloc::{AllocError, Global};
 
 /// The handles on an object or a directory. Where the object is a server's, they are its server's and its clients', each
@@ -36,7 +32,7 @@ pub enum Seats {
 
 // What is seen of a handle of a server object, where it is here.
 fn glance_in(service: &Service, number: Handle) -> Option<Glance<'_>>
-    ensures { option_map (glance_on service.now.object service.now.name) result ≡ option_map glanced (handle_at number service.now.handles) }
+    ensures { IsGlanceAt number service.now.object service.now.name service.now.handles result }
 {
     service.none_is_over();
     let Some(opening) = service.opening(number) else {
@@ -88,7 +84,7 @@ impl Seats {
     /// Does nothing. Its contract is the law that its handles are on it, are owed no more than their limits, and stand in
     /// rising number.
     pub fn handles_are_seated(&self)
-        ensures { AreSeated (is_directory (target_of self.now)) (number_of (target_of self.now)) (handles_of self.now) }
+        ensures { AreSeatedOn (target_of self.now) (handles_of self.now) }
     {
         match self {
             Seats::Readers(target) => target.handles_are_seated(),
@@ -98,8 +94,8 @@ impl Seats {
 
     /// Does nothing. Its contract is the law that its handles suit it, and have its name.
     pub fn handles_suit(&self)
-        ensures suit { AllByRecursion (λ (h : reading.Open rests.Seen). is_queue_style (reading.style h.kind) ≡ is_service self.now) (handles_of self.now) }
-        ensures named { AllByRecursion (λ (h : reading.Open rests.Seen). h.name ≡ name_of self.now) (handles_of self.now) }
+        ensures suit { AreQueuedJustIf (is_service self.now) (handles_of self.now) }
+        ensures named { HaveName (name_of self.now) (handles_of self.now) }
     {
         match self {
             Seats::Readers(target) => target.handles_are_readers(),
@@ -110,7 +106,7 @@ impl Seats {
     /// Just those records are held for readers that have to be kept: the longest rest that a handle is owed. Does nothing.
     /// Its contract is the law that says so.
     pub fn is_exact(&self)
-        ensures { kept_of self.now ≡ owing.longest_rest (is_directory (target_of self.now)) (number_of (target_of self.now)) (handles_of self.now) }
+        ensures { kept_of self.now ≡ longest_rest_on (target_of self.now) (handles_of self.now) }
     {
         match self {
             Seats::Readers(target) => target.is_exact(),
@@ -166,9 +162,9 @@ impl Seats {
     pub fn open_reserved(&mut self, opening: Opening)
         requires places { 0 < places_of self.old }
         requires suits { Suits opening.kind self.old }
-        requires above { AllByRecursion (λ (h : reading.Open rests.Seen). h.number < opening.number) (handles_of self.old) }
+        requires above { AreBelow opening.number (handles_of self.old) }
         ensures same { IsSameTarget self.old self.new }
-        ensures handles { handles_of self.new ≡ handles_of self.old ++ reading.reseen (λ h. planning.first_seen h (reading.style h.kind)) (opened (number_of (target_of self.old)) (name_of self.old) opening) ∷ [] }
+        ensures handles { handles_of self.new ≡ handles_with opening self.old }
         ensures kept { kept_of self.new ≡ kept_of self.old }
         ensures places { places_of self.new + 1 ≡ places_of self.old }
     {
@@ -215,8 +211,8 @@ impl Seats {
         requires room { IsReady (shares.entry ∷ []) self.old }
         requires enough { IsEnough shares.count shares.entry self.old }
         ensures same { IsSameTarget self.old self.new }
-        ensures handles { handles_of self.new ≡ map (planning.offer shares.entry) (handles_of self.old) }
-        ensures room { (entries : List history.Entry) → IsReady (shares.entry ∷ entries) self.old → IsReady entries self.new }
+        ensures handles { handles_of self.new ≡ with_offered shares.entry (handles_of self.old) }
+        ensures room { UsesRoomFor shares.entry self.old self.new }
         ensures places { places_of self.new ≡ places_of self.old }
     {
         match self {
@@ -228,7 +224,7 @@ impl Seats {
     /// A handle has read everything. It takes no memory.
     pub fn catch_up(&mut self, number: Handle)
         ensures same { IsSameTarget self.old self.new }
-        ensures handles { handles_of self.new ≡ planning.on_numbered number (reading.reseen planning.caught_up) (handles_of self.old) }
+        ensures handles { handles_of self.new ≡ with_caught_up number (handles_of self.old) }
         ensures places { places_of self.new ≡ places_of self.old }
     {
         match self {
@@ -240,7 +236,7 @@ impl Seats {
     /// A handle was given so many of the records that it is owed. It takes no memory.
     pub fn pass(&mut self, number: Handle, count: usize)
         ensures same { IsSameTarget self.old self.new }
-        ensures handles { handles_of self.new ≡ planning.on_numbered number (reading.reseen (λ h. planning.left h count h.seen)) (handles_of self.old) }
+        ensures handles { handles_of self.new ≡ with_passed number count (handles_of self.old) }
         ensures places { places_of self.new ≡ places_of self.old }
     {
         match self {
@@ -252,7 +248,7 @@ impl Seats {
     /// A read of that size waits on a handle, or none any more. It takes no memory.
     pub fn park(&mut self, number: Handle, size: Option<u32>)
         ensures same { IsSameTarget self.old self.new }
-        ensures handles { handles_of self.new ≡ planning.on_numbered number (λ h. record h { parked = size }) (handles_of self.old) }
+        ensures handles { handles_of self.new ≡ with_parked number size (handles_of self.old) }
         ensures places { places_of self.new ≡ places_of self.old }
     {
         match self {
@@ -264,7 +260,7 @@ impl Seats {
     /// A pulse waits on a handle, or none any more. It takes no memory.
     pub fn arm(&mut self, number: Handle, pulse: Option<Pulse>)
         ensures same { IsSameTarget self.old self.new }
-        ensures handles { handles_of self.new ≡ planning.on_numbered number (λ h. record h { armed = armed_pulse pulse }) (handles_of self.old) }
+        ensures handles { handles_of self.new ≡ with_armed number pulse (handles_of self.old) }
         ensures places { places_of self.new ≡ places_of self.old }
     {
         match self {
@@ -276,7 +272,7 @@ impl Seats {
     /// Closes a handle. It takes no memory, and room for records stays.
     pub fn close(&mut self, number: Handle)
         ensures same { IsSameTarget self.old self.new }
-        ensures handles { handles_of self.new ≡ planning.without_number number (handles_of self.old) }
+        ensures handles { handles_of self.new ≡ without_number number (handles_of self.old) }
         ensures room { KeepsRoom self.old self.new }
         ensures places { places_of self.old ≤ places_of self.new }
     {
@@ -288,7 +284,7 @@ impl Seats {
 
     /// What the open of a handle fixed, where it is here.
     pub fn opening(&self, number: Handle) -> Option<&Opening>
-        ensures { option_map (opened (number_of (target_of self.now)) (name_of self.now)) (option_copied result) ≡ option_map as_opened (handle_at number (handles_of self.now)) }
+        ensures { HasOpening self.now number result }
     {
         match self {
             Seats::Readers(target) => target.opening(number),
@@ -298,7 +294,7 @@ impl Seats {
 
     /// What is seen of a handle at one look, where it is here.
     pub fn glance(&self, number: Handle) -> Option<Glance<'_>>
-        ensures { option_map (glance_on (number_of (target_of self.now)) (name_of self.now)) result ≡ option_map glanced (handle_at number (handles_of self.now)) }
+        ensures { HasGlance self.now number result }
     {
         match self {
             Seats::Readers(target) => target.glance(number),
@@ -308,7 +304,7 @@ impl Seats {
 
     /// The size of the read that waits on a handle, if one does.
     pub fn parked(&self, number: Handle) -> Option<u32>
-        ensures { result ≡ option_and_then (λ (h : reading.Open rests.Seen). h.parked) (handle_at number (handles_of self.now)) }
+        ensures { result ≡ parked_at number (handles_of self.now) }
     {
         match self {
             Seats::Readers(target) => target.parked(number),
@@ -318,7 +314,7 @@ impl Seats {
 
     /// The pulse that is armed on a handle, if one is.
     pub fn armed(&self, number: Handle) -> Option<Pulse>
-        ensures { armed_pulse result ≡ option_and_then (λ (h : reading.Open rests.Seen). h.armed) (handle_at number (handles_of self.now)) }
+        ensures { armed_pulse result ≡ armed_at number (handles_of self.now) }
     {
         match self {
             Seats::Readers(target) => target.armed(number),
@@ -328,7 +324,7 @@ impl Seats {
 
     /// Whether a handle is here that a read would give something new.
     pub fn has_news(&self, number: Handle) -> bool
-        ensures { result ≡ option_map_or content.news (handle_at number (handles_of self.now)) false }
+        ensures { result ≡ has_news_at number (handles_of self.now) }
     {
         match self {
             Seats::Readers(target) => target.has_news(number),
@@ -349,7 +345,7 @@ impl Seats {
     /// How many records a handle is owed: none is told where it is not here, in full mode, before the first read and past
     /// the limit.
     pub fn owed(&self, number: Handle) -> Option<usize>
-        ensures { result ≡ option_and_then (λ (h : reading.Open rests.Seen). owing.owed_in_seen h h.seen) (handle_at number (handles_of self.now)) }
+        ensures { result ≡ owed_at number (handles_of self.now) }
     {
         match self {
             Seats::Readers(target) => match target.owed(number) {
@@ -365,7 +361,7 @@ impl Seats {
     ///
     /// AllocError comes only where memory is wanting.
     pub fn woken_by(&self, alloc: Global, entries: &[Entry]) -> Result<Vec<Handle>, AllocError>
-        ensures { IfOk result (λ woken. woken.items ≡ waking.woken_by entries.now (handles_of self.now)) }
+        ensures { IfOk result (λ woken. woken.items ≡ woken_by entries.now (handles_of self.now)) }
     {
         match self {
             Seats::Readers(target) => target.woken_by(alloc, entries),
@@ -378,29 +374,23 @@ impl Seats {
     ///
     /// It is TooSmall, with the size, where the first block does not fit, before any memory is taken; else OutOfMemory is
     /// the only error, where something is owed.
-    pub fn read_owed(&self, alloc: Global, number: Handle, max: u32) -> Result<Given, Refusal>
-        ensures ok { IfOk result (λ g. (g.count, g.text.items) ≡ reading.fitting max (owed_blocks (handle_at number (handles_of self.now)))) }
-        ensures refusal { refusal_of result ≢ Some OutOfMemory → refusal_of result ≡ refused_for max (owed_blocks (handle_at number (handles_of self.now))) }
-        ensures memory { refusal_of result ≡ Some OutOfMemory → first_len (owed_blocks (handle_at number (handles_of self.now))) < 2 ^ 32
-            → refused_for max (owed_blocks (handle_at number (handles_of self.now))) ≡ None }
-        ensures some { refusal_of result ≡ Some OutOfMemory → 0 < length (owed_blocks (handle_at number (handles_of self.now))) }
+    pub fn read_owed(&self, alloc: Global, number: Handle, max: u32) -> Result<GivenBlocks, Refusal>
+        ensures ok { GivesFitting max (owed_blocks_at number (handles_of self.now)) result }
+        ensures refusal { RefusesTooSmall max (owed_blocks_at number (handles_of self.now)) result }
+        ensures memory { ChecksSizeFirst max (owed_blocks_at number (handles_of self.now)) result }
+        ensures some { NeedsMemoryForBlocks (owed_blocks_at number (handles_of self.now)) result }
     {
         match self {
             Seats::Readers(target) => target.read_owed(alloc, number, max),
-            Seats::Service(service) => {
-                let plan = service.read_owed(alloc, number, max)?;
-                Ok(Given {
-                    count: plan.count,
-                    text: plan.text,
-                })
-            }
+            Seats::Service(service) => service.read_owed(alloc, number, max),
         }
     }
 
     /// Whether the server's handle, if it is here, is owed as many messages of a client as its limit. It is asked of a server
     /// object.
     pub fn is_server_full(&self, server: Handle, client: Handle) -> bool
-        ensures { is_service self.now ≡ true → result ≡ option_map_or (λ (h : reading.Open rests.Seen). nat_le h.limit (checking.count_owed (checking.is_message_of client) h)) (handle_at server (handles_of self.now)) false }
+        ensures { is_service self.now ≡ true
+            → result ≡ is_server_full_at server client (handles_of self.now) }
     {
         match self {
             Seats::Readers(_) => false,
@@ -411,7 +401,8 @@ impl Seats {
     /// Whether a client's handle, if it is here, is owed as many messages of its server as its limit. It is asked of a server
     /// object.
     pub fn is_client_full(&self, client: Handle) -> bool
-        ensures { is_service self.now ≡ true → result ≡ option_map_or (λ (h : reading.Open rests.Seen). nat_le h.limit (checking.count_owed checking.is_server_message h)) (handle_at client (handles_of self.now)) false }
+        ensures { is_service self.now ≡ true
+            → result ≡ is_client_full_at client (handles_of self.now) }
     {
         match self {
             Seats::Readers(_) => false,
@@ -422,7 +413,7 @@ impl Seats {
     /// The first client, in rising number, that is owed as many messages of its server as its limit. It is asked of a server
     /// object, and looks at its handles alone.
     pub fn full_client(&self) -> Option<Handle>
-        ensures { is_service self.now ≡ true → result ≡ option_map (λ (h : reading.Open rests.Seen). h.number) (find (λ (h : reading.Open rests.Seen). checking.is_client h.kind && nat_le h.limit (checking.count_owed checking.is_server_message h)) (handles_of self.now)) }
+        ensures { is_service self.now ≡ true → result ≡ full_client_in (handles_of self.now) }
     {
         match self {
             Seats::Readers(_) => None,
@@ -447,7 +438,7 @@ impl Seats {
 
     /// Whether both are of the same target and have the same handles, which are owed the same. It takes no memory.
     pub fn same(&self, other: &Seats) -> bool
-        ensures { IsTrue result ↔ ((target_of self.now ≡ target_of other.now) × (is_service self.now ≡ is_service other.now) × (name_of self.now ≡ name_of other.now) × (handles_of self.now ≡ handles_of other.now)) }
+        ensures { IsTrue result ↔ AreSame self.now other.now }
     {
         match self {
             Seats::Readers(target) => match other {

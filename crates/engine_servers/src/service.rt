@@ -1,22 +1,20 @@
 //! One server object with its server's and its clients' handles.
-ghost use Rattle.std.specs.Prelude.{ℕ, Bool, ◌≡◌, ◌≢◌, ◌^◌, Some, None, nat_le, find, ◌&&◌, ◌∷◌, ◌++◌, ◌+◌, ◌<◌, ◌≤◌, ◌↔◌, ◌||◌, [], IsTrue, false, List, length, map, filter, IfOk, IfErr, IsOk, option_map, option_and_then, OnOk, OnErr};
-ghost use Rattle.std.specs.Option.{option_copied, option_map_or};
-ghost use Rattle.std.specs.List.{AllByRecursion};
+ghost use Rattle.std.specs.Prelude.{◌≡◌, ◌&&◌, ◌∷◌, ◌+◌, ◌<◌, ◌≤◌, ◌↔◌, ◌||◌, [], IsTrue, false, length, IfOk, IfErr, IsOk, OnOk, OnErr};
 ghost use Rattle.pps_types.specs.Reading as reading;
-ghost use Rattle.pps_types.specs.Rests as rests;
-ghost use Rattle.pps_types.specs.Plan as planning;
-ghost use Rattle.pps_types.specs.History as history;
-ghost use Rattle.pps_types.specs.Owed as owing;
-ghost use Rattle.pps_types.specs.Content as content;
 ghost use Rattle.pps_types.specs.Bytes.{is_empty};
 ghost use Rattle.pps_types.specs.Checks as checking;
-ghost use Rattle.pps_types.specs.Names.{refusal_of};
 ghost use Rattle.pps_types.specs.declared.refusal.Refusal.TheVariants.{OutOfMemory};
-ghost use Rattle.engine_targets.specs.Blocks.{owed_blocks, refused_for, first_len};
-ghost use Rattle.engine_targets.specs.Opened.{opened, as_opened, armed_pulse, handle_at};
-ghost use Rattle.engine_servers.specs.Standing.{IsReady};
-ghost use Rattle.engine_targets.specs.Seated.{AreSeated};
-ghost use Rattle.engine_targets.specs.Woken as waking;
+ghost use Rattle.pps_types.specs.Plan.{without_number};
+ghost use Rattle.engine_targets.specs.Blocks.{owed_blocks_at, GivesFitting, RefusesTooSmall, ChecksSizeFirst, NeedsMemoryForBlocks};
+ghost use Rattle.engine_targets.specs.Opened.{armed_pulse, IsOpeningAt};
+ghost use Rattle.engine_targets.specs.HandleAt.{parked_at, armed_at, has_news_at, owed_at, AreBelow};
+ghost use Rattle.engine_targets.specs.HandleAt.{with_offered, with_caught_up, with_passed, with_parked, with_armed};
+ghost use Rattle.engine_targets.specs.Seated.{AreSeated, HaveName};
+ghost use Rattle.engine_targets.specs.Woken.{woken_by};
+ghost use Rattle.engine_servers.specs.Standing.{IsReady, KeepsRoom, UsesRoomFor, handles_with, IsSameObject, AreSame};
+ghost use Rattle.engine_servers.specs.Standing.{AreQueued, AreWithinLimits, ShareNoList};
+ghost use Rattle.engine_servers.specs.Shared.{seer_count, shares_for};
+ghost use Rattle.engine_servers.specs.Backlogs.{is_server_full_at, is_client_full_at, full_client_in};
 
 use crate::copies::{copy_all, same_all};
 use crate::holder::{Holder, find_full, find_holder, search};
@@ -27,7 +25,7 @@ use crate::span::find_span;
 use crate::woken::find_woken;
 use engine_targets::{Opening, Pulse};
 use pps_types::{Bytes, Handle, HandleKind, ObjId, Refusal};
-use server_queue::{Entry, Plan, Queue, Sender};
+use server_queue::{Entry, GivenBlocks, Queue, Sender};
 use std::alloc::{AllocError, Global};
 use std::marker::Model;
 use std::slice::from_ref;
@@ -62,7 +60,7 @@ impl Model for Service {
 
 // Whether both are of the same number and name.
 fn is_of_same(one: &Service, other: &Service) -> bool
-    ensures { IsTrue result ↔ ((one.now.object ≡ other.now.object) × (one.now.name ≡ other.now.name)) }
+    ensures { IsTrue result ↔ IsSameObject one.now other.now }
 {
     one.object == other.object && one.name == other.name
 }
@@ -127,10 +125,10 @@ impl Service {
     pub fn open_reserved(&mut self, opening: Opening)
         requires places { 0 < self.old.places }
         requires queue { reading.style opening.kind ≡ reading.Queue }
-        requires above { AllByRecursion (λ (h : reading.Open rests.Seen). h.number < opening.number) self.old.handles }
+        requires above { AreBelow opening.number self.old.handles }
         ensures object { self.new.object ≡ self.old.object }
         ensures name { self.new.name ≡ self.old.name }
-        ensures handles { self.new.handles ≡ self.old.handles ++ reading.reseen (λ h. planning.first_seen h (reading.style h.kind)) (opened self.old.object self.old.name opening) ∷ [] }
+        ensures handles { self.new.handles ≡ handles_with opening self.old }
         ensures places { self.new.places + 1 ≡ self.old.places }
     {
         let queue = Queue::new(*self.holders.allocator(), opening.limit);
@@ -153,7 +151,7 @@ impl Service {
         ensures handles { self.new.handles ≡ self.old.handles }
         ensures places { self.new.places ≡ self.old.places }
         ensures ready { OnOk result (IsReady entries.now self.new) }
-        ensures kept { (others : List history.Entry) → IsReady others self.old → IsReady others self.new }
+        ensures kept { KeepsRoom self.old self.new }
         ensures succeeds { IsReady entries.now self.old → IsOk result }
     {
         let object = self.object.number();
@@ -165,7 +163,7 @@ impl Service {
     ///
     /// AllocError comes only where memory is wanting.
     pub fn shares(&self, alloc: Global, entry: Entry) -> Result<Shares, AllocError>
-        ensures { IfOk result (λ shares. shares ≡ record { entry = entry; count = length (filter (λ (h : reading.Open rests.Seen). reading.visible h entry) self.now.handles) }) }
+        ensures { IfOk result (λ shares. shares ≡ shares_for entry self.now.handles) }
     {
         let span = find_span(&self.holders, self.led, from_ref(&entry));
         let count = count_seers(self.object.number(), &self.holders, span, &entry);
@@ -176,11 +174,11 @@ impl Service {
     /// it. It takes no memory.
     pub fn offer(&mut self, mut shares: Shares)
         requires room { IsReady (shares.entry ∷ []) self.old }
-        requires enough { length (filter (λ (h : reading.Open rests.Seen). reading.visible h shares.entry) self.old.handles) ≤ shares.count }
+        requires enough { seer_count shares.entry self.old.handles ≤ shares.count }
         ensures object { self.new.object ≡ self.old.object }
         ensures name { self.new.name ≡ self.old.name }
-        ensures handles { self.new.handles ≡ map (planning.offer shares.entry) self.old.handles }
-        ensures ready { (entries : List history.Entry) → IsReady (shares.entry ∷ entries) self.old → IsReady entries self.new }
+        ensures handles { self.new.handles ≡ with_offered shares.entry self.old.handles }
+        ensures ready { UsesRoomFor shares.entry self.old self.new }
         ensures places { self.new.places ≡ self.old.places }
     {
         let object = self.object.number();
@@ -192,7 +190,7 @@ impl Service {
     pub fn park(&mut self, number: Handle, size: Option<u32>)
         ensures object { self.new.object ≡ self.old.object }
         ensures name { self.new.name ≡ self.old.name }
-        ensures handles { self.new.handles ≡ planning.on_numbered number (λ h. record h { parked = size }) self.old.handles }
+        ensures handles { self.new.handles ≡ with_parked number size self.old.handles }
         ensures spares { self.new.spares ≡ self.old.spares }
         ensures places { self.new.places ≡ self.old.places }
     {
@@ -207,7 +205,7 @@ impl Service {
     pub fn arm(&mut self, number: Handle, pulse: Option<Pulse>)
         ensures object { self.new.object ≡ self.old.object }
         ensures name { self.new.name ≡ self.old.name }
-        ensures handles { self.new.handles ≡ planning.on_numbered number (λ h. record h { armed = armed_pulse pulse }) self.old.handles }
+        ensures handles { self.new.handles ≡ with_armed number pulse self.old.handles }
         ensures spares { self.new.spares ≡ self.old.spares }
         ensures places { self.new.places ≡ self.old.places }
     {
@@ -222,8 +220,8 @@ impl Service {
     pub fn close(&mut self, number: Handle)
         ensures object { self.new.object ≡ self.old.object }
         ensures name { self.new.name ≡ self.old.name }
-        ensures handles { self.new.handles ≡ planning.without_number number self.old.handles }
-        ensures ready { (entries : List history.Entry) → IsReady entries self.old → IsReady entries self.new }
+        ensures handles { self.new.handles ≡ without_number number self.old.handles }
+        ensures ready { KeepsRoom self.old self.new }
         ensures places { self.old.places ≤ self.new.places }
     {
         let Ok(index) = search(&self.holders, number.number()) else {
@@ -236,7 +234,7 @@ impl Service {
     pub fn catch_up(&mut self, number: Handle)
         ensures object { self.new.object ≡ self.old.object }
         ensures name { self.new.name ≡ self.old.name }
-        ensures handles { self.new.handles ≡ planning.on_numbered number (reading.reseen planning.caught_up) self.old.handles }
+        ensures handles { self.new.handles ≡ with_caught_up number self.old.handles }
         ensures places { self.new.places ≡ self.old.places }
     {
         let Ok(index) = search(&self.holders, number.number()) else {
@@ -251,7 +249,7 @@ impl Service {
     pub fn pass(&mut self, number: Handle, count: usize)
         ensures object { self.new.object ≡ self.old.object }
         ensures name { self.new.name ≡ self.old.name }
-        ensures handles { self.new.handles ≡ planning.on_numbered number (reading.reseen (λ h. planning.left h count h.seen)) self.old.handles }
+        ensures handles { self.new.handles ≡ with_passed number count self.old.handles }
         ensures places { self.new.places ≡ self.old.places }
     {
         let Ok(index) = search(&self.holders, number.number()) else {
@@ -263,7 +261,7 @@ impl Service {
 
     /// What the open of a handle fixed, where it is here.
     pub fn opening(&self, number: Handle) -> Option<&Opening>
-        ensures { option_map (opened self.now.object self.now.name) (option_copied result) ≡ option_map as_opened (handle_at number self.now.handles) }
+        ensures { IsOpeningAt number self.now.object self.now.name self.now.handles result }
     {
         match find_holder(&self.holders, number.number()) {
             None => None,
@@ -273,7 +271,7 @@ impl Service {
 
     /// The size of the read that waits on a handle, if one does.
     pub fn parked(&self, number: Handle) -> Option<u32>
-        ensures { result ≡ option_and_then (λ (h : reading.Open rests.Seen). h.parked) (handle_at number self.now.handles) }
+        ensures { result ≡ parked_at number self.now.handles }
     {
         match find_holder(&self.holders, number.number()) {
             None => None,
@@ -283,7 +281,7 @@ impl Service {
 
     /// The pulse that is armed on a handle, if one is.
     pub fn armed(&self, number: Handle) -> Option<Pulse>
-        ensures { armed_pulse result ≡ option_and_then (λ (h : reading.Open rests.Seen). h.armed) (handle_at number self.now.handles) }
+        ensures { armed_pulse result ≡ armed_at number self.now.handles }
     {
         match find_holder(&self.holders, number.number()) {
             None => None,
@@ -300,14 +298,14 @@ impl Service {
 
     /// Does nothing. Its contract is the law that no handle is owed more than a limit: a queue holds all that is owed.
     pub fn none_is_over(&self)
-        ensures { AllByRecursion (λ (h : reading.Open rests.Seen). rests.is_over h.seen ≡ false) self.now.handles }
+        ensures { AreWithinLimits self.now.handles }
     {
         let _count = self.holders.len();
     }
 
     /// Whether a handle is here that a read would give something.
     pub fn has_news(&self, number: Handle) -> bool
-        ensures { result ≡ option_map_or content.news (handle_at number self.now.handles) false }
+        ensures { result ≡ has_news_at number self.now.handles }
     {
         match find_holder(&self.holders, number.number()) {
             None => false,
@@ -320,7 +318,7 @@ impl Service {
     ///
     /// AllocError comes only where memory is wanting.
     pub fn woken_by(&self, alloc: Global, entries: &[Entry]) -> Result<Vec<Handle>, AllocError>
-        ensures { IfOk result (λ woken. woken.items ≡ waking.woken_by entries.now self.now.handles) }
+        ensures { IfOk result (λ woken. woken.items ≡ woken_by entries.now self.now.handles) }
     {
         let span = find_span(&self.holders, self.led, entries);
         find_woken(alloc, self.object.number(), &self.holders, span, entries)
@@ -328,7 +326,7 @@ impl Service {
 
     /// How many records a handle is owed, where it is here.
     pub fn owed(&self, number: Handle) -> Option<usize>
-        ensures { result ≡ option_and_then (λ (h : reading.Open rests.Seen). owing.owed_in_seen h h.seen) (handle_at number self.now.handles) }
+        ensures { result ≡ owed_at number self.now.handles }
     {
         match find_holder(&self.holders, number.number()) {
             None => None,
@@ -341,25 +339,21 @@ impl Service {
     ///
     /// It is TooSmall, with the size, where the first block does not fit, before any memory is taken; else OutOfMemory is
     /// the only error, where something is owed.
-    pub fn read_owed(&self, alloc: Global, number: Handle, max: u32) -> Result<Plan, Refusal>
-        ensures ok { IfOk result (λ p. (p.count, p.text.items) ≡ reading.fitting max (owed_blocks (handle_at number self.now.handles))) }
-        ensures refusal { refusal_of result ≢ Some OutOfMemory → refusal_of result ≡ refused_for max (owed_blocks (handle_at number self.now.handles)) }
-        ensures memory { refusal_of result ≡ Some OutOfMemory → first_len (owed_blocks (handle_at number self.now.handles)) < 2 ^ 32
-            → refused_for max (owed_blocks (handle_at number self.now.handles)) ≡ None }
-        ensures some { refusal_of result ≡ Some OutOfMemory → 0 < length (owed_blocks (handle_at number self.now.handles)) }
+    pub fn read_owed(&self, alloc: Global, number: Handle, max: u32) -> Result<GivenBlocks, Refusal>
+        ensures ok { GivesFitting max (owed_blocks_at number self.now.handles) result }
+        ensures refusal { RefusesTooSmall max (owed_blocks_at number self.now.handles) result }
+        ensures memory { ChecksSizeFirst max (owed_blocks_at number self.now.handles) result }
+        ensures some { NeedsMemoryForBlocks (owed_blocks_at number self.now.handles) result }
     {
         let Some(holder) = find_holder(&self.holders, number.number()) else {
-            return Ok(Plan {
-                count: 0,
-                text: Vec::new(alloc),
-            });
+            return Ok(GivenBlocks::nothing(alloc));
         };
         holder.queue.read_plan(&[], max)
     }
 
     /// Whether the server's handle, if it is here, is owed as many messages of a client as its limit.
     pub fn is_server_full(&self, server: Handle, client: Handle) -> bool
-        ensures { result ≡ option_map_or (λ (s : reading.Open rests.Seen). nat_le s.limit (checking.count_owed (checking.is_message_of client) s)) (handle_at server self.now.handles) false }
+        ensures { result ≡ is_server_full_at server client self.now.handles }
     {
         match find_holder(&self.holders, server.number()) {
             None => false,
@@ -369,7 +363,7 @@ impl Service {
 
     /// Whether a client's handle, if it is here, is owed as many messages of its server as its limit.
     pub fn is_client_full(&self, client: Handle) -> bool
-        ensures { result ≡ option_map_or (λ (h : reading.Open rests.Seen). nat_le h.limit (checking.count_owed checking.is_server_message h)) (handle_at client self.now.handles) false }
+        ensures { result ≡ is_client_full_at client self.now.handles }
     {
         match find_holder(&self.holders, client.number()) {
             None => false,
@@ -379,7 +373,7 @@ impl Service {
 
     /// The first client, in rising number, that is owed as many messages of its server as its limit.
     pub fn full_client(&self) -> Option<Handle>
-        ensures { result ≡ option_map (λ (h : reading.Open rests.Seen). h.number) (find (λ (h : reading.Open rests.Seen). checking.is_client h.kind && nat_le h.limit (checking.count_owed checking.is_server_message h)) self.now.handles) }
+        ensures { result ≡ full_client_in self.now.handles }
     {
         find_full(&self.holders)
     }
@@ -393,15 +387,15 @@ impl Service {
 
     /// Does nothing. Its contract is the law that its handles are its server's and its clients', and have its name.
     pub fn handles_are_queued(&self)
-        ensures queued { AllByRecursion (λ (h : reading.Open rests.Seen). reading.style h.kind ≡ reading.Queue) self.now.handles }
-        ensures named { AllByRecursion (λ (h : reading.Open rests.Seen). h.name ≡ self.now.name) self.now.handles }
+        ensures queued { AreQueued self.now.handles }
+        ensures named { HaveName self.now.name self.now.handles }
     {
         let _count = self.holders.len();
     }
 
     /// Does nothing. Its contract is the law that none of its handles is owed records of a list that handles share.
     pub fn shares_no_list(&self)
-        ensures { (directory : Bool) (target : ℕ) → owing.longest_rest directory target self.now.handles ≡ [] }
+        ensures { ShareNoList self.now.handles }
     {
         let _count = self.holders.len();
     }
@@ -428,7 +422,7 @@ impl Service {
     /// Whether both are of the same number and name and have the same handles, which are owed the same. It takes no
     /// memory.
     pub fn same(&self, other: &Service) -> bool
-        ensures { IsTrue result ↔ ((self.now.object ≡ other.now.object) × (self.now.name ≡ other.now.name) × (self.now.handles ≡ other.now.handles)) }
+        ensures { IsTrue result ↔ AreSame self.now other.now }
     {
         is_of_same(self, other) && same_all(&self.holders, &other.holders)
     }

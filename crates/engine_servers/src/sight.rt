@@ -1,8 +1,9 @@
 //! Which records a handle of the server or of a client is given.
-ghost use Rattle.std.specs.Prelude.{◌≡◌, is_some, [], List, Option};
+ghost use Rattle.std.specs.Prelude.{◌≡◌, is_some, List, Option};
 ghost use Rattle.pps_types.specs.Filter.{Part};
 ghost use Rattle.pps_types.specs.Reading as reading;
-ghost use Rattle.engine_targets.specs.Opened.{opened};
+ghost use Rattle.pps_types.specs.Reading.{shown};
+ghost use Rattle.engine_targets.specs.Opened.{visible_to};
 
 use engine_targets::Opening;
 use pps_types::{Handle, HandleKind, Kind, Record};
@@ -43,7 +44,7 @@ fn is_for_client(number: Handle, kind: &Kind) -> bool
 // Whether a handle of that kind and number has a block for a record of that kind, whatever its filter is.
 fn has_block(handle: HandleKind, number: Handle, kind: &Kind) -> bool
     requires { reading.style handle ≡ reading.Queue }
-    ensures { (filter : Option (List Part)) → result ≡ is_some (reading.shown handle number filter kind.now) }
+    ensures { (parts : Option (List Part)) → result ≡ is_some (shown handle number parts kind.now) }
 {
     match handle {
         HandleKind::Server => is_for_server(kind),
@@ -55,7 +56,7 @@ fn has_block(handle: HandleKind, number: Handle, kind: &Kind) -> bool
 /// Whether a handle on the server object of that number is given a record. It makes no block, and asks no filter.
 pub(crate) fn is_given(object: u64, opening: &Opening, entry: &Entry) -> bool
     requires { reading.style opening.now.kind ≡ reading.Queue }
-    ensures { result ≡ reading.visible (opened object [] opening.now) entry.now }
+    ensures { result ≡ visible_to object opening.now entry.now }
 {
     let made = entry.record();
     made.object.number() == object

@@ -3,7 +3,7 @@ ghost use Rattle.std.specs.Prelude.{◌≡◌, ℕ, length};
 ghost use Rattle.std.specs.List.{AllByRecursion};
 ghost use Rattle.pps_types.specs.Rising.{IsRising};
 ghost use Rattle.engine_servers.specs.Holders.{IsQueued, IsOfClient, IsLed, number_in};
-ghost use Rattle.engine_servers.specs.Spans.{IsSpan, IsOther, IsBlind, IsUnseen};
+ghost use Rattle.engine_servers.specs.Spans.{IsSpan, IsOther, IsBlind, CoversSeers};
 
 use crate::holder::{Holder, search};
 use pps_types::Kind;
@@ -78,7 +78,7 @@ fn span_of_all(holders: &[Holder], led: bool, entries: &[Entry]) -> Span
     requires queue { AllByRecursion IsQueued holders.now }
     requires rising { IsRising number_in holders.now }
     requires led { IsLed led holders.now }
-    ensures { (object : ℕ) → IsSpan (IsUnseen object entries.now) result.from result.to holders.now }
+    ensures { (object : ℕ) → CoversSeers object entries.now result holders.now }
 {
     let mut end = 0;
     'entries: for entry in entries {
@@ -94,7 +94,7 @@ pub(crate) fn find_span(holders: &[Holder], led: bool, entries: &[Entry]) -> Spa
     requires queue { AllByRecursion IsQueued holders.now }
     requires rising { IsRising number_in holders.now }
     requires led { IsLed led holders.now }
-    ensures { (object : ℕ) → IsSpan (IsUnseen object entries.now) result.from result.to holders.now }
+    ensures { (object : ℕ) → CoversSeers object entries.now result holders.now }
 {
     match entries {
         [entry] => span_for(holders, led, &entry.record().kind),

@@ -1,9 +1,9 @@
 //! Whom records wake.
-ghost use Rattle.std.specs.Prelude.{◌≡◌, filter, map, IfOk};
+ghost use Rattle.std.specs.Prelude.{◌≡◌, IfOk};
 ghost use Rattle.std.specs.List.{AllByRecursion, list_any};
-ghost use Rattle.engine_servers.specs.Holders.{IsQueued, number_in, sees};
-ghost use Rattle.engine_servers.specs.Spans.{IsSpan, IsUnseen};
-ghost use Rattle.engine_servers.specs.Woken.{waits_at, wakes_at};
+ghost use Rattle.engine_servers.specs.Holders.{IsQueued, sees};
+ghost use Rattle.engine_servers.specs.Spans.{CoversSeers};
+ghost use Rattle.engine_servers.specs.Woken.{waits_at, wakes_at, woken_among};
 
 use crate::holder::Holder;
 use crate::sight::is_given;
@@ -46,8 +46,8 @@ pub(crate) fn find_woken(
     entries: &[Entry],
 ) -> Result<Vec<Handle>, AllocError>
     requires queue { AllByRecursion IsQueued holders.now }
-    requires span { IsSpan (IsUnseen object entries.now) span.from span.to holders.now }
-    ensures { IfOk result (λ woken. woken.items ≡ map number_in (filter (wakes_at object entries.now) holders.now)) }
+    requires span { CoversSeers object entries.now span holders.now }
+    ensures { IfOk result (λ woken. woken.items ≡ woken_among object entries.now holders.now) }
 {
     let mut woken = Vec::new(alloc);
     'places: for place in span.from..span.to {

@@ -1,9 +1,11 @@
 -- Handles by how far behind the first record that is held they stand.
-use Rattle.std.specs.Prelude.{ℕ, ◌-◌}
+use Rattle.std.specs.Prelude.{ℕ, ◌-◌, List, map}
 use Rattle.engine_targets.specs.declared.place.Place.{Place}
 use Rattle.engine_targets.specs.declared.place.Place.TheVariants.{At}
+use Rattle.engine_targets.specs.declared.row.Slot.{Slot}
 use Rattle.engine_targets.specs.Readers.{Reader}
 use Rattle.engine_targets.specs.Places.{placed}
+use Rattle.engine_targets.specs.Rows.{rows_in}
 
 abbrev pub place_from : ℕ → Place → Place
 place_from start (At first owed) = At (first - start) owed
@@ -11,3 +13,7 @@ place_from start p = p
 
 abbrev pub reader_from : ℕ → Reader → Reader
 reader_from start r = placed (place_from start r.progress) r
+
+-- the same of all handles in slots
+abbrev pub rows_from : ℕ → List (Slot Place) → List Reader
+rows_from start slots = map (reader_from start) (rows_in slots)

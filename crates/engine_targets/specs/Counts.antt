@@ -1,5 +1,5 @@
 -- How many handles have their first owed record at each position.
-use Rattle.std.specs.Prelude.{◌≡◌, ℕ, zero, suc, ◌+◌, ◌-◌, ◌<◌, ◌≤◌, ◌==◌, if◌then◌else◌, List, [], ◌∷◌, length, slice_index, slice_set}
+use Rattle.std.specs.Prelude.{◌≡◌, ℕ, zero, suc, ◌+◌, ◌-◌, ◌<◌, ◌≤◌, ◌^◌, ◌==◌, if◌then◌else◌, List, [], ◌∷◌, length, slice_index, slice_set}
 use Rattle.std.specs.List.{sum_by, AllByRecursion}
 use Rattle.engine_targets.specs.declared.place.Place.{Place}
 use Rattle.engine_targets.specs.declared.place.Place.TheVariants.{At}
@@ -16,6 +16,14 @@ standing readers position = sum_by (λ r. stands position r.progress) readers
 
 abbrev pub IsCounted : ℕ → List Reader → List ℕ → Type 0
 IsCounted start readers counts = (i : ℕ) → i < length counts → slice_index counts i ≡ standing readers (start + i)
+
+-- the counts have a handle at this place
+abbrev pub IsCountedIn : ℕ → Place → List ℕ → Type 0
+IsCountedIn start place counts = (i : ℕ) → i < length counts → stands (start + i) place ≤ slice_index counts i
+
+-- each of them can rise by one
+abbrev pub CanRise : List ℕ → Type 0
+CanRise counts = (i : ℕ) → i < length counts → slice_index counts i + 1 < 2 ^ 64
 
 -- a place between two positions
 abbrev pub IsWithin : ℕ → ℕ → Place → Type 0

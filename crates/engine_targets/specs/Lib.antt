@@ -1,7 +1,10 @@
 pub mod Opened
+pub mod HandleAt
 pub mod Rows
 pub mod Readers
 pub mod Places
+pub mod Chained
+pub mod Offered
 pub mod Counts
 pub mod Standing
 pub mod Blocks

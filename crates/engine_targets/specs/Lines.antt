@@ -1,5 +1,5 @@
 -- Handles that are given lines of objects as they are.
-use Rattle.std.specs.Prelude.{◌≡◌, ℕ, List, Some, is_none, Bool, true, false, not, ◌&&◌, ◌||◌}
+use Rattle.std.specs.Prelude.{◌≡◌, ℕ, List, Option, Some, is_none, Bool, true, false, not, ◌&&◌, ◌||◌}
 use Rattle.pps_types.specs.declared.handle_kind.HandleKind.{HandleKind}
 use Rattle.pps_types.specs.declared.handle_kind.HandleKind.TheVariants.{Object as ObjectHandle, Directory as DirectoryHandle}
 use Rattle.pps_types.specs.History.{Entry}
@@ -12,6 +12,10 @@ abbrev pub takes_lines : HandleKind → Bool
 takes_lines (ObjectHandle delta) = true
 takes_lines (DirectoryHandle delta) = true
 takes_lines kind = false
+
+-- it is open for reading, and its own changes are hidden from all but an object's handle that reflects
+abbrev pub reads_changes_of : Opening → Option ℕ → Bool
+reads_changes_of o writer = o.reads && (not (is_writer o.number writer) || (o.reflect && is_object_kind o.kind))
 
 -- it is told of a record, where that has a block for it
 abbrev pub is_told : {S : Type 0} → Open S → Entry → Bool

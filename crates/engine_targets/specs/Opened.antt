@@ -1,9 +1,12 @@
 -- What an open fixes for a handle, and which target it is on, as the definitions have it.
-use Rattle.std.specs.Prelude.{ℕ, Bool, true, false, ◌||◌, List, Option, None, option_map, find, ◌==◌}
+use Rattle.std.specs.Prelude.{◌≡◌, ℕ, Bool, true, false, ◌||◌, List, [], Option, None, option_map, find, ◌==◌}
+use Rattle.std.specs.Option.{option_copied}
+use Rattle.std.specs.Borrow.{Bor}
 use Rattle.pps_types.specs.declared.found.Found.{Found}
 use Rattle.pps_types.specs.declared.found.Found.TheVariants.{Object as FoundObject, Directory as FoundDirectory}
 use Rattle.pps_types.specs.declared.handle_kind.HandleKind.{HandleKind}
-use Rattle.pps_types.specs.Reading.{Open, reseen, style, is_full_style, is_delta_style}
+use Rattle.pps_types.specs.History.{Entry}
+use Rattle.pps_types.specs.Reading.{Open, reseen, style, is_full_style, is_delta_style, visible}
 use Rattle.pps_types.specs.Rests.{Seen}
 use Rattle.engine_targets.specs.declared.opening.Opening.{Opening}
 use Rattle.engine_targets.specs.declared.opening.Pulse.{Pulse}
@@ -34,3 +37,25 @@ as_opened h = record (reseen (λ x. tt) h) { parked = None; armed = None }
 -- the handle of that number
 abbrev pub handle_at : ℕ → List (Open Seen) → Option (Open Seen)
 handle_at number handles = find (λ h. h.number == number) handles
+
+-- what an open fixed of the handle of a number, if it is among those on the target of that number and name
+abbrev pub IsOpeningAt : ℕ → ℕ → List ℕ → List (Open Seen) → Option (Bor Opening) → Type 0
+IsOpeningAt number target name handles opening =
+    option_map (opened target name) (option_copied opening) ≡ option_map as_opened (handle_at number handles)
+
+-- a handle that was opened so, on the target of that number, is given a record
+abbrev pub visible_to : ℕ → Opening → Entry → Bool
+visible_to target o = visible (opened target [] o)
+
+-- ---- two openings
+
+-- the same handle, of the same kind and limit
+abbrev pub HasSameHandle : Opening → Opening → Type 0
+HasSameHandle one other =
+    (one.number ≡ other.number) × (one.connection ≡ other.connection) × (one.kind ≡ other.kind) × (one.limit ≡ other.limit)
+
+-- the same options are set
+abbrev pub HasSameOptions : Opening → Opening → Type 0
+HasSameOptions one other =
+    (one.reads ≡ other.reads) × (one.writes ≡ other.writes) × (one.wait ≡ other.wait) × (one.reflect ≡ other.reflect)
+    × (one.critical ≡ other.critical)

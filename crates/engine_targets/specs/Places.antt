@@ -39,6 +39,10 @@ place_after limit sees position Over = Over
 place_after limit sees position Idle = if sees then (if nat_lt 0 limit then At position 1 else Over) else Idle
 place_after limit sees position (At first owed) = if sees then (if nat_lt owed limit then At first (owed + 1) else Over) else At first owed
 
+-- whatever record is pushed, a handle stays there
+abbrev pub IsFixed : Place → Type 0
+IsFixed place = (limit : ℕ) (sees : Bool) (position : ℕ) → place_after limit sees position place ≡ place
+
 -- what it is given has nothing to do with names
 abbrev pub reader_after : ℕ → Entry → ℕ → Reader → Reader
 reader_after target e position r = placed (place_after r.opening.limit (visible (opened target [] r.opening) e) position r.progress) r

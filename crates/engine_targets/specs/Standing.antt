@@ -6,6 +6,9 @@ use Rattle.pps_types.specs.History.{Entry}
 use Rattle.pps_types.specs.Reading.{Open}
 use Rattle.pps_types.specs.Rests.{Seen}
 use Rattle.pps_types.specs.Rising.{IsRising}
+use Rattle.engine_targets.specs.declared.opening.Opening.{Opening}
+use Rattle.engine_targets.specs.Opened.{number_of}
+use Rattle.engine_targets.specs.HandleAt.{with_opened}
 use Rattle.engine_targets.specs.Places.{IsReader}
 use Rattle.engine_targets.specs.Counts.{IsCounted, IsExact}
 use Rattle.engine_targets.specs.Readers.{Reader}
@@ -21,6 +24,14 @@ pub record Standing : Type 0 where
   pub kept : List Entry
   pub room : ℕ
   pub places : ℕ
+
+-- its handles and one more that was opened on it
+abbrev pub handles_with : Opening → Standing → List (Open Seen)
+handles_with opening s = with_opened (number_of s.of) s.name opening s.handles
+
+-- the same target with the same handles
+abbrev pub AreSame : Standing → Standing → Type 0
+AreSame one other = (one.of ≡ other.of) × (one.name ≡ other.name) × (one.handles ≡ other.handles)
 
 -- how many more records fit behind the end, with memory for so many of them and of their counts
 abbrev pub room_of : ℕ → ℕ → ℕ → ℕ

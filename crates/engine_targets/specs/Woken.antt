@@ -8,7 +8,9 @@ use Rattle.service_laws.specs.Told.{is_waiting, learns}
 use Rattle.engine_targets.specs.Opened.{opened}
 use Rattle.engine_targets.specs.declared.place.Place.{Place}
 use Rattle.engine_targets.specs.declared.place.Place.TheVariants.{News, Fresh, Over, Idle, At}
+use Rattle.engine_targets.specs.declared.row.Slot.{Slot}
 use Rattle.engine_targets.specs.Readers.{Reader}
+use Rattle.engine_targets.specs.Rows.{rows_in}
 
 -- the numbers of those that wait, had no news and see one of the records
 abbrev pub woken_by : List Entry → List (Open Seen) → List ℕ
@@ -30,3 +32,7 @@ sees_one target es r = list_any (visible (opened target [] r.opening)) es
 
 abbrev pub wakes_at : ℕ → List Entry → Reader → Bool
 wakes_at target es r = waits_at r && (not (news_at r.opening.reads r.progress) && sees_one target es r)
+
+-- the numbers of those that the records wake, on the target of that number
+abbrev pub woken_among : ℕ → List Entry → List (Slot Place) → List ℕ
+woken_among target es slots = map (λ r. r.opening.number) (filter (wakes_at target es) (rows_in slots))

@@ -1,7 +1,7 @@
 //! Which handles of a target are given a record, decided once for all that have no filter.
-ghost use Rattle.std.specs.Prelude.{◌≡◌, None, [], is_some};
+ghost use Rattle.std.specs.Prelude.{◌≡◌, None, is_some};
 ghost use Rattle.pps_types.specs.Reading as reading;
-ghost use Rattle.engine_targets.specs.Opened.{opened};
+ghost use Rattle.engine_targets.specs.Opened.{visible_to};
 
 use crate::kinds::is_object_kind;
 use crate::opening::Opening;
@@ -57,7 +57,7 @@ impl Audience {
     /// Whether a handle on the object or directory of that number is given the record. It takes no memory.
     pub(crate) fn sees(&self, target: u64, opening: &Opening, entry: &Entry) -> bool
         requires { IsAudience target entry.now self.now }
-        ensures { result ≡ reading.visible (opened target [] opening.now) entry.now }
+        ensures { result ≡ visible_to target opening.now entry.now }
     {
         if opening.filter.is_some() {
             return is_visible(target, opening, entry);

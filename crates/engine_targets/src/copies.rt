@@ -1,10 +1,10 @@
 //! Copies of what stands of a target, and whether the same stands of two.
-ghost use Rattle.std.specs.Prelude.{◌≡◌, ◌<◌, ◌^◌, ◌↔◌, map, IsTrue, IfOk, IfErr};
+ghost use Rattle.std.specs.Prelude.{◌≡◌, ◌<◌, ◌^◌, ◌↔◌, IsTrue, IfOk, IfErr};
 ghost use Rattle.pps_types.specs.Rising.{IsRising};
 ghost use Rattle.pps_types.specs.declared.refusal.Refusal.TheVariants.{OutOfMemory};
 ghost use Rattle.change_chain.specs.Span.{end_of};
-ghost use Rattle.engine_targets.specs.Alike.{place_from, reader_from};
-ghost use Rattle.engine_targets.specs.Rows.{rows_in, rows_of, number_in};
+ghost use Rattle.engine_targets.specs.Alike.{place_from, reader_from, rows_from};
+ghost use Rattle.engine_targets.specs.Rows.{rows_of, number_in};
 
 use crate::place::Place;
 use crate::row::{HandleRow, Slot};
@@ -99,7 +99,7 @@ pub(crate) fn same_all(
     other: &[Slot<Place>],
     other_start: u64,
 ) -> bool
-    ensures { IsTrue result ↔ (map (reader_from one_start) (rows_in one.now) ≡ map (reader_from other_start) (rows_in other.now)) }
+    ensures { IsTrue result ↔ (rows_from one_start one.now ≡ rows_from other_start other.now) }
 {
     let mut ours = one;
     let mut theirs = other;

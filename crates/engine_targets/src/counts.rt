@@ -1,10 +1,11 @@
 //! How many handles have their first owed record at each position.
-ghost use Rattle.std.specs.Prelude.{◌≡◌, ◌≤◌, ◌<◌, ◌+◌, ◌-◌, ◌^◌, ℕ, length, map, drop, slice_index};
+ghost use Rattle.std.specs.Prelude.{◌≡◌, ◌≤◌, ◌<◌, ◌+◌, ◌-◌, length, drop};
 ghost use Rattle.std.specs.VecDeque.{deque_capacity};
 ghost use Rattle.engine_targets.specs.Audience.{IsAudience};
-ghost use Rattle.engine_targets.specs.Places.{reader_after, placed, moved_to};
-ghost use Rattle.engine_targets.specs.Rows.{rows_of, HasRowAt, IsChangedAt, IsSlotChangedAt};
-ghost use Rattle.engine_targets.specs.Counts.{stands, uncounted, counted, recounted, IsCounted, IsWithin, AreWithin, zeros};
+ghost use Rattle.engine_targets.specs.Places.{placed, moved_to};
+ghost use Rattle.engine_targets.specs.Rows.{rows_of, HasRowAt, IsChangedAt};
+ghost use Rattle.engine_targets.specs.Counts.{uncounted, counted, recounted, IsCounted, IsWithin, AreWithin, zeros, IsCountedIn, CanRise};
+ghost use Rattle.engine_targets.specs.Offered.{LeadsTo, IsOfferedAt, readers_after};
 
 use crate::audience::Audience;
 use crate::place::{Place, is_fixed, moved};
@@ -16,7 +17,7 @@ use std::collections::VecDeque;
 /// A handle leaves its place.
 pub(crate) fn leave(counts: &mut VecDeque<usize>, start: u64, place: Place)
     requires within { IsWithin start (start + length counts.old.items) place }
-    requires there { (i : ℕ) → i < length counts.old.items → stands (start + i) place ≤ slice_index counts.old.items i }
+    requires there { IsCountedIn start place counts.old.items }
     ensures counts { counts.new.items ≡ uncounted start place counts.old.items }
     ensures capacity { deque_capacity counts.new ≡ deque_capacity counts.old }
 {
@@ -29,7 +30,7 @@ pub(crate) fn leave(counts: &mut VecDeque<usize>, start: u64, place: Place)
 // A handle takes a place.
 fn enter(counts: &mut VecDeque<usize>, start: u64, place: Place)
     requires within { IsWithin start (start + length counts.old.items) place }
-    requires room { (i : ℕ) → i < length counts.old.items → slice_index counts.old.items i + 1 < 2 ^ 64 }
+    requires room { CanRise counts.old.items }
     ensures counts { counts.new.items ≡ counted start place counts.old.items }
     ensures capacity { deque_capacity counts.new ≡ deque_capacity counts.old }
 {
@@ -43,8 +44,8 @@ fn enter(counts: &mut VecDeque<usize>, start: u64, place: Place)
 fn recount(counts: &mut VecDeque<usize>, start: u64, from: Place, to: Place)
     requires from_within { IsWithin start (start + length counts.old.items) from }
     requires to_within { IsWithin start (start + length counts.old.items) to }
-    requires there { (i : ℕ) → i < length counts.old.items → stands (start + i) from ≤ slice_index counts.old.items i }
-    requires room { (i : ℕ) → i < length counts.old.items → slice_index counts.old.items i + 1 < 2 ^ 64 }
+    requires there { IsCountedIn start from counts.old.items }
+    requires room { CanRise counts.old.items }
     ensures counts { counts.new.items ≡ recounted start from to counts.old.items }
     ensures capacity { deque_capacity counts.new ≡ deque_capacity counts.old }
 {
@@ -66,12 +67,11 @@ fn offer_one(
     requires from_start { start ≤ position }
     requires before_end { position < start + length counts.old.items }
     requires within { IsWithin start (start + length counts.old.items) reader.now.progress }
-    requires there { (i : ℕ) → i < length counts.old.items
-        → stands (start + i) reader.now.progress ≤ slice_index counts.old.items i }
-    requires room { (i : ℕ) → i < length counts.old.items → slice_index counts.old.items i + 1 < 2 ^ 64 }
-    ensures reader { moved_to result reader.now ≡ reader_after target entry.now position reader.now }
-    ensures counts { counts.new.items
-        ≡ recounted start reader.now.progress (moved_to result reader.now).progress counts.old.items }
+    requires there { IsCountedIn start reader.now.progress counts.old.items }
+    requires room { CanRise counts.old.items }
+    ensures reader { LeadsTo target entry.now position reader.now result }
+    ensures counts { counts.new.items ≡ recounted start
+        reader.now.progress (moved_to result reader.now).progress counts.old.items }
     ensures capacity { deque_capacity counts.new ≡ deque_capacity counts.old }
 {
     if is_fixed(reader.progress) || !audience.sees(target, &reader.opening, entry) {
@@ -107,7 +107,7 @@ fn offer_at(
     requires before_end { position < start + length counts.old.items }
     requires within { AreWithin start (length counts.old.items) (rows_of rows.old) }
     requires agree { IsCounted start (rows_of rows.old) counts.old.items }
-    ensures slots { IsSlotChangedAt place (reader_after target entry.now position) rows.old rows.new }
+    ensures slots { IsOfferedAt place target entry.now position rows.old rows.new }
     ensures within { AreWithin start (length counts.old.items) (rows_of rows.new) }
     ensures agree { IsCounted start (rows_of rows.new) counts.new.items }
     ensures length { length counts.new.items ≡ length counts.old.items }
@@ -136,7 +136,7 @@ pub(crate) fn offer_each(
     requires before_end { position < start + length counts.old.items }
     requires within { AreWithin start (length counts.old.items) (rows_of rows.old) }
     requires agree { IsCounted start (rows_of rows.old) counts.old.items }
-    ensures rows { rows_of rows.new ≡ map (reader_after target entry.now position) (rows_of rows.old) }
+    ensures rows { rows_of rows.new ≡ readers_after target entry.now position (rows_of rows.old) }
     ensures agree { IsCounted start (rows_of rows.new) counts.new.items }
     ensures length { length counts.new.items ≡ length counts.old.items }
     ensures capacity { deque_capacity counts.new ≡ deque_capacity counts.old }

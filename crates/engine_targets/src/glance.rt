@@ -1,9 +1,6 @@
 //! What is seen of one handle at one look.
-ghost use Rattle.std.specs.Prelude.{◌≡◌, ℕ, List};
-ghost use Rattle.pps_types.specs.History as history;
-ghost use Rattle.engine_targets.specs.Opened.{opened};
-ghost use Rattle.engine_targets.specs.Places.{handle_of, IsPlace};
-ghost use Rattle.engine_targets.specs.Glances.{glanced, glance_on};
+ghost use Rattle.std.specs.Prelude.{◌≡◌};
+ghost use Rattle.engine_targets.specs.Glances.{IsGlanceOf};
 
 use crate::opening::Opening;
 use crate::place::Place;
@@ -36,8 +33,7 @@ fn widened(count: Option<u32>) -> Option<usize>
 
 /// What is seen of a handle at its place.
 pub(crate) fn glance_at(reader: &HandleRow<Place>) -> Glance<'_>
-    ensures { (target : ℕ) (name : List ℕ) (start : ℕ) (entries : List history.Entry) → IsPlace (opened target name reader.now.opening) start entries reader.now.progress
-        → glance_on target name result ≡ glanced (handle_of target name start entries reader.now) }
+    ensures { IsGlanceOf reader.now result }
 {
     let owed = widened(owed_count(reader));
     Glance {

@@ -23,7 +23,6 @@ mod woken;
 pub use glance::Glance;
 pub use kinds::{is_directory_kind, is_full, number_of};
 pub use opening::{Opening, Pulse};
-pub use owed::Given;
 pub use row::{HandleRow, Slot};
 pub use rows::HandleRows;
 pub use sight::{given_block, is_visible};

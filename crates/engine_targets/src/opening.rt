@@ -2,6 +2,7 @@
 ghost use Rattle.std.specs.Prelude.{◌≡◌, ◌↔◌, IsTrue, IfOk, IsOkUnless};
 ghost use Rattle.std.specs.Option.{option_copied};
 ghost use Rattle.pps_types.specs.declared.refusal.Refusal.TheVariants.{OutOfMemory};
+ghost use Rattle.engine_targets.specs.Opened.{HasSameHandle, HasSameOptions};
 
 use pps_filter::Filter;
 use pps_types::{Conn, Handle, HandleKind, Refusal};
@@ -55,7 +56,7 @@ fn same_filter(one: Option<&Filter>, other: Option<&Filter>) -> bool
 
 // Whether the handles are the same, of the same kind and limit.
 fn same_handle(one: &Opening, other: &Opening) -> bool
-    ensures { IsTrue result ↔ ((one.now.number ≡ other.now.number) × (one.now.connection ≡ other.now.connection) × (one.now.kind ≡ other.now.kind) × (one.now.limit ≡ other.now.limit)) }
+    ensures { IsTrue result ↔ HasSameHandle one.now other.now }
 {
     one.number == other.number
         && one.connection == other.connection
@@ -65,7 +66,7 @@ fn same_handle(one: &Opening, other: &Opening) -> bool
 
 // Whether the options that are set are the same.
 fn same_options(one: &Opening, other: &Opening) -> bool
-    ensures { IsTrue result ↔ ((one.now.reads ≡ other.now.reads) × (one.now.writes ≡ other.now.writes) × (one.now.wait ≡ other.now.wait) × (one.now.reflect ≡ other.now.reflect) × (one.now.critical ≡ other.now.critical)) }
+    ensures { IsTrue result ↔ HasSameOptions one.now other.now }
 {
     one.reads == other.reads
         && one.writes == other.writes

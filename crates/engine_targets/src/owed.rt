@@ -1,13 +1,11 @@
 //! What a read gives of the records that a handle is owed.
-ghost use Rattle.std.specs.Prelude.{◌≡◌, ◌≢◌, ◌≤◌, ◌<◌, ◌+◌, ◌++◌, ◌^◌, ◌-◌, OnOk, Some, None, [], drop, length, is_some, IfOk, IfSome, IfErr};
-ghost use Rattle.pps_types.specs.Names.{refusal_of};
-ghost use Rattle.pps_types.specs.Reading as reading;
+ghost use Rattle.std.specs.Prelude.{◌≡◌, ◌≤◌, ◌<◌, ◌+◌, ◌^◌, OnOk, None, length, IfOk, IfSome, IfErr};
 ghost use Rattle.pps_types.specs.declared.refusal.Refusal.TheVariants.{OutOfMemory};
 ghost use Rattle.change_chain.specs.Span.{end_of};
-ghost use Rattle.engine_targets.specs.Opened.{opened};
-ghost use Rattle.engine_targets.specs.Blocks.{blocks_given, refused_for, first_len, needs, blocks_at};
-ghost use Rattle.engine_targets.specs.Places.{IsPlace};
+ghost use Rattle.engine_targets.specs.Blocks.{blocks_in, blocks_from, needs, FitsInto, NeedsMoreThan, Gains};
+ghost use Rattle.engine_targets.specs.Blocks.{GivesFitting, RefusesTooSmall, ChecksSizeFirst, NeedsMemoryForBlocks};
 ghost use Rattle.engine_targets.specs.Shown.{printed_as};
+ghost use Rattle.engine_targets.specs.Chained.{IsPlaceIn};
 
 use crate::opening::Opening;
 use crate::place::Place;
@@ -15,7 +13,7 @@ use crate::row::HandleRow;
 use crate::shown::Shown;
 use change_chain::Chain;
 use pps_types::Refusal;
-use server_queue::Entry;
+use server_queue::{Entry, GivenBlocks};
 use std::alloc::Global;
 
 /// The most bytes beyond a first block for which memory is taken with it.
@@ -23,27 +21,6 @@ const MOST_AHEAD: usize = 4_096;
 
 /// How many bytes more than the first block each later one may have, before more memory is taken.
 const SPARE: usize = 8;
-
-/// What a read gives: how many records, and their blocks.
-#[derive(Drop)]
-pub struct Given {
-    pub count: usize,
-    /// The blocks, one after the other.
-    pub text: Vec<u8>,
-}
-
-impl Given {
-    /// No records. It takes no memory.
-    pub(crate) fn nothing(alloc: Global) -> Given
-        ensures count { result.count ≡ 0 }
-        ensures text { result.text.items ≡ [] }
-    {
-        Given {
-            count: 0,
-            text: Vec::new(alloc),
-        }
-    }
-}
 
 // The refusal of a read that needs so many bytes, where that is a number.
 fn too_small(need: Option<usize>) -> Refusal
@@ -61,8 +38,8 @@ fn too_small(need: Option<usize>) -> Refusal
 
 // How long a block is, where there is room for it, and else what refuses it.
 fn len_within(shown: &Shown<'_>, entry: &Entry, room: usize) -> Result<usize, Refusal>
-    ensures ok { IfOk result (λ len. (len ≡ length (printed_as entry.now.name shown.now)) × (len ≤ room)) }
-    ensures err { IfErr result (λ r. (room < length (printed_as entry.now.name shown.now)) × (r ≡ needs (length (printed_as entry.now.name shown.now)))) }
+    ensures ok { IfOk result (λ len. FitsInto room (printed_as entry.now.name shown.now) len) }
+    ensures err { IfErr result (λ r. NeedsMoreThan room (printed_as entry.now.name shown.now) r) }
 {
     let len = shown.len(entry.name());
     match len {
@@ -94,7 +71,7 @@ fn memory_for(is_first: bool, len: usize, room: usize, records: u64) -> usize
 
 // One block more, with memory for so many bytes taken before.
 fn put(
-    given: &mut Given,
+    given: &mut GivenBlocks,
     shown: &Shown<'_>,
     entry: &Entry,
     len: usize,
@@ -104,7 +81,7 @@ fn put(
     requires memory { len ≤ memory }
     requires count { given.old.count + 1 < 2 ^ 64 }
     ensures count { OnOk result (given.new.count ≡ given.old.count + 1) }
-    ensures text { OnOk result (given.new.text.items ≡ given.old.text.items ++ printed_as entry.now.name shown.now) }
+    ensures text { OnOk result (Gains given.old given.new (printed_as entry.now.name shown.now)) }
     ensures err { IfErr result (λ r. r ≡ OutOfMemory) }
 {
     given.text.reserve(memory)?;
@@ -123,16 +100,15 @@ fn give(
     records: &Chain<Entry>,
     from: u64,
     max: u32,
-) -> Result<Given, Refusal>
+) -> Result<GivenBlocks, Refusal>
     requires from_start { records.now.start ≤ from }
     requires up_to_end { from ≤ end_of records.now }
-    ensures ok { IfOk result (λ g. (g.count, g.text.items) ≡ reading.fitting max (blocks_given (opened target [] opening.now) (drop (from - records.now.start) records.now.items))) }
-    ensures refusal { refusal_of result ≢ Some OutOfMemory → refusal_of result ≡ refused_for max (blocks_given (opened target [] opening.now) (drop (from - records.now.start) records.now.items)) }
-    ensures memory { refusal_of result ≡ Some OutOfMemory → first_len (blocks_given (opened target [] opening.now) (drop (from - records.now.start) records.now.items)) < 2 ^ 32
-        → refused_for max (blocks_given (opened target [] opening.now) (drop (from - records.now.start) records.now.items)) ≡ None }
-    ensures some { refusal_of result ≡ Some OutOfMemory → 0 < length (blocks_given (opened target [] opening.now) (drop (from - records.now.start) records.now.items)) }
+    ensures ok { GivesFitting max (blocks_from target opening.now from records.now) result }
+    ensures refusal { RefusesTooSmall max (blocks_from target opening.now from records.now) result }
+    ensures memory { ChecksSizeFirst max (blocks_from target opening.now from records.now) result }
+    ensures some { NeedsMemoryForBlocks (blocks_from target opening.now from records.now) result }
 {
-    let mut given = Given::nothing(alloc);
+    let mut given = GivenBlocks::nothing(alloc);
     let end = records.end();
     'records: for position in from..end {
         let entry = records.at(position);
@@ -160,16 +136,15 @@ pub(crate) fn give_from(
     reader: &HandleRow<Place>,
     records: &Chain<Entry>,
     max: u32,
-) -> Result<Given, Refusal>
-    requires { IsPlace (opened target [] reader.now.opening) records.now.start records.now.items reader.now.progress }
-    ensures ok { IfOk result (λ g. (g.count, g.text.items) ≡ reading.fitting max (blocks_at target records.now.start records.now.items reader.now)) }
-    ensures refusal { refusal_of result ≢ Some OutOfMemory → refusal_of result ≡ refused_for max (blocks_at target records.now.start records.now.items reader.now) }
-    ensures memory { refusal_of result ≡ Some OutOfMemory → first_len (blocks_at target records.now.start records.now.items reader.now) < 2 ^ 32
-        → refused_for max (blocks_at target records.now.start records.now.items reader.now) ≡ None }
-    ensures some { refusal_of result ≡ Some OutOfMemory → 0 < length (blocks_at target records.now.start records.now.items reader.now) }
+) -> Result<GivenBlocks, Refusal>
+    requires { IsPlaceIn target reader.now.opening records.now reader.now.progress }
+    ensures ok { GivesFitting max (blocks_in target records.now reader.now) result }
+    ensures refusal { RefusesTooSmall max (blocks_in target records.now reader.now) result }
+    ensures memory { ChecksSizeFirst max (blocks_in target records.now reader.now) result }
+    ensures some { NeedsMemoryForBlocks (blocks_in target records.now reader.now) result }
 {
     match reader.progress {
         Place::At { first, .. } => give(alloc, target, &reader.opening, records, first, max),
-        _ => Ok(Given::nothing(alloc)),
+        _ => Ok(GivenBlocks::nothing(alloc)),
     }
 }

@@ -1,11 +1,7 @@
 //! Where a read leads.
-ghost use Rattle.std.specs.Prelude.{◌≡◌, ◌≤◌, ◌-◌, [], drop};
-ghost use Rattle.pps_types.specs.Reading as reading;
-ghost use Rattle.pps_types.specs.Rests as rests;
-ghost use Rattle.pps_types.specs.Plan as planning;
+ghost use Rattle.std.specs.Prelude.{◌≡◌, ◌≤◌};
 ghost use Rattle.change_chain.specs.Span.{end_of};
-ghost use Rattle.engine_targets.specs.Opened.{opened};
-ghost use Rattle.engine_targets.specs.Places.{seen_at, IsPlace};
+ghost use Rattle.engine_targets.specs.Chained.{records_from, rest_past, IsPlaceIn, PassesTo};
 
 use crate::opening::Opening;
 use crate::place::Place;
@@ -19,8 +15,8 @@ fn behind(target: u64, opening: &Opening, records: &Chain<Entry>, from: u64, cou
     requires up_to_end { from ≤ end_of records.now }
     ensures from_start { from ≤ result }
     ensures up_to_end { result ≤ end_of records.now }
-    ensures place { drop (result - records.now.start) records.now.items
-        ≡ rests.from_first (reading.visible (opened target [] opening.now)) (rests.past (reading.visible (opened target [] opening.now)) count (drop (from - records.now.start) records.now.items)) }
+    ensures place { records_from result records.now
+        ≡ rest_past target opening.now count (records_from from records.now) }
 {
     let mut left = count;
     let end = records.end();
@@ -44,9 +40,9 @@ pub(crate) fn passed(
     place: Place,
     count: usize,
 ) -> Place
-    requires { IsPlace (opened target [] opening.now) records.now.start records.now.items place }
-    ensures is { IsPlace (opened target [] opening.now) records.now.start records.now.items result }
-    ensures seen { seen_at records.now.start records.now.items result ≡ planning.left (opened target [] opening.now) count (seen_at records.now.start records.now.items place) }
+    requires { IsPlaceIn target opening.now records.now place }
+    ensures is { IsPlaceIn target opening.now records.now result }
+    ensures seen { PassesTo target opening.now records.now count place result }
 {
     let (first, owed) = match place {
         Place::At { first, owed } => (first, owed),

@@ -1,7 +1,7 @@
 //! Places: how far a handle has read of what its target holds.
-ghost use Rattle.std.specs.Prelude.{◌≡◌, ℕ, Bool, true};
+ghost use Rattle.std.specs.Prelude.{◌≡◌, true};
 ghost use Rattle.engine_targets.specs.declared.place.Place.TheVariants.{Idle, At};
-ghost use Rattle.engine_targets.specs.Places.{place_after, first_place, caught_place};
+ghost use Rattle.engine_targets.specs.Places.{place_after, first_place, caught_place, IsFixed};
 
 use crate::kinds::is_full;
 use pps_types::HandleKind;
@@ -69,7 +69,7 @@ fn owed_more(limit: u32, first: u64, owed: u32) -> Place
 
 /// Whether a handle stays at a place whatever record is pushed.
 pub(crate) fn is_fixed(place: Place) -> bool
-    ensures { result ≡ true → (limit : ℕ) (sees : Bool) (position : ℕ) → place_after limit sees position place ≡ place }
+    ensures { result ≡ true → IsFixed place }
 {
     matches!(place, Place::Fresh | Place::Over | Place::News(true))
 }

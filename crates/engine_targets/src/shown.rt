@@ -1,7 +1,6 @@
 //! What a handle is given of a record, before it is put into an answer.
-ghost use Rattle.std.specs.Prelude.{◌≡◌, ◌≤◌, ◌+◌, ◌++◌, ◌^◌, [], is_some, length, vec_len, vec_capacity, IfSome, IfNone};
-ghost use Rattle.pps_types.specs.Reading as reading;
-ghost use Rattle.engine_targets.specs.Opened.{opened};
+ghost use Rattle.std.specs.Prelude.{◌≡◌, ◌≤◌, ◌+◌, ◌++◌, ◌^◌, is_some, length, vec_len, vec_capacity, IfSome, IfNone};
+ghost use Rattle.engine_targets.specs.Opened.{visible_to};
 ghost use Rattle.engine_targets.specs.Lines.{takes_lines, TakesLines};
 
 use crate::opening::Opening;
@@ -40,12 +39,13 @@ fn lines_for<'a>(opening: &Opening, entry: &'a Entry) -> Option<&'a [u8]>
 
 impl<'a> Shown<'a> {
     ghost use Rattle.engine_targets.specs.Shown.{printed_as};
+    ghost use Rattle.engine_targets.specs.Blocks.{IsShownTo};
 
     /// What a handle on the object or directory of that number is given of a record, if it is given it. It takes no memory.
     #[tactic(auto, using(crate::proofs::Printed::lines_are_seen))]
     pub(crate) fn of(target: u64, opening: &'a Opening, entry: &'a Entry) -> Option<Shown<'a>>
-        ensures visible { is_some result ≡ reading.visible (opened target [] opening.now) entry.now }
-        ensures text { IfSome result (λ s. printed_as entry.now.name s ≡ reading.block (opened target [] opening.now) entry.now) }
+        ensures visible { is_some result ≡ visible_to target opening.now entry.now }
+        ensures text { IfSome result (λ s. IsShownTo target opening.now entry.now s) }
     {
         if let Some(text) = lines_for(opening, entry) {
             if !is_told_of(target, opening, entry) {

@@ -1,8 +1,9 @@
 //! What a handle is given of a record.
-ghost use Rattle.std.specs.Prelude.{◌≡◌, ◌&&◌, ◌||◌, not, Some, [], is_some, IfSome};
+ghost use Rattle.std.specs.Prelude.{◌≡◌, [], is_some, IfSome};
 ghost use Rattle.pps_types.specs.Reading as reading;
-ghost use Rattle.engine_targets.specs.Opened.{opened};
-ghost use Rattle.engine_targets.specs.Lines.{is_told as told};
+ghost use Rattle.engine_targets.specs.Opened.{opened, visible_to};
+ghost use Rattle.engine_targets.specs.Lines.{is_told as told, reads_changes_of};
+ghost use Rattle.engine_targets.specs.Blocks.{IsBlockFor};
 
 use crate::kinds::{is_directory_kind, is_object_kind};
 use crate::opening::Opening;
@@ -23,7 +24,7 @@ fn wrote(opening: &Opening, made: &Record) -> bool
 // Whether it is told of a record of its target, where that has a block for it: it is open for reading, and its own
 // changes are hidden from all but an object's handle that reflects.
 fn is_told(opening: &Opening, made: &Record) -> bool
-    ensures { result ≡ (opening.now.reads && (not (reading.is_writer opening.now.number made.now.writer) || (opening.now.reflect && reading.is_object_kind opening.now.kind))) }
+    ensures { result ≡ reads_changes_of opening.now made.now.writer }
 {
     opening.reads && (!wrote(opening, made) || (opening.reflect && is_object_kind(opening.kind)))
 }
@@ -54,7 +55,7 @@ fn concerns(target: u64, opening: &Opening, entry: &Entry) -> bool
 
 /// Whether a handle on the object or directory of that number is given a record. It takes no memory.
 pub fn is_visible(target: u64, opening: &Opening, entry: &Entry) -> bool
-    ensures { result ≡ reading.visible (opened target [] opening.now) entry.now }
+    ensures { result ≡ visible_to target opening.now entry.now }
 {
     concerns(target, opening, entry) && sees(opening, entry.record())
 }
@@ -68,8 +69,8 @@ pub(crate) fn is_told_of(target: u64, opening: &Opening, entry: &Entry) -> bool
 
 /// The block of a record, where a handle on the object or directory of that number is given it. It takes no memory.
 pub fn given_block<'a>(target: u64, opening: &'a Opening, entry: &'a Entry) -> Option<Block<'a>>
-    ensures visible { is_some result ≡ reading.visible (opened target [] opening.now) entry.now }
-    ensures block { IfSome result (λ b. reading.print_shown entry.now.name (Some b) ≡ reading.block (opened target [] opening.now) entry.now) }
+    ensures visible { is_some result ≡ visible_to target opening.now entry.now }
+    ensures block { IfSome result (λ b. IsBlockFor target opening.now entry.now b) }
 {
     if !is_told_of(target, opening, entry) {
         return None;

@@ -191,7 +191,7 @@ pub struct First<'a, P> {
 
 /// The first handle, if there is one.
 pub fn first_row<P>(slots: &[Slot<P>]) -> Option<First<'_, P>>
-    ensures some { IfSome result (λ first. rows_in slots.now ≡ first.row.now ∷ rows_in first.behind.now) }
+    ensures some { IfSome result (λ f. rows_in slots.now ≡ f.row.now ∷ rows_in f.behind.now) }
     ensures none { IfNone result (rows_in slots.now ≡ []) }
 {
     let mut rest = slots;

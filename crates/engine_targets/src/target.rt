@@ -1,20 +1,16 @@
 //! One object or one directory with the handles on it, and the records that it holds for them.
-ghost use Rattle.std.specs.Prelude.{◌≡◌, ◌≢◌, ◌^◌, Some, None, IfOk, IfErr, ◌↔◌, IsTrue, true, ℕ, List, [], ◌∷◌, ◌++◌, ◌+◌, ◌<◌, ◌≤◌, map, length, false, option_map, option_and_then, OnOk, OnErr};
-ghost use Rattle.std.specs.Option.{option_copied, option_map_or};
-ghost use Rattle.std.specs.List.{AllByRecursion};
+ghost use Rattle.std.specs.Prelude.{◌≡◌, IfOk, IfErr, ◌↔◌, IsTrue, true, [], ◌+◌, ◌<◌, ◌≤◌, length, OnOk, OnErr};
 ghost use Rattle.pps_types.specs.declared.found.Found.TheVariants.{Object as FoundObject, Directory as FoundDirectory};
-ghost use Rattle.pps_types.specs.Reading as reading;
-ghost use Rattle.pps_types.specs.Rests as rests;
-ghost use Rattle.pps_types.specs.Plan as planning;
-ghost use Rattle.pps_types.specs.Owed as owing;
-ghost use Rattle.pps_types.specs.Content as content;
-ghost use Rattle.pps_types.specs.Names.{refusal_of};
 ghost use Rattle.pps_types.specs.declared.refusal.Refusal.TheVariants.{OutOfMemory};
-ghost use Rattle.engine_targets.specs.Blocks.{owed_blocks, refused_for, first_len};
-ghost use Rattle.engine_targets.specs.Opened.{opened, as_opened, armed_pulse, handle_at, is_directory, number_of, is_reader};
-ghost use Rattle.engine_targets.specs.Glances.{glanced, glance_on};
-ghost use Rattle.engine_targets.specs.Woken as waking;
-ghost use Rattle.engine_targets.specs.Seated.{AreSeated};
+ghost use Rattle.pps_types.specs.Plan.{without_number};
+ghost use Rattle.engine_targets.specs.Blocks.{owed_blocks_at, GivesFitting, RefusesTooSmall, ChecksSizeFirst, NeedsMemoryForBlocks};
+ghost use Rattle.engine_targets.specs.Opened.{armed_pulse, number_of, is_reader, IsOpeningAt};
+ghost use Rattle.engine_targets.specs.Glances.{IsGlanceAt};
+ghost use Rattle.engine_targets.specs.Seated.{AreSeatedOn, SuitsTarget, longest_rest_on, HaveName, AreReaders};
+ghost use Rattle.engine_targets.specs.HandleAt.{parked_at, armed_at, has_news_at, is_over_at, owed_at, AreBelow};
+ghost use Rattle.engine_targets.specs.HandleAt.{with_offered, with_caught_up, with_passed, with_parked, with_armed};
+ghost use Rattle.engine_targets.specs.Standing.{handles_with, AreSame};
+ghost use Rattle.engine_targets.specs.Woken.{woken_by};
 
 use crate::copies::{copy_all, copy_records, same_all, same_records};
 use crate::counts::{leave, offer_each, put};
@@ -22,7 +18,7 @@ use crate::cut::cut;
 use crate::glance::{Glance, glance_at};
 use crate::kinds::{is_in_chain, number_of};
 use crate::opening::{Opening, Pulse};
-use crate::owed::{Given, give_from};
+use crate::owed::give_from;
 use crate::passed::passed;
 use crate::place::{Place, at_first, caught};
 use crate::questions::{has_news, is_over, owed_count};
@@ -31,7 +27,7 @@ use crate::rows::HandleRows;
 use crate::woken::find_woken;
 use change_chain::Chain;
 use pps_types::{Bytes, DirId, Found, Handle, ObjId, Refusal};
-use server_queue::Entry;
+use server_queue::{Entry, GivenBlocks};
 use std::alloc::{AllocError, Global};
 use std::collections::VecDeque;
 use std::marker::Model;
@@ -53,9 +49,6 @@ impl Model for Target {
     ghost use Rattle.std.specs.Prelude.{◌-◌, map, length};
     ghost use Rattle.std.specs.VecDeque.{deque_capacity};
     ghost use Rattle.change_chain.specs.Span.{end_of};
-    ghost use Rattle.pps_types.specs.Names.{refusal_of};
-    ghost use Rattle.pps_types.specs.declared.refusal.Refusal.TheVariants.{OutOfMemory};
-    ghost use Rattle.engine_targets.specs.Blocks.{owed_blocks, refused_for, first_len};
     ghost use Rattle.engine_targets.specs.Opened.{is_directory, number_of};
     ghost use Rattle.engine_targets.specs.Places.{handle_of};
     ghost use Rattle.engine_targets.specs.Rows.{rows_of};
@@ -152,7 +145,7 @@ impl Target {
         requires room { 0 < self.old.room }
         ensures of { self.new.of ≡ self.old.of }
         ensures name { self.new.name ≡ self.old.name }
-        ensures handles { self.new.handles ≡ map (planning.offer entry) self.old.handles }
+        ensures handles { self.new.handles ≡ with_offered entry self.old.handles }
         ensures room { self.old.room ≤ self.new.room + 1 }
         ensures places { self.new.places ≡ self.old.places }
     {
@@ -189,11 +182,11 @@ impl Target {
     pub fn open_reserved(&mut self, opening: Opening)
         requires places { 0 < self.old.places }
         requires reader { is_reader opening.kind ≡ true }
-        requires flag { owing.same_flag (reading.is_directory_kind opening.kind) (is_directory self.old.of) ≡ true }
-        requires above { AllByRecursion (λ (h : reading.Open rests.Seen). h.number < opening.number) self.old.handles }
+        requires flag { SuitsTarget opening.kind self.old.of }
+        requires above { AreBelow opening.number self.old.handles }
         ensures of { self.new.of ≡ self.old.of }
         ensures name { self.new.name ≡ self.old.name }
-        ensures handles { self.new.handles ≡ self.old.handles ++ reading.reseen (λ h. planning.first_seen h (reading.style h.kind)) (opened (number_of self.old.of) self.old.name opening) ∷ [] }
+        ensures handles { self.new.handles ≡ handles_with opening self.old }
         ensures kept { self.new.kept ≡ self.old.kept }
         ensures room { self.new.room ≡ self.old.room }
         ensures places { self.new.places + 1 ≡ self.old.places }
@@ -211,7 +204,7 @@ impl Target {
     pub fn catch_up(&mut self, number: Handle)
         ensures of { self.new.of ≡ self.old.of }
         ensures name { self.new.name ≡ self.old.name }
-        ensures handles { self.new.handles ≡ planning.on_numbered number (reading.reseen planning.caught_up) self.old.handles }
+        ensures handles { self.new.handles ≡ with_caught_up number self.old.handles }
         ensures room { self.old.room ≤ self.new.room }
         ensures places { self.new.places ≡ self.old.places }
     {
@@ -228,7 +221,7 @@ impl Target {
     pub fn pass(&mut self, number: Handle, count: usize)
         ensures of { self.new.of ≡ self.old.of }
         ensures name { self.new.name ≡ self.old.name }
-        ensures handles { self.new.handles ≡ planning.on_numbered number (reading.reseen (λ h. planning.left h count h.seen)) self.old.handles }
+        ensures handles { self.new.handles ≡ with_passed number count self.old.handles }
         ensures room { self.old.room ≤ self.new.room }
         ensures places { self.new.places ≡ self.old.places }
     {
@@ -252,7 +245,7 @@ impl Target {
     pub fn park(&mut self, number: Handle, size: Option<u32>)
         ensures of { self.new.of ≡ self.old.of }
         ensures name { self.new.name ≡ self.old.name }
-        ensures handles { self.new.handles ≡ planning.on_numbered number (λ h. record h { parked = size }) self.old.handles }
+        ensures handles { self.new.handles ≡ with_parked number size self.old.handles }
         ensures kept { self.new.kept ≡ self.old.kept }
         ensures room { self.new.room ≡ self.old.room }
         ensures places { self.new.places ≡ self.old.places }
@@ -267,7 +260,7 @@ impl Target {
     pub fn arm(&mut self, number: Handle, pulse: Option<Pulse>)
         ensures of { self.new.of ≡ self.old.of }
         ensures name { self.new.name ≡ self.old.name }
-        ensures handles { self.new.handles ≡ planning.on_numbered number (λ h. record h { armed = armed_pulse pulse }) self.old.handles }
+        ensures handles { self.new.handles ≡ with_armed number pulse self.old.handles }
         ensures kept { self.new.kept ≡ self.old.kept }
         ensures room { self.new.room ≡ self.old.room }
         ensures places { self.new.places ≡ self.old.places }
@@ -282,7 +275,7 @@ impl Target {
     pub fn close(&mut self, number: Handle)
         ensures of { self.new.of ≡ self.old.of }
         ensures name { self.new.name ≡ self.old.name }
-        ensures handles { self.new.handles ≡ planning.without_number number self.old.handles }
+        ensures handles { self.new.handles ≡ without_number number self.old.handles }
         ensures room { self.old.room ≤ self.new.room }
         ensures places { self.old.places ≤ self.new.places }
     {
@@ -297,7 +290,7 @@ impl Target {
 
     /// What the open of a handle fixed, where it is here.
     pub fn opening(&self, number: Handle) -> Option<&Opening>
-        ensures { option_map (opened (number_of self.now.of) self.now.name) (option_copied result) ≡ option_map as_opened (handle_at number self.now.handles) }
+        ensures { IsOpeningAt number (number_of self.now.of) self.now.name self.now.handles result }
     {
         match self.rows.get(number) {
             None => None,
@@ -307,7 +300,7 @@ impl Target {
 
     /// What is seen of a handle, where it is here.
     pub fn glance(&self, number: Handle) -> Option<Glance<'_>>
-        ensures { option_map (glance_on (number_of self.now.of) self.now.name) result ≡ option_map glanced (handle_at number self.now.handles) }
+        ensures { IsGlanceAt number (number_of self.now.of) self.now.name self.now.handles result }
     {
         match self.rows.get(number) {
             None => None,
@@ -317,7 +310,7 @@ impl Target {
 
     /// The size of the read that waits on a handle, if one does.
     pub fn parked(&self, number: Handle) -> Option<u32>
-        ensures { result ≡ option_and_then (λ (h : reading.Open rests.Seen). h.parked) (handle_at number self.now.handles) }
+        ensures { result ≡ parked_at number self.now.handles }
     {
         match self.rows.get(number) {
             None => None,
@@ -327,7 +320,7 @@ impl Target {
 
     /// The pulse that is armed on a handle, if one is.
     pub fn armed(&self, number: Handle) -> Option<Pulse>
-        ensures { armed_pulse result ≡ option_and_then (λ (h : reading.Open rests.Seen). h.armed) (handle_at number self.now.handles) }
+        ensures { armed_pulse result ≡ armed_at number self.now.handles }
     {
         match self.rows.get(number) {
             None => None,
@@ -344,7 +337,7 @@ impl Target {
 
     /// Whether a handle is here that a read would give something new.
     pub fn has_news(&self, number: Handle) -> bool
-        ensures { result ≡ option_map_or content.news (handle_at number self.now.handles) false }
+        ensures { result ≡ has_news_at number self.now.handles }
     {
         match self.rows.get(number) {
             None => false,
@@ -354,7 +347,7 @@ impl Target {
 
     /// Whether a handle is here that is owed more records than its limit, so that it is given everything anew.
     pub fn is_over(&self, number: Handle) -> bool
-        ensures { result ≡ option_map_or (λ (h : reading.Open rests.Seen). rests.is_over h.seen) (handle_at number self.now.handles) false }
+        ensures { result ≡ is_over_at number self.now.handles }
     {
         let Some(reader) = self.rows.get(number) else {
             return false;
@@ -367,7 +360,7 @@ impl Target {
     ///
     /// AllocError comes only where memory is wanting.
     pub fn woken_by(&self, alloc: Global, entries: &[Entry]) -> Result<Vec<Handle>, AllocError>
-        ensures { IfOk result (λ woken. woken.items ≡ waking.woken_by entries.now self.now.handles) }
+        ensures { IfOk result (λ woken. woken.items ≡ woken_by entries.now self.now.handles) }
     {
         find_woken(alloc, number_of(self.of), self.rows.slots(), entries)
     }
@@ -375,7 +368,7 @@ impl Target {
     /// How many records a handle is owed: none is told where it is not here, in full mode, before the first read and past
     /// the limit.
     pub fn owed(&self, number: Handle) -> Option<u32>
-        ensures { result ≡ option_and_then (λ (h : reading.Open rests.Seen). owing.owed_in_seen h h.seen) (handle_at number self.now.handles) }
+        ensures { result ≡ owed_at number self.now.handles }
     {
         match self.rows.get(number) {
             None => None,
@@ -388,15 +381,14 @@ impl Target {
     ///
     /// It is TooSmall, with the size, where the first block does not fit, before any memory is taken; else OutOfMemory is
     /// the only error, where something is owed.
-    pub fn read_owed(&self, alloc: Global, number: Handle, max: u32) -> Result<Given, Refusal>
-        ensures ok { IfOk result (λ g. (g.count, g.text.items) ≡ reading.fitting max (owed_blocks (handle_at number self.now.handles))) }
-        ensures refusal { refusal_of result ≢ Some OutOfMemory → refusal_of result ≡ refused_for max (owed_blocks (handle_at number self.now.handles)) }
-        ensures memory { refusal_of result ≡ Some OutOfMemory → first_len (owed_blocks (handle_at number self.now.handles)) < 2 ^ 32
-            → refused_for max (owed_blocks (handle_at number self.now.handles)) ≡ None }
-        ensures some { refusal_of result ≡ Some OutOfMemory → 0 < length (owed_blocks (handle_at number self.now.handles)) }
+    pub fn read_owed(&self, alloc: Global, number: Handle, max: u32) -> Result<GivenBlocks, Refusal>
+        ensures ok { GivesFitting max (owed_blocks_at number self.now.handles) result }
+        ensures refusal { RefusesTooSmall max (owed_blocks_at number self.now.handles) result }
+        ensures memory { ChecksSizeFirst max (owed_blocks_at number self.now.handles) result }
+        ensures some { NeedsMemoryForBlocks (owed_blocks_at number self.now.handles) result }
     {
         let Some(reader) = self.rows.get(number) else {
-            return Ok(Given::nothing(alloc));
+            return Ok(GivenBlocks::nothing(alloc));
         };
         give_from(alloc, number_of(self.of), reader, &self.records, max)
     }
@@ -411,15 +403,15 @@ impl Target {
     /// Does nothing. Its contract is the law that its handles are on it, are owed no more than their limits, and stand in
     /// rising number.
     pub fn handles_are_seated(&self)
-        ensures { AreSeated (is_directory self.now.of) (number_of self.now.of) self.now.handles }
+        ensures { AreSeatedOn self.now.of self.now.handles }
     {
         let _held = self.records.start();
     }
 
     /// Does nothing. Its contract is the law that its handles read in full or delta mode, and have its name.
     pub fn handles_are_readers(&self)
-        ensures readers { AllByRecursion (λ (h : reading.Open rests.Seen). is_reader h.kind ≡ true) self.now.handles }
-        ensures named { AllByRecursion (λ (h : reading.Open rests.Seen). h.name ≡ self.now.name) self.now.handles }
+        ensures readers { AreReaders self.now.handles }
+        ensures named { HaveName self.now.name self.now.handles }
     {
         let _held = self.records.start();
     }
@@ -427,7 +419,7 @@ impl Target {
     /// Just those records are held that have to be kept: the longest rest that a handle is owed. Does nothing. Its contract
     /// is the law that says so.
     pub fn is_exact(&self)
-        ensures { self.now.kept ≡ owing.longest_rest (is_directory self.now.of) (number_of self.now.of) self.now.handles }
+        ensures { self.now.kept ≡ longest_rest_on self.now.of self.now.handles }
     {
         let _held = self.records.start();
     }
@@ -458,7 +450,7 @@ impl Target {
 
     /// Whether both are the same target with the same handles, which are owed the same. It takes no memory.
     pub fn same(&self, other: &Target) -> bool
-        ensures { IsTrue result ↔ ((self.now.of ≡ other.now.of) × (self.now.name ≡ other.now.name) × (self.now.handles ≡ other.now.handles)) }
+        ensures { IsTrue result ↔ AreSame self.now other.now }
     {
         if !is_of_same(self, other) {
             return false;

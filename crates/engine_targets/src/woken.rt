@@ -1,10 +1,8 @@
 //! Whom records wake.
-ghost use Rattle.std.specs.Prelude.{◌≡◌, [], filter, map, IfOk};
+ghost use Rattle.std.specs.Prelude.{◌≡◌, IfOk};
 ghost use Rattle.std.specs.List.{list_any};
-ghost use Rattle.pps_types.specs.Reading as reading;
-ghost use Rattle.engine_targets.specs.Opened.{opened};
-ghost use Rattle.engine_targets.specs.Rows.{rows_in};
-ghost use Rattle.engine_targets.specs.Woken.{waits_at, sees_one, wakes_at};
+ghost use Rattle.engine_targets.specs.Opened.{visible_to};
+ghost use Rattle.engine_targets.specs.Woken.{waits_at, sees_one, wakes_at, woken_among};
 
 use crate::opening::Opening;
 use crate::place::Place;
@@ -24,7 +22,7 @@ fn waits(reader: &HandleRow<Place>) -> bool
 
 // Whether a handle on the object or directory of that number sees one of the records.
 fn sees_any(target: u64, opening: &Opening, entries: &[Entry]) -> bool
-    ensures { result ≡ list_any (reading.visible (opened target [] opening.now)) entries.now }
+    ensures { result ≡ list_any (visible_to target opening.now) entries.now }
 {
     entries
         .iter()
@@ -45,7 +43,7 @@ pub(crate) fn find_woken(
     slots: &[Slot<Place>],
     entries: &[Entry],
 ) -> Result<Vec<Handle>, AllocError>
-    ensures { IfOk result (λ woken. woken.items ≡ map (λ r. r.opening.number) (filter (wakes_at target entries.now) (rows_in slots.now))) }
+    ensures { IfOk result (λ woken. woken.items ≡ woken_among target entries.now slots.now) }
 {
     let mut woken = Vec::new(alloc);
     'slots: for slot in slots {

@@ -18,7 +18,7 @@ use Rattle.service_state.specs.Tables.{Tabled, content_in}
 use Rattle.whole_texts.specs.Whole.{Source, source_of}
 use Rattle.whole_texts.specs.Answered.{AnswersAreRead, Owes, answer_by, meant, refusal_in, wants_memory}
 use Rattle.whole_texts.specs.declared.answer.Answer.{Answer}
-use Rattle.whole_texts.specs.declared.answer.Fitted.{Fitted}
+use Rattle.server_queue.specs.declared.plan.GivenBlocks.{GivenBlocks}
 use Rattle.handle_requests.specs.declared.own.Own.{Own}
 use Rattle.handle_requests.specs.Own.{opened_as, IsOwn}
 use Rattle.handle_requests.specs.Directories.{directory_source}
@@ -37,7 +37,7 @@ wanted reading.Nothing e = absurd (let bad = e in cc)
 
 module _ (law : AnswersAreRead) (c : Content) (next : ℕ) (rise : AreRising 0 (map (λ h. h.number) c.handles) next) (conn n size : ℕ) (waits : Bool) (w : Source) (reader : IfSome (own_handle c conn n) (IsReader c waits w)) where
   -- it is by what the handle of that number is owed
-  pub answer_told : (owed : Option Fitted) → IfSome (handle_at n c.handles) (λ h. h.reads ≡ true → Owes size h h.seen owed)
+  pub answer_told : (owed : Option GivenBlocks) → IfSome (handle_at n c.handles) (λ h. h.reads ≡ true → Owes size h h.seen owed)
       → IfSome (own_handle c conn n) (λ h. read_answer c h size ≡ answer_by w waits size owed)
   answer_told owed owes = by (own_handle c conn n) refl reader
     where

@@ -10,7 +10,7 @@ use Rattle.pps_types.specs.Owed.{owed_in_seen}
 use Rattle.server_queue.specs.Reads.{needed}
 use Rattle.engine_targets.specs.Blocks.{owed_blocks, refused_for, first_len}
 use Rattle.whole_texts.specs.Answered.{Owes, refusal_in}
-use Rattle.whole_texts.specs.declared.answer.Fitted.{Fitted}
+use Rattle.server_queue.specs.declared.plan.GivenBlocks.{GivenBlocks}
 use Rattle.handle_requests.specs.Reads.{Refuses, is_given_all}
 use Rattle.service_state.proofs.Memory.{memory_or}
 
@@ -44,7 +44,7 @@ fits max (b ∷ bs) e = by (nat_le (length b) max) e
     by true e = refl
     by false e = absurd (let bad = e in cc)
 
-module _ (max : ℕ) (g : Fitted) (h : Open Seen) (reads : h.reads ≡ true) where
+module _ (max : ℕ) (g : GivenBlocks) (h : Open Seen) (reads : h.reads ≡ true) where
   some_of : (s : Seen) → (is_none (owed_in_seen h s) && news_in h.reads s) ≡ false → (g.count, g.text.items) ≡ fitting max (owed_blocks (Some (record h { seen = s })))
       → None ≡ refused_for max (owed_blocks (Some (record h { seen = s }))) → Owes max h s (Some g)
   some_of (News true) e same fit = absurd (let bad = e in cc)
@@ -53,7 +53,7 @@ module _ (max : ℕ) (g : Fitted) (h : Open Seen) (reads : h.reads ≡ true) whe
   some_of Over e same fit = absurd (let bad = e in cc)
   some_of (Owed rest) e same fit = record { same = same; fits = fits max (map (block h) (filter (visible h) rest)) fit }
 
-pub some_owed : (max : ℕ) (g : Fitted) (o : Option (Open Seen)) → is_given_all o ≡ false → (g.count, g.text.items) ≡ fitting max (owed_blocks o) → None ≡ refused_for max (owed_blocks o)
+pub some_owed : (max : ℕ) (g : GivenBlocks) (o : Option (Open Seen)) → is_given_all o ≡ false → (g.count, g.text.items) ≡ fitting max (owed_blocks o) → None ≡ refused_for max (owed_blocks o)
     → IfSome o (λ h. h.reads ≡ true → Owes max h h.seen (Some g))
 some_owed max g None e same fit = tt
 some_owed max g (Some h) e same fit = λ reads. some_of max g h reads h.seen e same fit

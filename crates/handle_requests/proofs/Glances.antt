@@ -12,7 +12,7 @@ use Rattle.engine_targets.specs.Glances.{Glanced, glanced, glance_on}
 use Rattle.engine_servers.specs.Seated.{handles_of, name_of}
 use Rattle.open_handles.specs.Whole.{Whole, handles_in, name_at}
 use Rattle.service_state.specs.Tables.{Tabled}
-use Rattle.handle_requests.specs.declared.own.Asked.{Asked}
+use Rattle.handle_requests.specs.declared.own.SeenHandle.{SeenHandle}
 use Rattle.handle_requests.specs.Asked.{IsAsked}
 use Rattle.handle_requests.proofs.Owns.{own_among, own_parked, own_news}
 
@@ -40,7 +40,7 @@ pub owed_seen : (o : Option (Open Seen)) (g : Glanced) → Some g ≡ option_map
 owed_seen None g e = absurd (let bad = e in cc)
 owed_seen (Some h) g e = let is : g ≡ glanced h = cc in ap (λ (x : Glanced). x.owed) is
 
-pub is_asked : (t : Tabled) (w : Whole) → w ≡ t.handles → (conn n : ℕ) (a : Asked) → AreRising 0 (map (λ h. h.number) (handles_in w)) w.rows.next
+pub is_asked : (t : Tabled) (w : Whole) → w ≡ t.handles → (conn n : ℕ) (a : SeenHandle) → AreRising 0 (map (λ h. h.number) (handles_in w)) w.rows.next
     → Some (glance_on (number_of a.own.found) (name_at a.own.found w) a.glance) ≡ option_map glanced (handle_at n (handles_in w))
     → handle_at n (handles_of a.seats.now) ≡ handle_at n (handles_in w) → name_of a.seats.now ≡ name_at a.own.found w → IsAsked t conn n a
 is_asked t w same conn n a rise seen seats name =

@@ -9,11 +9,11 @@ use Rattle.engine_targets.specs.Opened.{handle_at}
 use Rattle.engine_servers.specs.Seated.{handles_of, name_of}
 use Rattle.open_handles.specs.Whole.{handles_in, name_at}
 use Rattle.service_state.specs.Tables.{Tabled, content_in}
-use Rattle.handle_requests.specs.declared.own.Asked.{Asked}
+use Rattle.handle_requests.specs.declared.own.SeenHandle.{SeenHandle}
 
 -- It is of the open handle of that number. Where that is the connection's, news says whether it has news, and parked whether a
 -- read waits on it. Those on what it is on have it as all handles have it.
-pub record IsAsked (t : Tabled) (conn handle : ℕ) (a : Asked) : Type 0 where
+pub record IsAsked (t : Tabled) (conn handle : ℕ) (a : SeenHandle) : Type 0 where
   pub parked : IfSome (own_handle (content_in t) conn handle) (λ h. is_some a.glance.parked ≡ is_some h.parked)
   pub news : IfSome (own_handle (content_in t) conn handle) (λ h. a.glance.has_news ≡ has_news h)
   pub fresh : a.glance.has_news ≡ option_map_or has_news (handle_at handle (handles_in t.handles)) false

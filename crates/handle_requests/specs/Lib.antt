@@ -9,3 +9,4 @@ pub mod Closed
 pub mod Addressed
 pub mod Backlogs
 pub mod Writes
+pub mod Drafting

@@ -1,5 +1,5 @@
 -- Notices, by what is known of a handle.
-use Rattle.std.specs.Prelude.{◌≡◌, ℕ, List, [], ◌∷◌, Bool, true, false, Some, None, nat_lt, if◌then◌else◌, option_map}
+use Rattle.std.specs.Prelude.{◌≡◌, ℕ, List, [], ◌∷◌, Bool, true, false, Some, None, nat_lt, if◌then◌else◌, is_some, option_map}
 use Rattle.pps_types.specs.declared.event.Action.{Action}
 use Rattle.pps_types.specs.declared.event.Request.{Request}
 use Rattle.pps_types.specs.declared.event.Request.TheVariants.{Notify}
@@ -10,8 +10,12 @@ use Rattle.pps_types.specs.Rests.{Seen}
 use Rattle.pps_types.specs.Outbox.{arms}
 use Rattle.pps_types.specs.Plan.{Move, Arms}
 use Rattle.pps_types.specs.Content.{Content, own_handle, news}
+use Rattle.pps_types.specs.Checks.{Check, on_handle, notify_checks}
 use Rattle.engine_targets.specs.Opened.{armed_pulse}
 use Rattle.engine_targets.specs.declared.opening.Pulse.{Pulse}
+use Rattle.notify_box.specs.Standing.{CanArm}
+use Rattle.service_state.specs.Tables.{Tabled, content_in}
+use Rattle.service_state.specs.Refused.{checks_in, effect_in}
 use Rattle.handle_requests.specs.declared.notices.Notified.{Notified}
 
 -- what is asked
@@ -28,3 +32,21 @@ pub record IsNoticed (c : Content) (conn handle : ℕ) (action : Action) (pulse 
   pub own : option_map {U = Bool × Bool} (λ (h : Open Seen). (h.reads, news h)) (own_handle c conn handle) ≡ Some (true, n.news)
   pub code : nat_lt 127 pulse.code ≡ false
   pub arming : armed_pulse n.pulse ≡ (if arms action n.news then Some (pulse.code, pulse.value) else None)
+
+-- ---- over the tables
+
+-- the checks of what is asked
+abbrev pub notice_checks : Tabled → ℕ → ℕ → Action → Pulse → List Check
+notice_checks t conn handle action pulse = checks_in t conn (notify_of handle action pulse)
+
+-- the same, by the code alone of a pulse
+abbrev pub code_checks : Tabled → ℕ → ℕ → Action → ℕ → List Check
+code_checks t conn handle action code = on_handle (content_in t) conn handle (notify_checks (content_in t) action code)
+
+-- this is what it does, where no check refuses it
+abbrev pub IsNoticeEffect : Tabled → ℕ → ℕ → Action → Pulse → Notified → Type 0
+IsNoticeEffect t conn handle action pulse n = effect_in t conn (notify_of handle action pulse) ≡ notice_of handle n
+
+-- where a pulse is to be armed, there is room for it
+abbrev pub HasPulseRoom : Tabled → ℕ → ℕ → Notified → Type 0
+HasPulseRoom t conn handle n = is_some n.pulse ≡ true → CanArm conn handle t.connections

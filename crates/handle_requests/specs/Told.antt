@@ -9,6 +9,10 @@ use Rattle.pps_types.specs.History.{Entry}
 use Rattle.pps_types.specs.Reading.{Open}
 use Rattle.pps_types.specs.Content.{Content, LiveObject, object_numbered, own_handle}
 use Rattle.pps_types.specs.Plan.{entry_of}
+use Rattle.engine_targets.specs.declared.opening.Opening.{Opening}
+use Rattle.service_state.specs.Tables.{Tabled, content_in}
+use Rattle.handle_requests.specs.declared.own.Own.{Own}
+use Rattle.handle_requests.specs.Own.{opened_as}
 
 -- the kind of the record that a close makes of an alive object. drops: it is a critical publisher's
 abbrev pub kind_told : Bool → ℕ → HandleKind → Option Kind
@@ -38,3 +42,17 @@ is_orphan c conn h = option_map_or (λ (o : LiveObject). closes_before c conn h.
 -- the record that its close tells then
 abbrev pub told_behind : {S : Type 0} → Content → ℕ → Open S → Option Entry
 told_behind c conn h = if is_orphan c conn h then None else told_of c h
+
+-- ---- by what the open of a handle fixed
+
+-- the kind of the record of its close
+abbrev pub kind_told_by : Opening → Option Kind
+kind_told_by o = kind_told (o.critical && o.writes) o.number o.kind
+
+-- the record of its close
+abbrev pub own_told : Tabled → Own → Option Entry
+own_told t o = told_of (content_in t) (opened_as t o)
+
+-- and where the connection's handles of lower numbers close before it
+abbrev pub own_told_last : Tabled → ℕ → Own → Option Entry
+own_told_last t conn o = told_behind (content_in t) conn (opened_as t o)

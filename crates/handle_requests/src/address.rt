@@ -1,9 +1,9 @@
 //! Whom the header of a text names.
-ghost use Rattle.std.specs.Prelude.{◌≡◌, ◌++◌, codes, not, false};
-ghost use Rattle.std.specs.Option.{option_copied, option_map_or};
+ghost use Rattle.std.specs.Prelude.{◌≡◌, ◌++◌, codes};
+ghost use Rattle.std.specs.Option.{option_copied};
 ghost use Rattle.pps_types.specs.Bytes as words;
 ghost use Rattle.pps_types.specs.Checks as checking;
-ghost use Rattle.handle_requests.specs.Addressed.{addressee_of};
+ghost use Rattle.handle_requests.specs.Addressed.{addressee_of, is_foreign};
 
 use pps_types::{Bytes, after_prefix, number_up_to};
 
@@ -25,7 +25,7 @@ pub(crate) enum Recipient {
 
 /// Whether there is a header that is not the object's own name.
 pub(crate) fn is_foreign(name: &[u8], header: Option<&Bytes>) -> bool
-    ensures { result ≡ option_map_or (λ h. not (words.same h name.now)) (option_copied header.entry) false }
+    ensures { result ≡ is_foreign name.now (option_copied header.entry) }
 {
     match header {
         None => false,

@@ -1,15 +1,10 @@
 //! Who has to read before more can be written to it.
-ghost use Rattle.std.specs.Prelude.{◌≡◌, ◌==◌, ◌&&◌, ◌++◌, [], is_some, true, not, if◌then◌else◌, find, option_map, option_and_then};
-ghost use Rattle.pps_types.specs.Bytes.{is_empty};
-ghost use Rattle.pps_types.specs.Content as content;
-ghost use Rattle.pps_types.specs.Reading as reading;
-ghost use Rattle.pps_types.specs.Rests as rests;
-ghost use Rattle.pps_types.specs.Checks as checking;
+ghost use Rattle.std.specs.Prelude.{◌≡◌, is_some, true};
+ghost use Rattle.pps_types.specs.Checks.{first_refusal, clients, meant, OneClient};
 ghost use Rattle.pps_types.specs.WellFormed.{IsContent};
-ghost use Rattle.engine_targets.specs.Opened.{number_of};
 ghost use Rattle.service_state.specs.Tables.{content_in};
-ghost use Rattle.handle_requests.specs.Addressed.{addressee_of};
-ghost use Rattle.handle_requests.specs.Backlogs.{is_behind, server_in, server_checks};
+ghost use Rattle.handle_requests.specs.Addressed.{is_client_of, has_client, recipients, recipient_checks};
+ghost use Rattle.handle_requests.specs.Backlogs.{server_in, server_checks, first_backlogged, backlog_checks, message_checks};
 
 use crate::address::Recipient;
 use engine_targets::number_of;
@@ -19,14 +14,14 @@ use service_state::Tables;
 
 // Whether a handle is a client's on the object of that number.
 fn is_client_of(opened: &Opened<'_>, object: ObjId) -> bool
-    ensures { result ≡ (checking.is_client opened.now.opening.now.kind && (number_of opened.now.found == object)) }
+    ensures { result ≡ is_client_of opened.now object }
 {
     matches!(opened.opening.kind, HandleKind::Client) && number_of(opened.found) == object.number()
 }
 
 // Whether an object has an open client of that number.
 fn has_client(tables: &Tables, object: ObjId, id: Handle) -> bool
-    ensures { result ≡ not (is_empty (checking.meant (content_in tables.now) object (checking.OneClient id))) }
+    ensures { result ≡ has_client (content_in tables.now) object id }
 {
     let handles = tables.handles();
     handles.handles_are_placed();
@@ -38,7 +33,7 @@ fn has_client(tables: &Tables, object: ObjId, id: Handle) -> bool
 
 // Why a server's message is refused for the client that it is for.
 fn client_refusal(tables: &Tables, object: ObjId, to: Recipient) -> Option<Refusal>
-    ensures { result ≡ checking.first_refusal (checking.client_checks (content_in tables.now) object (addressee_of to)) }
+    ensures { result ≡ first_refusal (recipient_checks (content_in tables.now) object to) }
 {
     match to {
         Recipient::Everyone => None,
@@ -55,7 +50,7 @@ fn client_refusal(tables: &Tables, object: ObjId, to: Recipient) -> Option<Refus
 // The client of that number, if it is one of that server object and behind.
 fn behind_of_one(tables: &Tables, object: ObjId, id: Handle) -> Option<Handle>
     requires { is_some (server_in (content_in tables.now) object) ≡ true }
-    ensures { result ≡ option_map (λ (h : reading.Open rests.Seen). h.number) (find is_behind (checking.meant (content_in tables.now) object (checking.OneClient id))) }
+    ensures { result ≡ first_backlogged (meant (content_in tables.now) object (OneClient id)) }
 {
     tables.are_tied();
     let handles = tables.handles();
@@ -72,7 +67,7 @@ fn behind_of_one(tables: &Tables, object: ObjId, id: Handle) -> Option<Handle>
 // The first of all clients of a server object that is behind.
 fn behind_of_all(tables: &Tables, object: ObjId) -> Option<Handle>
     requires { is_some (server_in (content_in tables.now) object) ≡ true }
-    ensures { result ≡ option_map (λ (h : reading.Open rests.Seen). h.number) (find is_behind (checking.clients (content_in tables.now) object)) }
+    ensures { result ≡ first_backlogged (clients (content_in tables.now) object) }
 {
     tables.are_tied();
     let handles = tables.handles();
@@ -83,7 +78,7 @@ fn behind_of_all(tables: &Tables, object: ObjId) -> Option<Handle>
 // The first of the clients that a server's message is for that is behind.
 fn behind_of(tables: &Tables, object: ObjId, to: Recipient) -> Option<Handle>
     requires { is_some (server_in (content_in tables.now) object) ≡ true }
-    ensures { result ≡ option_map (λ (h : reading.Open rests.Seen). h.number) (find is_behind (checking.meant (content_in tables.now) object (addressee_of to))) }
+    ensures { result ≡ first_backlogged (recipients (content_in tables.now) object to) }
 {
     match to {
         Recipient::OneClient(id) => behind_of_one(tables, object, Handle::new(id)),
@@ -95,7 +90,7 @@ fn behind_of(tables: &Tables, object: ObjId, to: Recipient) -> Option<Handle>
 #[tactic(auto, using(crate::proofs::Backlogs::first_behind))]
 fn client_backlog(tables: &Tables, object: ObjId, to: Recipient) -> Option<Refusal>
     requires { is_some (server_in (content_in tables.now) object) ≡ true }
-    ensures { result ≡ checking.first_refusal (checking.client_backlog (checking.meant (content_in tables.now) object (addressee_of to))) }
+    ensures { result ≡ first_refusal (backlog_checks (content_in tables.now) object to) }
 {
     match behind_of(tables, object, to) {
         None => None,
@@ -111,8 +106,7 @@ pub(crate) fn message_refusal(
     has_lines: bool,
 ) -> Option<Refusal>
     requires { is_some (server_in (content_in tables.now) object) ≡ true }
-    ensures { result ≡ checking.first_refusal (checking.client_checks (content_in tables.now) object (addressee_of to)
-        ++ (if has_lines then checking.client_backlog (checking.meant (content_in tables.now) object (addressee_of to)) else [])) }
+    ensures { result ≡ first_refusal (message_checks (content_in tables.now) object to has_lines) }
 {
     if let Some(refusal) = client_refusal(tables, object, to) {
         return Some(refusal);
@@ -136,7 +130,7 @@ fn server_of(tables: &Tables, object: ObjId) -> Option<Handle>
 /// Why a client's message with lines is refused: its server has not read enough.
 pub(crate) fn server_backlog(tables: &Tables, object: ObjId, client: Handle) -> Option<Refusal>
     requires { IsContent (content_in tables.now) }
-    ensures { result ≡ checking.first_refusal (server_checks (content_in tables.now) object client) }
+    ensures { result ≡ first_refusal (server_checks (content_in tables.now) object client) }
 {
     tables.are_tied();
     let handles = tables.handles();

@@ -1,15 +1,11 @@
 //! Closing a handle, and all handles of a connection that leaves.
-ghost use Rattle.std.specs.Prelude.{◌≡◌, ◌∷◌, ◌++◌, [], true, None, IfOk, IfErr, OnOk};
-ghost use Rattle.std.specs.List.{flat_map};
+ghost use Rattle.std.specs.Prelude.{◌≡◌, IfOk, IfErr, OnOk};
 ghost use Rattle.pps_types.specs.declared.event.Request.TheVariants.{Close, Detach};
-ghost use Rattle.pps_types.specs.declared.outcome.Outcome.TheVariants.{Done};
-ghost use Rattle.pps_types.specs.Checks as checking;
-ghost use Rattle.pps_types.specs.Plan as planning;
 ghost use Rattle.pps_types.specs.WellFormed.{IsContent};
-ghost use Rattle.service_state.specs.Beginning.{moves_of, AreReady};
+ghost use Rattle.service_state.specs.Beginning.{AreReady};
 ghost use Rattle.service_state.specs.Tables.{content_in};
-ghost use Rattle.service_state.specs.Refused.{Fails, all_request_checks};
-ghost use Rattle.handle_requests.specs.Closed.{moves_in, is_telling, IsReady};
+ghost use Rattle.service_state.specs.Refused.{AllPass, Fails, all_checks_in};
+ghost use Rattle.handle_requests.specs.Closed.{IsReady, TakesMemoryToClose, IsCloseEffect, IsDetachEffect};
 
 use crate::gathering::{close_all, close_behind, is_parked};
 use crate::own::own_handle;
@@ -42,11 +38,11 @@ pub fn close(
 ) -> Result<Closing, Refusal>
     ensures content { content_in tables.new ≡ content_in tables.old }
     ensures names { tables.new.names ≡ tables.old.names }
-    ensures passes { OnOk result (checking.first_refusal (all_request_checks (content_in tables.old) conn (Close handle)) ≡ None) }
-    ensures wants { IfOk result (λ closing. is_telling closing ≡ true → checking.reaches_memory (all_request_checks (content_in tables.old) conn (Close handle)) ≡ true) }
-    ensures does { IfOk result (λ closing. planning.effect (content_in tables.old) conn (Close handle) ≡ (Done, moves_in conn handle closing)) }
+    ensures passes { OnOk result (AllPass (all_checks_in tables.old conn (Close handle))) }
+    ensures wants { IfOk result (λ closing. TakesMemoryToClose tables.old conn handle closing) }
+    ensures does { IfOk result (λ closing. IsCloseEffect tables.old conn handle closing) }
     ensures ready { IfOk result (λ closing. IsReady conn handle tables.new closing) }
-    ensures err { IfErr result (λ r. Fails (all_request_checks (content_in tables.old) conn (Close handle)) r) }
+    ensures err { IfErr result (λ r. Fails (all_checks_in tables.old conn (Close handle)) r) }
 {
     events_are_settled();
     numbers_are_within(tables);
@@ -79,10 +75,10 @@ pub fn detach(tables: &mut Tables, alloc: Global, conn: Conn) -> Result<Vec<Begi
     requires { IsContent (content_in tables.old) }
     ensures content { content_in tables.new ≡ content_in tables.old }
     ensures names { tables.new.names ≡ tables.old.names }
-    ensures passes { OnOk result (checking.first_refusal (all_request_checks (content_in tables.old) conn Detach) ≡ None) }
-    ensures does { IfOk result (λ beginning. planning.effect (content_in tables.old) conn Detach ≡ (Done, flat_map moves_of beginning.items ++ planning.Leaves conn ∷ [])) }
+    ensures passes { OnOk result (AllPass (all_checks_in tables.old conn Detach)) }
+    ensures does { IfOk result (λ beginning. IsDetachEffect tables.old conn beginning.items) }
     ensures ready { IfOk result (λ beginning. AreReady beginning.items tables.new) }
-    ensures err { IfErr result (λ r. Fails (all_request_checks (content_in tables.old) conn Detach) r) }
+    ensures err { IfErr result (λ r. Fails (all_checks_in tables.old conn Detach) r) }
 {
     events_are_settled();
     closes_are_planned();

@@ -1,22 +1,19 @@
 //! Everything of a directory. Its length is told before any memory is taken.
-ghost use Rattle.std.specs.Prelude.{◌≡◌, ◌≢◌, ◌≤◌, ◌++◌, ◌^◌, true, false, Some, length, map, IfOk, IfSome, IfNone};
-ghost use Rattle.std.specs.Option.{option_copied};
-ghost use Rattle.std.specs.List.{filter_map};
-ghost use Rattle.pps_types.specs.Names.{refusal_of};
+ghost use Rattle.std.specs.Prelude.{◌≡◌, ◌≤◌, ◌^◌, true, length, IfOk, IfSome, IfNone};
 ghost use Rattle.pps_types.specs.Reading as reading;
 ghost use Rattle.pps_types.specs.Content.{member};
-ghost use Rattle.pps_types.specs.declared.refusal.Refusal.TheVariants.{OutOfMemory};
 ghost use Rattle.name_table.specs.Standing.{known_of};
-ghost use Rattle.whole_texts.specs.Whole.{everything, print_one, print_opening};
-ghost use Rattle.whole_texts.specs.Answered.{answer_by, meant, refusal_in};
-ghost use Rattle.handle_requests.specs.Directories.{parts_of, directory_source};
-ghost use Rattle.handle_requests.specs.Reads.{takes_memory};
+ghost use Rattle.whole_texts.specs.Whole.{print_opening};
+ghost use Rattle.whole_texts.specs.Answered.{meant};
+ghost use Rattle.handle_requests.specs.Directories.{members_of, part_len, parts_len, everything_len, whole_given, directory_answer};
+ghost use Rattle.handle_requests.specs.Reads.{RefusesAs, LacksMemoryFor};
 
 use name_table::{NamedObject, Objects};
 use pps_filter::Filter;
 use pps_types::{HandleKind, Refusal};
+use server_queue::GivenBlocks;
 use std::alloc::{AllocError, Global};
-use whole_texts::{Answer, Fitted, Member, Whole, read_answer, too_small};
+use whole_texts::{Answer, Member, Whole, read_answer, too_small};
 
 // An alive object.
 fn member_of(object: &NamedObject) -> Member<'_>
@@ -28,8 +25,8 @@ fn member_of(object: &NamedObject) -> Member<'_>
 // The length of an object's part of everything.
 fn part_len(kind: HandleKind, filter: Option<&Filter>, object: &NamedObject) -> Option<usize>
     requires { reading.is_directory_kind kind ≡ true }
-    ensures some { IfSome result (λ len. len ≡ length (print_one kind (option_copied filter.entry) false true (member (known_of object.now)))) }
-    ensures none { IfNone result (2 ^ 64 ≤ length (print_one kind (option_copied filter.entry) false true (member (known_of object.now)))) }
+    ensures some { IfSome result (λ len. len ≡ part_len kind filter.entry object.now) }
+    ensures none { IfNone result (2 ^ 64 ≤ part_len kind filter.entry object.now) }
 {
     let members = [member_of(object)];
     Whole::new(kind, filter, false, true, &members).len()
@@ -38,8 +35,8 @@ fn part_len(kind: HandleKind, filter: Option<&Filter>, object: &NamedObject) -> 
 // The length of the parts of all objects.
 fn parts_len(kind: HandleKind, filter: Option<&Filter>, objects: &Objects<'_>) -> Option<usize>
     requires { reading.is_directory_kind kind ≡ true }
-    ensures some { IfSome result (λ len. len ≡ length (parts_of kind (option_copied filter.entry) objects.now)) }
-    ensures none { IfNone result (2 ^ 64 ≤ length (parts_of kind (option_copied filter.entry) objects.now)) }
+    ensures some { IfSome result (λ len. len ≡ parts_len kind filter.entry objects.now) }
+    ensures none { IfNone result (2 ^ 64 ≤ parts_len kind filter.entry objects.now) }
 {
     let mut total: usize = 0;
     'places: for place in 0..objects.len() {
@@ -68,8 +65,8 @@ fn everything_len(
     objects: &Objects<'_>,
 ) -> Option<usize>
     requires { reading.is_directory_kind kind ≡ true }
-    ensures some { IfSome result (λ len. len ≡ length (everything (directory_source kind (option_copied filter.entry) over objects.now))) }
-    ensures none { IfNone result (2 ^ 64 ≤ length (everything (directory_source kind (option_copied filter.entry) over objects.now))) }
+    ensures some { IfSome result (λ len. len ≡ everything_len kind filter.entry over objects.now) }
+    ensures none { IfNone result (2 ^ 64 ≤ everything_len kind filter.entry over objects.now) }
 {
     let opening = opening_len(kind, filter, over)?;
     let parts = parts_len(kind, filter, objects)?;
@@ -78,7 +75,7 @@ fn everything_len(
 
 // All objects, in their order.
 fn members_of<'a>(alloc: Global, objects: &Objects<'a>) -> Result<Vec<Member<'a>>, AllocError>
-    ensures { IfOk result (λ members. members.items ≡ map member (filter_map (λ o. o) objects.now)) }
+    ensures { IfOk result (λ members. members.items ≡ members_of objects.now) }
 {
     let mut members = Vec::new(alloc);
     'places: for place in 0..objects.len() {
@@ -100,9 +97,10 @@ fn everything_of(
     size: u32,
 ) -> Result<Vec<u8>, Refusal>
     requires { reading.is_directory_kind kind ≡ true }
-    ensures ok { IfOk result (λ given. reading.Everything given.items ≡ reading.whole_answer (everything (directory_source kind (option_copied filter.entry) over objects.now)) size) }
-    ensures refusal { refusal_of result ≢ Some OutOfMemory → refusal_of result ≡ refusal_in (reading.whole_answer (everything (directory_source kind (option_copied filter.entry) over objects.now)) size) }
-    ensures memory { refusal_of result ≡ Some OutOfMemory → takes_memory (reading.whole_answer (everything (directory_source kind (option_copied filter.entry) over objects.now)) size) ≡ true }
+    ensures ok { IfOk result (λ given. reading.Everything given.items
+        ≡ whole_given kind filter.entry over objects.now size) }
+    ensures refusal { RefusesAs result (whole_given kind filter.entry over objects.now size) }
+    ensures memory { LacksMemoryFor result (whole_given kind filter.entry over objects.now size) }
 {
     let Some(len) = everything_len(kind, filter, over, objects) else {
         return Err(Refusal::OutOfMemory);
@@ -127,12 +125,15 @@ pub(crate) fn answer_of(
     objects: &Objects<'_>,
     waits: bool,
     size: u32,
-    owed: Option<Fitted>,
+    owed: Option<GivenBlocks>,
 ) -> Result<Answer, Refusal>
     requires { reading.is_directory_kind kind ≡ true }
-    ensures ok { IfOk result (λ a. meant a ≡ answer_by (directory_source kind (option_copied filter.entry) over objects.now) waits size owed) }
-    ensures refusal { refusal_of result ≢ Some OutOfMemory → refusal_of result ≡ refusal_in (answer_by (directory_source kind (option_copied filter.entry) over objects.now) waits size owed) }
-    ensures memory { refusal_of result ≡ Some OutOfMemory → takes_memory (answer_by (directory_source kind (option_copied filter.entry) over objects.now) waits size owed) ≡ true }
+    ensures ok { IfOk result (λ a. meant a
+        ≡ directory_answer kind filter.entry over objects.now waits size owed) }
+    ensures refusal { RefusesAs result
+        (directory_answer kind filter.entry over objects.now waits size owed) }
+    ensures memory { LacksMemoryFor result
+        (directory_answer kind filter.entry over objects.now waits size owed) }
 {
     match owed {
         None => match everything_of(alloc, kind, filter, over, objects, size) {

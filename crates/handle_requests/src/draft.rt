@@ -1,19 +1,14 @@
 //! What a text comes to that is written, before the limits of its object are looked at.
-ghost use Rattle.std.specs.Prelude.{◌≡◌, ◌≤◌, [], true, None, Ok, IfOk, IfErr, OnOk, is_some, length, map};
-ghost use Rattle.pps_types.specs.declared.event.Request.TheVariants.{Write};
-ghost use Rattle.pps_types.specs.Text as words;
-ghost use Rattle.pps_types.specs.History as history;
-ghost use Rattle.pps_types.specs.Reading as reading;
-ghost use Rattle.pps_types.specs.Content as content;
-ghost use Rattle.pps_types.specs.Checks as checking;
-ghost use Rattle.pps_types.specs.Plan as planning;
+ghost use Rattle.std.specs.Prelude.{◌≡◌, ◌≤◌, [], true, Ok, IfOk, IfErr, OnOk, is_some, length};
+ghost use Rattle.pps_types.specs.Text.{write_text};
+ghost use Rattle.pps_types.specs.Checks.{first_refusal, parsed, own_header};
 ghost use Rattle.pps_types.specs.WellFormed.{IsContent};
 ghost use Rattle.service_laws.specs.Bounds.{IsBound};
-ghost use Rattle.name_table.specs.Standing.{known_of};
 ghost use Rattle.service_state.specs.Tables.{content_in};
-ghost use Rattle.service_state.specs.Refused.{Fails, all_request_checks};
+ghost use Rattle.service_state.specs.Refused.{AllPass, Fails};
 ghost use Rattle.handle_requests.specs.Backlogs.{server_in};
-ghost use Rattle.handle_requests.specs.Writes.{author_of, checks_by, kind_by, server_text_checks, client_text_checks, late_refusal, FailsLate, IsAuthor, IsDrafted, IsDraft};
+ghost use Rattle.handle_requests.specs.Writes.{FailsLate, IsAuthor, IsDraft};
+ghost use Rattle.handle_requests.specs.Drafting.{write_checks_in, server_checks_by, client_checks_by, writer_checks, bytes_checks, change_by, server_message, client_message, writer_kind, LeavesLimits, IsDraftBy};
 
 use crate::address::{addressee, is_foreign};
 use crate::backlog::{message_refusal, server_backlog};
@@ -37,9 +32,9 @@ pub(crate) struct Draft {
 
 // What a write through an object's handle comes to.
 fn object_kind(name: &[u8], object: &NamedObject, text: WriteText) -> Result<Kind, Refusal>
-    ensures passes { OnOk result (checking.first_refusal (checking.own_header name.now text.header) ≡ None) }
-    ensures does { IfOk result (λ kind. kind ≡ Kind.Change (history.resolve object.now.held.attributes text.lines)) }
-    ensures err { IfErr result (λ r. FailsLate (checking.own_header name.now text.header) r) }
+    ensures passes { OnOk result (AllPass (own_header name.now text.header)) }
+    ensures does { IfOk result (λ kind. kind ≡ change_by object.now text) }
+    ensures err { IfErr result (λ r. FailsLate (own_header name.now text.header) r) }
 {
     let (header, lines) = text.into_parts();
     if is_foreign(name, header.as_ref()) {
@@ -58,9 +53,10 @@ fn server_kind(
     text: WriteText,
 ) -> Result<Kind, Refusal>
     requires { is_some (server_in (content_in tables.now) object) ≡ true }
-    ensures passes { OnOk result (checking.first_refusal (server_text_checks (content_in tables.now) name.now object text) ≡ None) }
-    ensures does { IfOk result (λ kind. kind ≡ planning.sent (checking.addressee name.now text.header) (map history.message_line text.lines)) }
-    ensures err { IfErr result (λ r. FailsLate (server_text_checks (content_in tables.now) name.now object text) r) }
+    ensures passes { OnOk result (AllPass (server_checks_by tables.now name.now object text)) }
+    ensures does { IfOk result (λ kind. kind ≡ server_message name.now text) }
+    ensures err { IfErr result
+        (λ r. FailsLate (server_checks_by tables.now name.now object text) r) }
 {
     let (header, lines) = text.into_parts();
     let to = addressee(name, header.as_ref());
@@ -80,7 +76,7 @@ fn client_refusal(
     text: &WriteText,
 ) -> Option<Refusal>
     requires { IsContent (content_in tables.now) }
-    ensures { result ≡ checking.first_refusal (client_text_checks (content_in tables.now) handle name.now object text.now) }
+    ensures { result ≡ first_refusal (client_checks_by tables.now handle name.now object text.now) }
 {
     if is_foreign(name, text.header()) {
         return Some(Refusal::BadText { line: 1 });
@@ -101,9 +97,11 @@ fn client_kind(
     text: WriteText,
 ) -> Result<Kind, Refusal>
     requires { IsContent (content_in tables.now) }
-    ensures passes { OnOk result (checking.first_refusal (client_text_checks (content_in tables.now) handle name.now object text) ≡ None) }
-    ensures does { IfOk result (λ kind. kind ≡ Kind.FromClient handle (map history.message_line text.lines)) }
-    ensures err { IfErr result (λ r. FailsLate (client_text_checks (content_in tables.now) handle name.now object text) r) }
+    ensures passes { OnOk result
+        (AllPass (client_checks_by tables.now handle name.now object text)) }
+    ensures does { IfOk result (λ kind. kind ≡ client_message handle text) }
+    ensures err { IfErr result
+        (λ r. FailsLate (client_checks_by tables.now handle name.now object text) r) }
 {
     if let Some(refusal) = client_refusal(tables, handle, name, object, &text) {
         return Err(refusal);
@@ -122,9 +120,9 @@ fn kind_of(
 ) -> Result<Kind, Refusal>
     requires content { IsContent (content_in tables.now) }
     requires author { IsAuthor (content_in tables.now) writer.now }
-    ensures passes { IfOk result (λ kind. checking.first_refusal (checks_by (content_in tables.now) (author_of writer.now) writer.now.kind text) ≡ late_refusal (content_in tables.now) writer.now.object.now.object.number kind) }
-    ensures does { IfOk result (λ kind. kind ≡ kind_by (content_in tables.now) (author_of writer.now) writer.now.kind text) }
-    ensures err { IfErr result (λ r. FailsLate (checks_by (content_in tables.now) (author_of writer.now) writer.now.kind text) r) }
+    ensures passes { IfOk result (λ kind. LeavesLimits tables.now writer.now text kind) }
+    ensures does { IfOk result (λ kind. kind ≡ writer_kind tables.now writer.now text) }
+    ensures err { IfErr result (λ r. FailsLate (writer_checks tables.now writer.now text) r) }
 {
     let object = writer.object.number();
     match writer.kind {
@@ -139,8 +137,8 @@ fn kind_of(
 // What a text says that is not too large.
 fn read(alloc: Global, bytes: &Bytes) -> Result<WriteText, Refusal>
     requires { length bytes.now ≤ WRITE_LIMIT }
-    ensures ok { IfOk result (λ text. words.write_text bytes.now ≡ Ok text) }
-    ensures err { IfErr result (λ r. FailsLate (checking.parsed (words.write_text bytes.now) (λ text. [])) r) }
+    ensures ok { IfOk result (λ text. write_text bytes.now ≡ Ok text) }
+    ensures err { IfErr result (λ r. FailsLate (parsed (write_text bytes.now) (λ text. [])) r) }
 {
     read_write(alloc, bytes.as_slice())
 }
@@ -155,8 +153,8 @@ fn draft_of(
     requires content { IsContent (content_in tables.now) }
     requires author { IsAuthor (content_in tables.now) writer.now }
     requires short { length bytes.now ≤ WRITE_LIMIT }
-    ensures ok { IfOk result (λ d. IsDrafted (content_in tables.now) (author_of writer.now) writer.now.kind bytes.now d) }
-    ensures err { IfErr result (λ r. FailsLate (checking.parsed (words.write_text bytes.now) (checks_by (content_in tables.now) (author_of writer.now) writer.now.kind)) r) }
+    ensures ok { IfOk result (λ d. IsDraftBy tables.now writer.now bytes.now d) }
+    ensures err { IfErr result (λ r. FailsLate (bytes_checks tables.now writer.now bytes.now) r) }
 {
     let text = match read(alloc, bytes) {
         Err(refusal) => return Err(refusal),
@@ -185,7 +183,7 @@ pub(crate) fn drafted(
     requires content { IsContent (content_in tables.now) }
     requires bound { IsBound (content_in tables.now) }
     ensures ok { IfOk result (λ d. IsDraft (content_in tables.now) conn handle bytes.now d) }
-    ensures err { IfErr result (λ r. Fails (all_request_checks (content_in tables.now) conn (Write handle bytes.now)) r) }
+    ensures err { IfErr result (λ r. Fails (write_checks_in tables.now conn handle bytes.now) r) }
 {
     let writer = match writer_of(tables, conn, handle, bytes) {
         Err(refusal) => return Err(refusal),

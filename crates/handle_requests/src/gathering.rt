@@ -1,11 +1,10 @@
 //! What closing handles begin with, one after the other.
-ghost use Rattle.std.specs.Prelude.{◌≡◌, ◌++◌, Some, map, is_some, IfOk, IfSome, OnOk};
-ghost use Rattle.std.specs.List.{AllByRecursion, flat_map};
-ghost use Rattle.pps_types.specs.Content as content;
+ghost use Rattle.std.specs.Prelude.{◌≡◌, Some, map, is_some, IfOk, OnOk};
 ghost use Rattle.notify_box.specs.Connections.{AreOwned};
-ghost use Rattle.service_state.specs.Beginning.{IsSharedBy, entries_in};
+ghost use Rattle.service_state.specs.Beginning.{entries_in};
 ghost use Rattle.service_state.specs.Tables.{content_in};
-ghost use Rattle.handle_requests.specs.Begun.{bare, telling, begun, begun_behind};
+ghost use Rattle.handle_requests.specs.Own.{IfOwn};
+ghost use Rattle.handle_requests.specs.Begun.{bare, telling, begun, begun_behind, begun_by, Adds, AreShared, KeepsShares};
 
 use crate::own::own_handle;
 use crate::told::told_behind;
@@ -17,7 +16,7 @@ use std::alloc::{AllocError, Global};
 
 /// Whether a read waits on the connection's own handle of that number.
 pub(crate) fn is_parked(tables: &Tables, conn: Conn, handle: Handle) -> bool
-    ensures { IfSome (content.own_handle (content_in tables.now) conn handle) (λ h. result ≡ is_some h.parked) }
+    ensures { IfOwn tables.now conn handle (λ h. result ≡ is_some h.parked) }
 {
     let handles = tables.handles();
     handles.handles_are_placed();
@@ -32,8 +31,9 @@ pub fn tell(
     alloc: Global,
     entry: Entry,
 ) -> Result<(), AllocError>
-    ensures begun { OnOk result (map bare beginning.new.items ≡ map bare beginning.old.items ++ telling (Some entry)) }
-    ensures shared { OnOk result (AllByRecursion (IsSharedBy tables.now.handles) beginning.old.items → AllByRecursion (IsSharedBy tables.now.handles) beginning.new.items) }
+    ensures begun { OnOk result
+        (Adds beginning.old.items beginning.new.items (telling (Some entry))) }
+    ensures shared { OnOk result (KeepsShares tables.now beginning.old.items beginning.new.items) }
 {
     let told = tables.handles().shares(alloc, entry)?;
     beginning.push(Beginning::AppendsRecord(told))?;
@@ -51,8 +51,9 @@ pub(crate) fn close_behind(
     is_parked: bool,
     told: Option<Entry>,
 ) -> Result<(), AllocError>
-    ensures begun { OnOk result (map bare beginning.new.items ≡ map bare beginning.old.items ++ begun conn handle is_parked told) }
-    ensures shared { OnOk result (AllByRecursion (IsSharedBy tables.now.handles) beginning.old.items → AllByRecursion (IsSharedBy tables.now.handles) beginning.new.items) }
+    ensures begun { OnOk result
+        (Adds beginning.old.items beginning.new.items (begun conn handle is_parked told)) }
+    ensures shared { OnOk result (KeepsShares tables.now beginning.old.items beginning.new.items) }
 {
     beginning.push(Beginning::Closes {
         conn,
@@ -73,8 +74,9 @@ fn close_own(
     conn: Conn,
     handle: Handle,
 ) -> Result<(), AllocError>
-    ensures begun { OnOk result (map bare beginning.new.items ≡ map bare beginning.old.items ++ begun_behind (content_in tables.now) conn handle) }
-    ensures shared { OnOk result (AllByRecursion (IsSharedBy tables.now.handles) beginning.old.items → AllByRecursion (IsSharedBy tables.now.handles) beginning.new.items) }
+    ensures begun { OnOk result (Adds beginning.old.items beginning.new.items
+        (begun_behind (content_in tables.now) conn handle)) }
+    ensures shared { OnOk result (KeepsShares tables.now beginning.old.items beginning.new.items) }
 {
     let Some(own) = own_handle(tables, conn, handle) else {
         return Ok(());
@@ -91,8 +93,8 @@ pub(crate) fn close_all(
     conn: Conn,
 ) -> Result<Vec<Beginning>, AllocError>
     requires { AreOwned (content_in tables.now) }
-    ensures begun { IfOk result (λ beginning. map bare beginning.items ≡ flat_map (begun_behind (content_in tables.now) conn) (map (λ h. h.number) (content.handles_of (content_in tables.now) conn))) }
-    ensures shared { IfOk result (λ beginning. AllByRecursion (IsSharedBy tables.now.handles) beginning.items) }
+    ensures begun { IfOk result (λ beginning. map bare beginning.items ≡ begun_by tables.now conn) }
+    ensures shared { IfOk result (λ beginning. AreShared tables.now beginning.items) }
 {
     connections_are_found();
     tables.are_tied();

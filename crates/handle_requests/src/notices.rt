@@ -1,18 +1,13 @@
 //! Notices, as `ionotify` of the QNX C library gives and arms them.
-ghost use Rattle.std.specs.Prelude.{◌≡◌, true, false, nat_lt, Some, None, is_some, option_map, IfOk, IfErr, IfSome, OnOk, if◌then◌else◌};
+ghost use Rattle.std.specs.Prelude.{◌≡◌, true, false, nat_lt, Some, IfOk, IfErr, OnOk};
 ghost use Rattle.pps_types.specs.declared.event.Action.{Action as ActionAsked};
-ghost use Rattle.pps_types.specs.Reading as reading;
-ghost use Rattle.pps_types.specs.Rests as rests;
 ghost use Rattle.pps_types.specs.Content as content;
-ghost use Rattle.pps_types.specs.Checks as checking;
-ghost use Rattle.pps_types.specs.Plan as planning;
 ghost use Rattle.pps_types.specs.Outbox.{arms};
-ghost use Rattle.engine_targets.specs.Opened.{armed_pulse};
 ghost use Rattle.notify_box.specs.Connections.{AreOwned};
-ghost use Rattle.notify_box.specs.Standing.{CanArm};
 ghost use Rattle.service_state.specs.Tables.{content_in};
-ghost use Rattle.service_state.specs.Refused.{Fails};
-ghost use Rattle.handle_requests.specs.Notices.{notify_of, notice_of, IsNoticed};
+ghost use Rattle.service_state.specs.Refused.{AllPass, RefusedBy, Fails};
+ghost use Rattle.handle_requests.specs.Own.{own_reads, own_news, IfOwn};
+ghost use Rattle.handle_requests.specs.Notices.{notice_checks, code_checks, IsNoticed, IsNoticeEffect, HasPulseRoom};
 
 use crate::own::own_asked;
 use engine_targets::Pulse;
@@ -44,11 +39,11 @@ fn does_arm(action: Action, news: bool) -> bool
 
 // Whether a handle has news, where it can be asked for notices, with a pulse of that code.
 fn check_asked(tables: &Tables, conn: Conn, handle: Handle, code: u8) -> Result<bool, Refusal>
-    ensures reads { OnOk result (option_map (λ (h : reading.Open rests.Seen). h.reads) (content.own_handle (content_in tables.now) conn handle) ≡ Some true) }
-    ensures news { IfOk result (λ news. IfSome (content.own_handle (content_in tables.now) conn handle) (λ h. news ≡ content.news h)) }
+    ensures reads { OnOk result (own_reads tables.now conn handle ≡ Some true) }
+    ensures news { IfOk result (λ news. IfOwn tables.now conn handle (λ h. news ≡ content.news h)) }
     ensures code { OnOk result (nat_lt 127 code ≡ false) }
     ensures err { IfErr result (λ r. (action : ActionAsked)
-        → checking.first_refusal (checking.on_handle (content_in tables.now) conn handle (checking.notify_checks (content_in tables.now) action code)) ≡ Some r) }
+        → RefusedBy (code_checks tables.now conn handle action code) r) }
 {
     let Some(asked) = own_asked(tables, conn, handle) else {
         return Err(Refusal::BadHandle);
@@ -71,7 +66,8 @@ fn noticed(
     pulse: Pulse,
 ) -> Result<Notified, Refusal>
     ensures ok { IfOk result (λ n. IsNoticed (content_in tables.now) conn handle action pulse n) }
-    ensures err { IfErr result (λ r. checking.first_refusal (checking.request_checks (content_in tables.now) conn (notify_of handle action pulse)) ≡ Some r) }
+    ensures err { IfErr result
+        (λ r. RefusedBy (notice_checks tables.now conn handle action pulse) r) }
 {
     let news = check_asked(tables, conn, handle, pulse.code)?;
     let pulse = if does_arm(action, news) {
@@ -99,11 +95,11 @@ pub fn notify(
     ensures content { content_in tables.new ≡ content_in tables.old }
     ensures names { tables.new.names ≡ tables.old.names }
     ensures handles { tables.new.handles ≡ tables.old.handles }
-    ensures passes { OnOk result (checking.first_refusal (checking.request_checks (content_in tables.old) conn (notify_of handle action pulse)) ≡ None) }
-    ensures news { IfOk result (λ n. option_map content.news (content.own_handle (content_in tables.old) conn handle) ≡ Some n.news) }
-    ensures does { IfOk result (λ n. planning.effect (content_in tables.old) conn (notify_of handle action pulse) ≡ notice_of handle n) }
-    ensures room { IfOk result (λ n. is_some n.pulse ≡ true → CanArm conn handle tables.new.connections) }
-    ensures err { IfErr result (λ r. Fails (checking.request_checks (content_in tables.old) conn (notify_of handle action pulse)) r) }
+    ensures passes { OnOk result (AllPass (notice_checks tables.old conn handle action pulse)) }
+    ensures news { IfOk result (λ n. own_news tables.old conn handle ≡ Some n.news) }
+    ensures does { IfOk result (λ n. IsNoticeEffect tables.old conn handle action pulse n) }
+    ensures room { IfOk result (λ n. HasPulseRoom tables.new conn handle n) }
+    ensures err { IfErr result (λ r. Fails (notice_checks tables.old conn handle action pulse) r) }
 {
     let notified = noticed(tables, conn, handle, action, pulse)?;
     if notified.pulse.is_some() {

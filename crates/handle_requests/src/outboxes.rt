@@ -1,13 +1,12 @@
 //! Attaching, and what is received.
-ghost use Rattle.std.specs.Prelude.{◌≡◌, ◌≤◌, ◌<◌, ◌&&◌, nat_le, false, None, IfOk, IfErr, OnOk};
+ghost use Rattle.std.specs.Prelude.{◌≡◌, ◌≤◌, ◌<◌, ◌&&◌, nat_le, false, IfOk, IfErr, OnOk};
 ghost use Rattle.std.specs.Option.{option_copied};
 ghost use Rattle.pps_types.specs.declared.event.Request.TheVariants.{Receive};
 ghost use Rattle.pps_types.specs.Content as content;
-ghost use Rattle.pps_types.specs.Checks as checking;
-ghost use Rattle.pps_types.specs.Plan as planning;
+ghost use Rattle.pps_types.specs.Checks.{attach_checks};
 ghost use Rattle.pps_types.specs.Outbox.{empty_outbox, first_of};
 ghost use Rattle.service_state.specs.Tables.{content_in};
-ghost use Rattle.service_state.specs.Refused.{Fails};
+ghost use Rattle.service_state.specs.Refused.{AllPass, Fails, checks_in, effect_in};
 
 use notify_box::{Outbox, connections_are_found};
 use pps_types::{Conn, Item, Outcome, Refusal};
@@ -29,13 +28,13 @@ pub fn attach(tables: &mut Tables, alloc: Global, conn: Conn) -> Result<Outbox, 
     ensures content { content_in tables.new ≡ content_in tables.old }
     ensures names { tables.new.names ≡ tables.old.names }
     ensures handles { tables.new.handles ≡ tables.old.handles }
-    ensures passes { OnOk result (checking.first_refusal (checking.attach_checks (content_in tables.old) conn) ≡ None) }
+    ensures passes { OnOk result (AllPass (attach_checks (content_in tables.old) conn)) }
     ensures low { OnOk result (1 ≤ conn) }
     ensures high { OnOk result (conn < 1025) }
     ensures absent { OnOk result (content.is_attached (content_in tables.old) conn ≡ false) }
     ensures empty { IfOk result (λ outbox. outbox.outbox ≡ empty_outbox) }
     ensures room { OnOk result (0 < tables.new.connections.room) }
-    ensures err { IfErr result (λ r. Fails (checking.attach_checks (content_in tables.old) conn) r) }
+    ensures err { IfErr result (λ r. Fails (attach_checks (content_in tables.old) conn) r) }
 {
     if !is_connection_number(conn) {
         return Err(Refusal::BadArgument);
@@ -61,9 +60,9 @@ fn first_item(tables: &Tables, conn: Conn) -> Option<&Item>
 ///
 /// OutOfMemory is the only error, and comes only where the item has bytes.
 pub fn receive(tables: &Tables, conn: Conn) -> Result<Outcome, Refusal>
-    ensures passes { checking.first_refusal (checking.request_checks (content_in tables.now) conn Receive) ≡ None }
-    ensures ok { IfOk result (λ outcome. outcome ≡ (planning.effect (content_in tables.now) conn Receive).0) }
-    ensures err { IfErr result (λ r. Fails (checking.request_checks (content_in tables.now) conn Receive) r) }
+    ensures passes { AllPass (checks_in tables.now conn Receive) }
+    ensures ok { IfOk result (λ outcome. outcome ≡ (effect_in tables.now conn Receive).0) }
+    ensures err { IfErr result (λ r. Fails (checks_in tables.now conn Receive) r) }
 {
     match first_item(tables, conn) {
         None => Ok(Outcome::Empty),

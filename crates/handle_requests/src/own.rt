@@ -1,12 +1,9 @@
 //! The handles of a connection.
 ghost use Rattle.std.specs.Prelude.{◌≡◌, option_map, IfSome};
-ghost use Rattle.pps_types.specs.Content as content;
 ghost use Rattle.std.specs.Option.{option_copied};
 ghost use Rattle.pps_types.specs.Reading as reading;
-ghost use Rattle.engine_targets.specs.Opened.{as_opened, number_of};
-ghost use Rattle.service_state.specs.Tables.{content_in};
-ghost use Rattle.handle_requests.specs.declared.own.Asked.{Asked as AskedOf};
-ghost use Rattle.handle_requests.specs.Own.{opened_as};
+ghost use Rattle.engine_targets.specs.Opened.{number_of};
+ghost use Rattle.handle_requests.specs.Own.{opened_as, asked_opened, own_opened};
 ghost use Rattle.handle_requests.specs.Asked.{IsAsked};
 
 use engine_servers::Seats;
@@ -96,7 +93,7 @@ impl<'a> Own<'a> {
 
 /// The open handle of that number, where it is the connection's. It takes no memory.
 pub fn own_handle(tables: &Tables, conn: Conn, handle: Handle) -> Option<Own<'_>>
-    ensures { option_map (opened_as tables.now) result ≡ option_map as_opened (content.own_handle (content_in tables.now) conn handle) }
+    ensures { option_map (opened_as tables.now) result ≡ own_opened tables.now conn handle }
 {
     let handles = tables.handles();
     handles.handles_are_placed();
@@ -115,15 +112,15 @@ pub fn own_handle(tables: &Tables, conn: Conn, handle: Handle) -> Option<Own<'_>
 /// An open handle of a connection, and what was seen of it at one look: the handles on what it is on, and what stands of
 /// the handle itself.
 #[derive(Drop)]
-pub(crate) struct Asked<'a> {
+pub(crate) struct SeenHandle<'a> {
     pub(crate) own: Own<'a>,
     pub(crate) seats: &'a Seats,
     pub(crate) glance: Glance<'a>,
 }
 
 /// The open handle of that number, where it is the connection's, with all that is asked of it. It takes no memory.
-pub(crate) fn own_asked(tables: &Tables, conn: Conn, handle: Handle) -> Option<Asked<'_>>
-    ensures own { option_map (λ (a : AskedOf). opened_as tables.now a.own) result ≡ option_map as_opened (content.own_handle (content_in tables.now) conn handle) }
+pub(crate) fn own_asked(tables: &Tables, conn: Conn, handle: Handle) -> Option<SeenHandle<'_>>
+    ensures own { asked_opened tables.now result ≡ own_opened tables.now conn handle }
     ensures known { IfSome result (IsAsked tables.now conn handle) }
 {
     let handles = tables.handles();
@@ -135,7 +132,7 @@ pub(crate) fn own_asked(tables: &Tables, conn: Conn, handle: Handle) -> Option<A
     if opening.connection != conn {
         return None;
     }
-    Some(Asked {
+    Some(SeenHandle {
         own: Own {
             found: looked.found,
             opening,

@@ -1,25 +1,18 @@
 //! Reads: their checks in their order, what they answer, and what they leave of their handle.
-ghost use Rattle.std.specs.Prelude.{◌≡◌, ◌&&◌, ◌∷◌, [], ℕ, true, false, not, nat_le, None, Some, IfOk, IfErr, OnOk, IfSome, option_map};
+ghost use Rattle.std.specs.Prelude.{◌≡◌, ◌&&◌, true, nat_le, None, Some, IfOk, IfErr, OnOk};
 ghost use Rattle.pps_types.specs.declared.event.Request.TheVariants.{Read};
 ghost use Rattle.pps_types.specs.declared.outcome.Outcome.TheVariants.{Data};
 ghost use Rattle.pps_types.specs.declared.refusal.Refusal.TheVariants.{OutOfMemory};
-ghost use Rattle.pps_types.specs.Reading as reading;
-ghost use Rattle.pps_types.specs.Rests as rests;
-ghost use Rattle.pps_types.specs.Content as content;
-ghost use Rattle.pps_types.specs.Checks as checking;
-ghost use Rattle.pps_types.specs.Plan as planning;
 ghost use Rattle.service_laws.specs.Bounds.{IsBound};
 ghost use Rattle.notify_box.specs.Connections.{AreOwned};
-ghost use Rattle.notify_box.specs.Standing.{CanPark};
-ghost use Rattle.whole_texts.specs.Answered.{meant, moves_of};
-ghost use Rattle.whole_texts.specs.declared.answer.Effect.TheVariants.{Parks};
+ghost use Rattle.whole_texts.specs.Answered.{meant};
 ghost use Rattle.service_state.specs.Tables.{content_in};
-ghost use Rattle.handle_requests.specs.Own.{IsOwn};
+ghost use Rattle.handle_requests.specs.Own.{IsOwn, IfOwn};
 ghost use Rattle.handle_requests.specs.Asked.{IsAsked};
-ghost use Rattle.service_state.specs.Refused.{Fails};
-ghost use Rattle.handle_requests.specs.Reads.{IsAnswered, text_in, waits};
+ghost use Rattle.service_state.specs.Refused.{AllPass, RefusedBy, TakesMemory, Fails, checks_in, parked_in};
+ghost use Rattle.handle_requests.specs.Reads.{IsAnswered, text_in, waits, IsReadEffect, HasReadRoom};
 
-use crate::own::{Asked, own_asked};
+use crate::own::{SeenHandle, own_asked};
 use crate::sources::{answer_of_directory, answer_of_object};
 use pps_types::{Conn, Handle, Outcome, Refusal, SharedBytes};
 use service_state::Tables;
@@ -43,13 +36,18 @@ fn is_read_size(size: u32) -> bool
 }
 
 // The connection's own handle, where a read of that size may be asked of it.
-fn check_asked(tables: &Tables, conn: Conn, handle: Handle, size: u32) -> Result<Asked<'_>, Refusal>
+fn check_asked(
+    tables: &Tables,
+    conn: Conn,
+    handle: Handle,
+    size: u32,
+) -> Result<SeenHandle<'_>, Refusal>
     ensures own { IfOk result (λ asked. IsOwn tables.now conn handle asked.own) }
     ensures known { IfOk result (IsAsked tables.now conn handle) }
     ensures reads { IfOk result (λ asked. asked.own.opening.now.reads ≡ true) }
     ensures size { OnOk result ((nat_le 1 size && nat_le size 17000000) ≡ true) }
-    ensures free { OnOk result (IfSome (content.own_handle (content_in tables.now) conn handle) (λ h. h.parked ≡ None)) }
-    ensures err { IfErr result (λ r. checking.first_refusal (checking.request_checks (content_in tables.now) conn (Read handle size)) ≡ Some r) }
+    ensures free { OnOk result (IfOwn tables.now conn handle (λ h. h.parked ≡ None)) }
+    ensures err { IfErr result (λ r. RefusedBy (checks_in tables.now conn (Read handle size)) r) }
 {
     let Some(asked) = own_asked(tables, conn, handle) else {
         return Err(Refusal::BadHandle);
@@ -76,7 +74,7 @@ fn answer_to(
 ) -> Result<Answer, Refusal>
     requires { IsBound (content_in tables.now) }
     ensures ok { IfOk result (λ a. IsAnswered (content_in tables.now) conn handle size (meant a)) }
-    ensures err { IfErr result (λ r. Fails (checking.request_checks (content_in tables.now) conn (Read handle size)) r) }
+    ensures err { IfErr result (λ r. Fails (checks_in tables.now conn (Read handle size)) r) }
 {
     let asked = match check_asked(tables, conn, handle, size) {
         Err(refusal) => return Err(refusal),
@@ -139,12 +137,12 @@ pub fn read(
     ensures content { content_in tables.new ≡ content_in tables.old }
     ensures names { tables.new.names ≡ tables.old.names }
     ensures handles { tables.new.handles ≡ tables.old.handles }
-    ensures passes { OnOk result (checking.first_refusal (checking.request_checks (content_in tables.old) conn (Read handle size)) ≡ None) }
-    ensures wants { OnOk result (checking.reaches_memory (checking.request_checks (content_in tables.old) conn (Read handle size)) ≡ true) }
-    ensures free { OnOk result (option_map (λ (h : reading.Open rests.Seen). h.parked) (content.own_handle (content_in tables.old) conn handle) ≡ Some None) }
-    ensures does { IfOk result (λ d. planning.effect (content_in tables.old) conn (Read handle size) ≡ (d.reply, moves_of handle d.effect)) }
-    ensures room { IfOk result (λ d. (asked : ℕ) → d.effect ≡ Parks asked → CanPark conn handle tables.new.connections) }
-    ensures err { IfErr result (λ r. Fails (checking.request_checks (content_in tables.old) conn (Read handle size)) r) }
+    ensures passes { OnOk result (AllPass (checks_in tables.old conn (Read handle size))) }
+    ensures wants { OnOk result (TakesMemory (checks_in tables.old conn (Read handle size))) }
+    ensures free { OnOk result (parked_in tables.old conn handle ≡ Some None) }
+    ensures does { IfOk result (λ d. IsReadEffect tables.old conn handle size d) }
+    ensures room { IfOk result (λ d. HasReadRoom tables.new conn handle d) }
+    ensures err { IfErr result (λ r. Fails (checks_in tables.old conn (Read handle size)) r) }
 {
     let answer = answer_to(tables, alloc, conn, handle, size)?;
     let effect = answer.effect(size);

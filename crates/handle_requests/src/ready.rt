@@ -1,15 +1,12 @@
 //! The memory that a write takes ahead.
-ghost use Rattle.std.specs.Prelude.{◌≡◌, ◌⊎◌, ◌+◌, ◌<◌, ◌^◌, ◌∷◌, [], true, false, Some, None, IfOk, IfErr, OnOk, IfSome, is_some, option_map};
+ghost use Rattle.std.specs.Prelude.{◌≡◌, ◌+◌, ◌<◌, ◌^◌, [], true, false, IfOk, IfErr, OnOk, IfSome, is_some};
 ghost use Rattle.std.specs.List.{flat_map};
-ghost use Rattle.pps_types.specs.declared.refusal.Refusal.TheVariants.{OutOfMemory, TableFull};
-ghost use Rattle.pps_types.specs.History as history;
-ghost use Rattle.pps_types.specs.Content as content;
-ghost use Rattle.pps_types.specs.Plan as planning;
-ghost use Rattle.name_table.specs.Standing.{known_of, placed_at};
 ghost use Rattle.service_state.specs.Tables.{content_in};
 ghost use Rattle.service_state.specs.Beginning.{moves_of, AreReady};
 ghost use Rattle.service_state.specs.Lines.{HasLines};
-ghost use Rattle.handle_requests.specs.Writes.{late_refusal, HasLinesAt, told_by, tells, is_past};
+ghost use Rattle.service_state.specs.Refused.{live_object_in, IsKnownIn};
+ghost use Rattle.handle_requests.specs.Writes.{told_by, tells, is_past};
+ghost use Rattle.handle_requests.specs.Drafting.{AllowsDraft, RefusesDraft, HasDraftLines, KeepsLines, IsLast, RefusesRecord};
 
 use crate::draft::Draft;
 use pps_types::{Handle, Kind, ObjId, Refusal};
@@ -19,7 +16,7 @@ use std::alloc::{AllocError, Global};
 
 // Does nothing. Its contract is the law that an object is found as it stands.
 fn objects_are_placed(tables: &Tables, object: ObjId)
-    ensures { option_map known_of (placed_at object tables.now.names) ≡ content.object_numbered (content_in tables.now) object }
+    ensures { IsKnownIn tables.now object }
 {
     let _known = tables.names().object(object);
 }
@@ -28,11 +25,11 @@ fn objects_are_placed(tables: &Tables, object: ObjId)
 ///
 /// It is TooLarge exactly where the object would pass its limits. Else OutOfMemory is the only error.
 pub(crate) fn lines_ready(tables: &mut Tables, draft: &Draft) -> Result<(), Refusal>
-    requires { is_some (content.object_numbered (content_in tables.old) draft.now.object) ≡ true }
+    requires { is_some (live_object_in tables.old draft.now.object) ≡ true }
     ensures content { content_in tables.new ≡ content_in tables.old }
-    ensures passes { OnOk result (late_refusal (content_in tables.old) draft.now.object draft.now.kind ≡ None) }
-    ensures lines { OnOk result (IfSome (placed_at draft.now.object tables.new.names) (HasLinesAt draft.now.kind)) }
-    ensures err { IfErr result (λ r. (late_refusal (content_in tables.old) draft.now.object draft.now.kind ≡ Some r) ⊎ (r ≡ OutOfMemory)) }
+    ensures passes { OnOk result (AllowsDraft tables.old draft.now) }
+    ensures lines { OnOk result (HasDraftLines draft.now tables.new.names) }
+    ensures err { IfErr result (λ r. RefusesDraft tables.old draft.now r) }
 {
     objects_are_placed(tables, draft.object);
     match &draft.kind {
@@ -50,8 +47,8 @@ pub(crate) fn record_written(
     handle: Handle,
     draft: Draft,
 ) -> Result<Option<Entry>, AllocError>
-    ensures tells { IfOk result (λ entry. tells entry ≡ told_by (content_in tables.now) handle draft) }
-    ensures lines { IfOk result (λ entry. IfSome (placed_at draft.object tables.now.names) (HasLinesAt draft.kind) → IfSome entry (λ e. HasLines e tables.now.names)) }
+    ensures tells { IfOk result (λ e. tells e ≡ told_by (content_in tables.now) handle draft) }
+    ensures lines { IfOk result (λ entry. KeepsLines draft entry tables.now.names) }
 {
     if !draft.has_lines {
         return Ok(None);
@@ -65,7 +62,7 @@ pub(crate) fn record_written(
 
 // Whether a record has the last number, so that no other can come.
 fn is_last(tables: &Tables) -> bool
-    ensures past { (e : history.Entry) → is_past (content_in tables.now) (planning.AppendsRecord e ∷ []) ≡ result }
+    ensures past { IsLast tables.now result }
     ensures stays { is_past (content_in tables.now) [] ≡ false }
     ensures next { result ≡ false → tables.now.records + 1 < 2 ^ 64 }
     ensures range { tables.now.records < 2 ^ 64 }
@@ -89,7 +86,7 @@ pub(crate) fn begun(
     ensures tells { IfOk result (λ beginning. flat_map moves_of beginning.items ≡ tells entry) }
     ensures ready { IfOk result (λ beginning. AreReady beginning.items tables.new) }
     ensures last { OnOk result (is_past (content_in tables.old) (tells entry) ≡ false) }
-    ensures err { IfErr result (λ r. ((r ≡ TableFull) × (is_past (content_in tables.old) (tells entry) ≡ true)) ⊎ (r ≡ OutOfMemory)) }
+    ensures err { IfErr result (λ r. RefusesRecord tables.old entry r) }
 {
     let is_last = is_last(tables);
     let Some(entry) = entry else {

@@ -1,10 +1,10 @@
 //! The room for what closing handles begin with.
-ghost use Rattle.std.specs.Prelude.{◌≡◌, ◌⊎◌, ◌++◌, true, false, length, IfErr, OnOk};
+ghost use Rattle.std.specs.Prelude.{◌≡◌, true, false, IfErr, OnOk};
 ghost use Rattle.std.specs.List.{AllByRecursion, list_all};
-ghost use Rattle.pps_types.specs.declared.refusal.Refusal.TheVariants.{OutOfMemory, TableFull};
 ghost use Rattle.service_laws.specs.SettlingTargets.{last_number_passed};
-ghost use Rattle.service_state.specs.Beginning.{CanBeginAll, AreReady, IsSharedBy, entries_in, is_plain};
+ghost use Rattle.service_state.specs.Beginning.{CanBeginAll, AreReady, IsSharedBy, is_plain};
 ghost use Rattle.service_state.specs.Tables.{content_in};
+ghost use Rattle.handle_requests.specs.Begun.{passes_last, RefusesRecords};
 
 use crate::gathering::entries_in;
 use pps_types::Refusal;
@@ -34,8 +34,8 @@ pub fn begin_ready(
     ensures content { content_in tables.new ≡ content_in tables.old }
     ensures names { tables.new.names ≡ tables.old.names }
     ensures ready { OnOk result (AreReady beginning.now tables.new) }
-    ensures within { OnOk result (last_number_passed (content_in tables.old) (length (entries_in beginning.now)) 0 0 ≡ false) }
-    ensures err { IfErr result (λ r. (r ≡ OutOfMemory) ⊎ ((r ≡ TableFull) × (last_number_passed (content_in tables.old) (length (entries_in beginning.now)) 0 0 ≡ true))) }
+    ensures within { OnOk result (passes_last tables.old beginning.now ≡ false) }
+    ensures err { IfErr result (λ r. RefusesRecords tables.old beginning.now r) }
 {
     tables.handles().handles_are_placed();
     let entries = entries_in(alloc, beginning)?;

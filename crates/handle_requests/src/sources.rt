@@ -1,19 +1,15 @@
 //! What everything of a target is read from.
-ghost use Rattle.std.specs.Prelude.{◌≡◌, [], true, false, IfOk, IfErr, IfSome, map, option_map};
-ghost use Rattle.std.specs.Option.{option_copied, option_map_or};
-ghost use Rattle.pps_types.specs.History.{line_of};
+ghost use Rattle.std.specs.Prelude.{◌≡◌, true, false, IfOk, IfErr};
+ghost use Rattle.std.specs.Option.{option_copied};
 ghost use Rattle.pps_types.specs.Reading as reading;
-ghost use Rattle.pps_types.specs.Content as content;
-ghost use Rattle.name_table.specs.Standing.{known_of};
 ghost use Rattle.whole_texts.specs.Answered.{meant};
-ghost use Rattle.service_state.specs.Tables.{content_in};
 ghost use Rattle.handle_requests.specs.Own.{IsOwn};
 ghost use Rattle.handle_requests.specs.Asked.{IsAsked};
-ghost use Rattle.handle_requests.specs.Reads.{Refuses, IsReader};
+ghost use Rattle.handle_requests.specs.Reads.{IsReadAnswer, RefusesRead, ReadsFrom, attribute_lines};
 
 use crate::directories::answer_of;
 use crate::owed::owed_to;
-use crate::own::Asked;
+use crate::own::SeenHandle;
 use name_table::NamedObject;
 use pps_types::{Conn, DirId, Handle, ObjId, Refusal};
 use service_state::Tables;
@@ -23,7 +19,7 @@ use whole_texts::{Answer, Member, Whole, answers_are_read, read_answer};
 // An object under a name, alive or deleted.
 fn member_of<'a>(name: &'a [u8], known: Option<&'a NamedObject>) -> Member<'a>
     ensures name { result.name ≡ name.now }
-    ensures lines { result.lines ≡ map line_of (option_map_or (λ (o : content.LiveObject). o.attributes) (option_map known_of (option_copied known.entry)) []) }
+    ensures lines { result.lines ≡ attribute_lines (option_copied known.entry) }
 {
     match known {
         Some(object) => Member::alive(name, object.attributes()),
@@ -37,15 +33,15 @@ fn answered(
     alloc: Global,
     conn: Conn,
     handle: Handle,
-    asked: &Asked<'_>,
+    asked: &SeenHandle<'_>,
     waits: bool,
     size: u32,
     whole: &Whole<'_>,
 ) -> Result<Answer, Refusal>
     requires known { IsAsked tables.now conn handle asked.now }
-    requires reader { IfSome (content.own_handle (content_in tables.now) conn handle) (IsReader (content_in tables.now) waits whole.now) }
-    ensures ok { IfOk result (λ a. IfSome (content.own_handle (content_in tables.now) conn handle) (λ h. meant a ≡ content.read_answer (content_in tables.now) h size)) }
-    ensures err { IfErr result (λ r. IfSome (content.own_handle (content_in tables.now) conn handle) (λ h. Refuses (content.read_answer (content_in tables.now) h size) r)) }
+    requires reader { ReadsFrom tables.now conn handle waits whole.now }
+    ensures ok { IfOk result (λ a. IsReadAnswer tables.now conn handle size (meant a)) }
+    ensures err { IfErr result (λ r. RefusesRead tables.now conn handle size r) }
 {
     answers_are_read();
     let handles = tables.handles();
@@ -63,15 +59,15 @@ pub(crate) fn answer_of_object(
     alloc: Global,
     conn: Conn,
     handle: Handle,
-    asked: &Asked<'_>,
+    asked: &SeenHandle<'_>,
     size: u32,
 ) -> Result<Answer, Refusal>
     requires own { IsOwn tables.now conn handle asked.now.own }
     requires known { IsAsked tables.now conn handle asked.now }
     requires reads { asked.now.own.opening.now.reads ≡ true }
     requires object { reading.is_directory_kind asked.now.own.opening.now.kind ≡ false }
-    ensures ok { IfOk result (λ a. IfSome (content.own_handle (content_in tables.now) conn handle) (λ h. meant a ≡ content.read_answer (content_in tables.now) h size)) }
-    ensures err { IfErr result (λ r. IfSome (content.own_handle (content_in tables.now) conn handle) (λ h. Refuses (content.read_answer (content_in tables.now) h size) r)) }
+    ensures ok { IfOk result (λ a. IsReadAnswer tables.now conn handle size (meant a)) }
+    ensures err { IfErr result (λ r. RefusesRead tables.now conn handle size r) }
 {
     let handles = tables.handles();
     handles.handles_are_placed();
@@ -102,15 +98,15 @@ pub(crate) fn answer_of_directory(
     alloc: Global,
     conn: Conn,
     handle: Handle,
-    asked: &Asked<'_>,
+    asked: &SeenHandle<'_>,
     size: u32,
 ) -> Result<Answer, Refusal>
     requires own { IsOwn tables.now conn handle asked.now.own }
     requires known { IsAsked tables.now conn handle asked.now }
     requires reads { asked.now.own.opening.now.reads ≡ true }
     requires directory { reading.is_directory_kind asked.now.own.opening.now.kind ≡ true }
-    ensures ok { IfOk result (λ a. IfSome (content.own_handle (content_in tables.now) conn handle) (λ h. meant a ≡ content.read_answer (content_in tables.now) h size)) }
-    ensures err { IfErr result (λ r. IfSome (content.own_handle (content_in tables.now) conn handle) (λ h. Refuses (content.read_answer (content_in tables.now) h size) r)) }
+    ensures ok { IfOk result (λ a. IsReadAnswer tables.now conn handle size (meant a)) }
+    ensures err { IfErr result (λ r. RefusesRead tables.now conn handle size r) }
 {
     answers_are_read();
     let handles = tables.handles();

@@ -1,8 +1,8 @@
 //! What the close of a handle tells.
-ghost use Rattle.std.specs.Prelude.{◌≡◌, ◌&&◌, true, is_some, IfOk, OnErr};
+ghost use Rattle.std.specs.Prelude.{◌≡◌, true, is_some, IfOk, OnErr};
 ghost use Rattle.service_state.specs.Tables.{content_in};
 ghost use Rattle.handle_requests.specs.Own.{opened_as};
-ghost use Rattle.handle_requests.specs.Told.{kind_told, told_of, is_orphan, told_behind};
+ghost use Rattle.handle_requests.specs.Told.{is_orphan, kind_told_by, own_told, own_told_last};
 
 use crate::own::{Own, own_handle};
 use pps_types::{Conn, HandleKind, Kind, ObjId};
@@ -12,7 +12,7 @@ use std::alloc::{AllocError, Global};
 
 // The kind of the record that the close of a handle makes of its object, where it makes one.
 fn kind_told(own: &Own<'_>) -> Option<Kind>
-    ensures { result ≡ kind_told (own.now.opening.now.critical && own.now.opening.now.writes) own.now.opening.now.number own.now.opening.now.kind }
+    ensures { result ≡ kind_told_by own.now.opening.now }
 {
     let opening = own.opening();
     match opening.kind {
@@ -36,8 +36,8 @@ pub(crate) fn told_of(
     alloc: Global,
     own: &Own<'_>,
 ) -> Result<Option<Entry>, AllocError>
-    ensures ok { IfOk result (λ told. told ≡ told_of (content_in tables.now) (opened_as tables.now own.now)) }
-    ensures memory { OnErr result (is_some (told_of (content_in tables.now) (opened_as tables.now own.now)) ≡ true) }
+    ensures ok { IfOk result (λ told. told ≡ own_told tables.now own.now) }
+    ensures memory { OnErr result (is_some (own_told tables.now own.now) ≡ true) }
 {
     let Some(kind) = kind_told(own) else {
         return Ok(None);
@@ -75,7 +75,7 @@ pub(crate) fn told_behind(
     conn: Conn,
     own: &Own<'_>,
 ) -> Result<Option<Entry>, AllocError>
-    ensures { IfOk result (λ told. told ≡ told_behind (content_in tables.now) conn (opened_as tables.now own.now)) }
+    ensures { IfOk result (λ told. told ≡ own_told_last tables.now conn own.now) }
 {
     if is_orphan(tables, conn, own) {
         return Ok(None);

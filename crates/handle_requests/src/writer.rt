@@ -1,11 +1,10 @@
 //! Who writes, and to what.
-ghost use Rattle.std.specs.Prelude.{◌≡◌, Some, IfOk, IfErr, IsSomeAnd};
+ghost use Rattle.std.specs.Prelude.{IfOk, IfErr};
 ghost use Rattle.pps_types.specs.declared.event.Request.TheVariants.{Write};
-ghost use Rattle.pps_types.specs.Content as content;
-ghost use Rattle.pps_types.specs.Checks as checking;
 ghost use Rattle.service_laws.specs.Bounds.{IsBound};
 ghost use Rattle.service_state.specs.Tables.{content_in};
-ghost use Rattle.handle_requests.specs.Writes.{IsWriter};
+ghost use Rattle.service_state.specs.Refused.{RefusedBy, checks_in};
+ghost use Rattle.handle_requests.specs.Drafting.{IsWriterOf};
 
 use crate::own::own_handle;
 use attr_text::WRITE_LIMIT;
@@ -31,8 +30,9 @@ pub(crate) fn writer_of<'a>(
     bytes: &Bytes,
 ) -> Result<Writer<'a>, Refusal>
     requires { IsBound (content_in tables.now) }
-    ensures ok { IfOk result (λ w. IsSomeAnd (content.own_handle (content_in tables.now) conn handle) (IsWriter (content_in tables.now) bytes.now w)) }
-    ensures err { IfErr result (λ r. checking.first_refusal (checking.request_checks (content_in tables.now) conn (Write handle bytes.now)) ≡ Some r) }
+    ensures ok { IfOk result (λ w. IsWriterOf tables.now conn handle bytes.now w) }
+    ensures err { IfErr result
+        (λ r. RefusedBy (checks_in tables.now conn (Write handle bytes.now)) r) }
 {
     let Some(own) = own_handle(tables, conn, handle) else {
         return Err(Refusal::BadHandle);

@@ -1,14 +1,11 @@
 //! Writes: their checks in their order, what they answer, and what they begin with.
-ghost use Rattle.std.specs.Prelude.{◌≡◌, true, None, IfOk, IfErr, OnOk};
-ghost use Rattle.std.specs.List.{flat_map};
-ghost use Rattle.pps_types.specs.declared.event.Request.TheVariants.{Write};
-ghost use Rattle.pps_types.specs.Checks.{first_refusal, reaches_memory};
-ghost use Rattle.pps_types.specs.Plan.{effect};
+ghost use Rattle.std.specs.Prelude.{◌≡◌, IfOk, IfErr, OnOk};
 ghost use Rattle.pps_types.specs.WellFormed.{IsContent};
 ghost use Rattle.service_laws.specs.Bounds.{IsBound};
 ghost use Rattle.service_state.specs.Tables.{content_in};
-ghost use Rattle.service_state.specs.Beginning.{moves_of, AreReady};
-ghost use Rattle.service_state.specs.Refused.{Fails, all_request_checks};
+ghost use Rattle.service_state.specs.Beginning.{AreReady};
+ghost use Rattle.service_state.specs.Refused.{AllPass, TakesMemory, Fails};
+ghost use Rattle.handle_requests.specs.Drafting.{write_checks_in, IsWriteEffect};
 
 use crate::draft::drafted;
 use crate::ready::{begun, lines_ready, record_written};
@@ -43,11 +40,11 @@ pub fn write(
     requires content { IsContent (content_in tables.old) }
     requires bound { IsBound (content_in tables.old) }
     ensures content { content_in tables.new ≡ content_in tables.old }
-    ensures passes { OnOk result (first_refusal (all_request_checks (content_in tables.old) conn (Write handle bytes.now)) ≡ None) }
-    ensures wants { OnOk result (reaches_memory (all_request_checks (content_in tables.old) conn (Write handle bytes.now)) ≡ true) }
-    ensures does { IfOk result (λ w. effect (content_in tables.old) conn (Write handle bytes.now) ≡ (w.reply, flat_map moves_of w.beginning.items)) }
+    ensures passes { OnOk result (AllPass (write_checks_in tables.old conn handle bytes.now)) }
+    ensures wants { OnOk result (TakesMemory (write_checks_in tables.old conn handle bytes.now)) }
+    ensures does { IfOk result (λ w. IsWriteEffect tables.old conn handle bytes.now w) }
     ensures ready { IfOk result (λ w. AreReady w.beginning.items tables.new) }
-    ensures err { IfErr result (λ r. Fails (all_request_checks (content_in tables.old) conn (Write handle bytes.now)) r) }
+    ensures err { IfErr result (λ r. Fails (write_checks_in tables.old conn handle bytes.now) r) }
 {
     let draft = drafted(tables, alloc, conn, handle, bytes)?;
     lines_ready(tables, &draft)?;

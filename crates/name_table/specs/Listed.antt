@@ -1,12 +1,15 @@
 -- What stands directly in a directory.
-use Rattle.std.specs.Prelude.{◌≡◌, ℕ, List, [], ◌++◌, Bool, true, false, if◌then◌else◌, Option, Some, None, option_and_then, codes, map}
+use Rattle.std.specs.Prelude.{◌≡◌, ℕ, List, [], ◌++◌, Bool, true, false, if◌then◌else◌, Option, Some, None, IfSome, option_and_then, codes, map}
 use Rattle.std.specs.Option.{option_map_or}
+use Rattle.std.specs.List.{filter_map}
 use Rattle.pps_types.specs.declared.found.Found.{Found}
 use Rattle.pps_types.specs.declared.found.Found.TheVariants.{Object as FoundObject, Directory as FoundDirectory}
+use Rattle.pps_types.specs.declared.refusal.Refusal.{Refusal}
 use Rattle.pps_types.specs.Bytes.{is_empty}
 use Rattle.pps_types.specs.Names.{Name, Path, last_name, name_cmp, sorted_by, is_directory}
 use Rattle.pps_types.specs.Content.{Directory, LiveObject, Content, directory_at, object_numbered, members, subdirectories}
-use Rattle.name_table.specs.Standing.{Standing, content_of}
+use Rattle.pps_types.specs.Checks.{first_refusal, list_checks}
+use Rattle.name_table.specs.Standing.{Standing, Named, content_of, named_content, directory_in}
 
 -- an object's name, and where it leads to
 abbrev pub object_member : LiveObject → Name × Found
@@ -30,10 +33,26 @@ pub record IsBare (c : Content) (d : Directory) : Type 0 where
   pub no_directories : subdirectories c d.path ≡ []
   pub below_root : is_empty d.path ≡ false
 
+-- why a path is not listed
+abbrev pub listing_refusal : Path → Named → Option Refusal
+listing_refusal path n = first_refusal (list_checks (named_content n) path)
+
+-- nothing is in the directory of that number, and it is not the root
+abbrev pub IsBareIn : ℕ → Named → Type 0
+IsBareIn number n = IfSome (directory_in number n) (λ d. IsBare (named_content n) d)
+
+-- the numbers of the objects of a directory, in byte order of names
+abbrev pub member_numbers : ℕ → Named → List ℕ
+member_numbers directory n = map (λ o. o.object.number) (members (named_content n) directory)
+
 -- the number of an object, where that is what stands there
 abbrev pub object_number : Found → Option ℕ
 object_number (FoundObject number) = Some number
 object_number (FoundDirectory number) = None
+
+-- the numbers of the objects among these
+abbrev pub object_numbers : List (Name × Found) → List ℕ
+object_numbers ms = filter_map (λ m. object_number m.1) ms
 
 -- the objects among these, each in its place, and none where a directory is
 abbrev pub objects_among : Standing → List (Name × Found) → List (Option LiveObject)

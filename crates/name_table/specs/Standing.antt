@@ -1,12 +1,17 @@
 -- What stands of objects and directories, and the memory that was taken for more.
-use Rattle.std.specs.Prelude.{◌≡◌, ◌<◌, ℕ, List, [], ◌∷◌, Option, None, map}
+use Rattle.std.specs.Prelude.{◌≡◌, ◌<◌, ℕ, Bool, List, [], ◌∷◌, Option, None, Some, Ok, IfSome, is_some, map, fold, if◌then◌else◌}
 use Rattle.std.specs.Option.{option_and_then}
-use Rattle.pps_types.specs.Names.{Path}
+use Rattle.pps_types.specs.Names.{Path, find_at, parent}
+use Rattle.pps_types.specs.declared.found.Found.TheVariants.{Directory as FoundDirectory}
+use Rattle.pps_types.specs.declared.refusal.Refusal.{Refusal}
 use Rattle.pps_types.specs.declared.record.Kind.{Kind}
+use Rattle.pps_types.specs.declared.record.Kind.TheVariants.{Change, Deleted}
 use Rattle.pps_types.specs.declared.line.Line.{Line}
-use Rattle.pps_types.specs.Content.{Object, Directory, LiveObject, Content}
-use Rattle.pps_types.specs.History.{Entry}
-use Rattle.pps_types.specs.Plan.{Move, AppendsRecord, apply_seen}
+use Rattle.pps_types.specs.Content.{Object, Directory, LiveObject, Content, at, object_numbered}
+use Rattle.pps_types.specs.Checks.{first_refusal, limit_checks}
+use Rattle.pps_types.specs.History.{Entry, apply_line}
+use Rattle.pps_types.specs.WellFormed.{directory_numbered}
+use Rattle.pps_types.specs.Plan.{Move, Creates, AppendsRecord, apply_seen}
 use Rattle.object_state.specs.Held.{Held}
 use Rattle.alloc_tree.specs.Held.{Held as Tree, IsReady}
 use Rattle.alloc_tree.specs.declared.kind.NodeKind.TheVariants.{Object as AnObject, Directory as ADirectory}
@@ -81,6 +86,32 @@ bare_entry number kind = record { directory = 0; name = []; record_of = record {
 abbrev pub happened : ℕ → Kind → Standing → Standing
 happened number kind s = after (AppendsRecord (bare_entry number kind)) s
 
+-- ---- of names before and after
+
+-- a service in which nothing is but the objects and directories of these names
+abbrev pub named_content : Named → Content
+named_content n = content_of (standing_of n)
+
+-- the alive object of a number, if there is one
+abbrev pub live_object : ℕ → Named → Option LiveObject
+live_object number n = object_numbered (named_content n) number
+
+-- the directory of a number, if there is one
+abbrev pub directory_in : ℕ → Named → Option Directory
+directory_in number n = directory_numbered (named_content n) number
+
+-- the directory of that number is the one that holds a path's last name
+abbrev pub IsAbove : ℕ → Path → Named → Type 0
+IsAbove directory path n = find_at (at (named_content n)) (parent path) ≡ Ok (FoundDirectory directory)
+
+-- the move was made
+abbrev pub HasMoved : Move → Named → Named → Type 0
+HasMoved move old new = standing_of new ≡ after move (standing_of old)
+
+-- a record of that kind came to an object
+abbrev pub HasHappened : ℕ → Kind → Named → Named → Type 0
+HasHappened number kind old new = standing_of new ≡ happened number kind (standing_of old)
+
 -- the root alone
 abbrev pub first_standing : Standing
 first_standing = record { objects = []; next_object = 0; directories = record { number = 0; path = [] } ∷ []; next_directory = 1 }
@@ -94,6 +125,32 @@ placed_at number n = value_at number n.objects
 -- the lines that were made ready for an object
 abbrev pub lines_ready : ℕ → Named → Option (List Line)
 lines_ready number n = option_and_then (λ x. x.held.ready) (placed_at number n)
+
+-- those lines are ready for an object, if it is alive
+abbrev pub AreReadyFor : ℕ → List Line → Named → Type 0
+AreReadyFor number lines n = IfSome (placed_at number n) (λ x. x.held.ready ≡ Some lines)
+
+-- the lines that were ready for an object have changed it
+abbrev pub HasChanged : ℕ → Named → Named → Type 0
+HasChanged number old new = IfSome (lines_ready number old) (λ lines. HasHappened number (Change lines) old new)
+
+-- why an object is not changed by these lines: after all of them it would pass a limit
+abbrev pub change_refusal : List Line → Placed → Option Refusal
+change_refusal lines x = first_refusal (limit_checks (fold apply_line x.held.attributes lines))
+
+-- the object that comes to another's place, under the next number
+abbrev pub newcomer_for : Placed → Bool → Option ℕ → Named → Object
+newcomer_for gone nopersist server n =
+    record { number = n.objects.next; directory = gone.object.directory; name = gone.object.name; nopersist = nopersist; server = server }
+
+-- an object, if it was alive, is deleted, and a new one without attributes is at its path
+abbrev pub HasReplaced : ℕ → Bool → Option ℕ → Named → Named → Type 0
+HasReplaced number nopersist server old new = IfSome (placed_at number old)
+    (λ gone. standing_of new ≡ after (Creates (newcomer_for gone nopersist server old)) (happened number Deleted (standing_of old)))
+
+-- if there was such a one, no name is ready after it is gone, and else the same as before
+abbrev pub LosesReadyNameIf : {X : Type 0} → Option X → Named → Named → Type 0
+LosesReadyNameIf gone old new = new.tree.ready ≡ (if is_some gone then None else old.tree.ready)
 
 -- Nothing stands otherwise, and of the rest what is ready for attributes alone is other.
 pub record AreSame (old new : Named) : Type 0 where

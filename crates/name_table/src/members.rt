@@ -1,8 +1,7 @@
 //! What stands in a directory, as the names lend it.
 ghost use Rattle.std.specs.Prelude.{◌≡◌, ◌<◌, Some, IfOk, length, option_map, slice_get};
 ghost use Rattle.std.specs.Option.{option_copied};
-ghost use Rattle.std.specs.List.{filter_map};
-ghost use Rattle.name_table.specs.Listed.{object_number};
+ghost use Rattle.name_table.specs.Listed.{object_numbers};
 ghost use Rattle.name_table.specs.Standing.{known_of};
 
 use crate::named::NamedObject;
@@ -17,7 +16,7 @@ pub(crate) fn object_numbers(
     alloc: Global,
     members: &[Member<Global>],
 ) -> Result<Vec<ObjId>, AllocError>
-    ensures { IfOk result (λ numbers. numbers.items ≡ filter_map (λ m. object_number m.1) members.now) }
+    ensures { IfOk result (λ numbers. numbers.items ≡ object_numbers members.now) }
 {
     let mut numbers = Vec::new(alloc);
     'members: for member in members {

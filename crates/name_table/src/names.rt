@@ -1,20 +1,18 @@
 //! Names, and the objects and directories that they lead to.
-ghost use Rattle.std.specs.Prelude.{◌≡◌, ◌≢◌, ◌+◌, ◌<◌, ◌≤◌, ◌^◌, if◌then◌else◌, is_some, length, map, ◌↔◌, IsTrue, IsOkUnless, Some, None, Ok, IfOk, IfSome, IsSome, fold, OnOk, OnErr, option_map, find, ◌==◌};
+ghost use Rattle.std.specs.Prelude.{◌≡◌, ◌+◌, ◌<◌, ◌≤◌, ◌^◌, length, map, ◌↔◌, IsTrue, IsOkUnless, None, IfOk, IfSome, IsSome, OnOk, OnErr, option_map};
 ghost use Rattle.std.specs.Option.{option_copied};
 ghost use Rattle.pps_types.specs.Names as paths;
-ghost use Rattle.pps_types.specs.Content.{at, object_numbered, members, subdirectories};
-ghost use Rattle.pps_types.specs.Checks.{first_refusal, limit_checks, list_checks};
-ghost use Rattle.pps_types.specs.History.{apply_line};
-ghost use Rattle.pps_types.specs.WellFormed.{directory_numbered};
+ghost use Rattle.pps_types.specs.Names.{refusal_of, add_refusal, mkdir_refusal};
+ghost use Rattle.pps_types.specs.Content.{at, members, subdirectories};
 ghost use Rattle.pps_types.specs.Plan.{Creates, MakesDirectory, RemovesDirectory};
-ghost use Rattle.pps_types.specs.declared.record.Kind.TheVariants.{Change, Truncated, Dropped, Deleted};
-ghost use Rattle.pps_types.specs.declared.found.Found.TheVariants.{Directory as FoundDirectory};
+ghost use Rattle.pps_types.specs.declared.record.Kind.TheVariants.{Truncated, Dropped, Deleted};
 ghost use Rattle.pps_types.specs.declared.refusal.Refusal.TheVariants.{OutOfMemory};
-ghost use Rattle.number_table.specs.Numbered.{without_first, has_number, IsCloneEntry};
-ghost use Rattle.std.specs.List.{AllByRecursion, AllZip, filter_map};
+ghost use Rattle.number_table.specs.Numbered.{LosesEntry, HasClones};
+ghost use Rattle.std.specs.List.{AllByRecursion, filter_map};
+ghost use Rattle.pps_types.specs.Refused.{IsRefusedAs};
 ghost use Rattle.name_table.specs.Agrees.{HasPath};
-ghost use Rattle.name_table.specs.Listed.{objects_at, members_at, IsBare};
-ghost use Rattle.name_table.specs.Standing.{standing_of, content_of, after, first_standing, happened, known_of, placed_at, lines_ready, AreSame, IsCopy, IsReadyToCreate, IsReadyToMake};
+ghost use Rattle.name_table.specs.Listed.{objects_at, members_at, member_numbers, listing_refusal, IsBareIn};
+ghost use Rattle.name_table.specs.Standing.{standing_of, after, first_standing, known_of, named_content, live_object, directory_in, placed_at, lines_ready, change_refusal, AreReadyFor, AreSame, HasChanged, HasHappened, HasMoved, HasReplaced, IsAbove, IsCopy, IsReadyToCreate, IsReadyToMake, LosesReadyNameIf};
 
 use crate::compared::{same_directories, same_objects};
 use crate::members::{Objects, object_numbers};
@@ -77,14 +75,14 @@ impl Names {
     /// The first name on the way that shows a reason decides: NotFound where it stands for nothing,
     /// NotDirectory where it stands for an object and is not the last.
     pub fn find(&self, path: &[Bytes]) -> Result<Found, Refusal>
-        ensures { result ≡ paths.find_at (at (content_of (standing_of self.now))) path.now }
+        ensures { result ≡ paths.find_at (at (named_content self.now)) path.now }
     {
         self.tree.find(path)
     }
 
     /// What stands at a path, if anything does.
     pub fn at(&self, path: &[Bytes]) -> Option<Found>
-        ensures { result ≡ at (content_of (standing_of self.now)) path.now }
+        ensures { result ≡ at (named_content self.now) path.now }
     {
         self.tree.find(path).ok()
     }
@@ -94,7 +92,7 @@ impl Names {
     /// The first name before the last that shows a reason decides: NotFound where it stands for nothing, NotDirectory where
     /// it stands for an object.
     pub fn place(&self, path: &[Bytes]) -> Result<Option<Found>, Refusal>
-        ensures { result ≡ paths.place (at (content_of (standing_of self.now))) path.now }
+        ensures { result ≡ paths.place (at (named_content self.now)) path.now }
     {
         self.tree.place(path)
     }
@@ -115,7 +113,7 @@ impl Names {
 
     /// The alive object of a number, if there is one.
     pub fn object(&self, object: ObjId) -> Option<&NamedObject>
-        ensures known { option_map known_of (option_copied result) ≡ object_numbered (content_of (standing_of self.now)) object }
+        ensures known { option_map known_of (option_copied result) ≡ live_object object self.now }
         ensures placed { option_copied result ≡ placed_at object self.now }
     {
         self.objects.get(object.number())
@@ -123,7 +121,7 @@ impl Names {
 
     /// The directory of a number, if there is one.
     pub fn directory(&self, directory: DirId) -> Option<&NamedDirectory>
-        ensures { option_copied result ≡ directory_numbered (content_of (standing_of self.now)) directory }
+        ensures { option_copied result ≡ directory_in directory self.now }
     {
         self.directories.get(directory.number())
     }
@@ -132,7 +130,7 @@ impl Names {
     ///
     /// It is refused as a new object in a tree of names is, and else OutOfMemory is the only error.
     pub fn create_ready(&mut self, path: &[Bytes]) -> Result<(), Refusal>
-        ensures refusal { paths.refusal_of result ≢ Some OutOfMemory → paths.refusal_of result ≡ paths.add_refusal self.old.tree.map path.now }
+        ensures refusal { IsRefusedAs result (add_refusal self.old.tree.map path.now) }
         ensures ok { OnOk result (IsReadyToCreate self.new path.now) }
         ensures map { self.new.tree.map ≡ self.old.tree.map }
         ensures standing { standing_of self.new ≡ standing_of self.old }
@@ -156,7 +154,7 @@ impl Names {
         server: Option<Handle>,
     ) -> ObjId
         requires ready { IsReadyToCreate self.old path.items }
-        requires above { paths.find_at (at (content_of (standing_of self.old))) (paths.parent path.items) ≡ Ok (FoundDirectory directory) }
+        requires above { IsAbove directory path.items self.old }
         requires last { self.old.objects.next + 1 < 2 ^ 64 }
         ensures number { result ≡ self.old.objects.next }
         ensures standing { standing_of self.new ≡ after (Creates (record {
@@ -186,7 +184,7 @@ impl Names {
     ///
     /// It is refused as a new directory in a tree of names is, and else OutOfMemory is the only error.
     pub fn make_directory_ready(&mut self, path: &[Bytes]) -> Result<(), Refusal>
-        ensures refusal { paths.refusal_of result ≢ Some OutOfMemory → paths.refusal_of result ≡ paths.mkdir_refusal self.old.tree.map path.now }
+        ensures refusal { IsRefusedAs result (mkdir_refusal self.old.tree.map path.now) }
         ensures ok { OnOk result (IsReadyToMake self.new path.now) }
         ensures map { self.new.tree.map ≡ self.old.tree.map }
         ensures standing { standing_of self.new ≡ standing_of self.old }
@@ -203,7 +201,7 @@ impl Names {
         requires ready { IsReadyToMake self.old path.items }
         requires last { self.old.directories.next + 1 < 2 ^ 64 }
         ensures number { result ≡ self.old.directories.next }
-        ensures standing { standing_of self.new ≡ after (MakesDirectory path.items) (standing_of self.old) }
+        ensures standing { HasMoved (MakesDirectory path.items) self.old self.new }
     {
         let number = self.directories.next();
         self.tree.mkdir_commit(&path, DirId::new(number));
@@ -217,7 +215,7 @@ impl Names {
 
     /// Deletes all attributes of an object, if it is alive. It takes no memory.
     pub fn truncate(&mut self, object: ObjId)
-        ensures standing { standing_of self.new ≡ happened object Truncated (standing_of self.old) }
+        ensures standing { HasHappened object Truncated self.old self.new }
     {
         let Some(known) = self.objects.get_mut(object.number()) else {
             return;
@@ -227,7 +225,7 @@ impl Names {
 
     /// Deletes the nonpersistent attributes of an object, if it is alive. It takes no memory.
     pub fn drop_nonpersistent(&mut self, object: ObjId)
-        ensures standing { standing_of self.new ≡ happened object Dropped (standing_of self.old) }
+        ensures standing { HasHappened object Dropped self.old self.new }
     {
         let Some(known) = self.objects.get_mut(object.number()) else {
             return;
@@ -241,9 +239,9 @@ impl Names {
     /// It is TooLarge exactly where the object would pass a limit of objects after all of these lines. Else OutOfMemory
     /// is the only error. Where there is no such object, nothing is wanted.
     pub fn change_ready(&mut self, object: ObjId, lines: &[Line]) -> Result<(), Refusal>
-        ensures refusal { IfSome (placed_at object self.old) (λ x. paths.refusal_of result ≢ Some OutOfMemory
-            → paths.refusal_of result ≡ first_refusal (limit_checks (fold apply_line x.held.attributes lines.now))) }
-        ensures ok { OnOk result (IfSome (placed_at object self.new) (λ x. x.held.ready ≡ Some lines.now)) }
+        ensures refusal { IfSome (placed_at object self.old) (λ x.
+            IsRefusedAs result (change_refusal lines.now x)) }
+        ensures ok { OnOk result (AreReadyFor object lines.now self.new) }
         ensures same { AreSame self.old self.new }
     {
         let Some(known) = self.objects.get_mut(object.number()) else {
@@ -255,7 +253,7 @@ impl Names {
     /// Changes an object by the lines that were made ready for it. It takes no memory.
     pub fn change(&mut self, object: ObjId)
         requires { IsSome (lines_ready object self.old) }
-        ensures standing { IfSome (lines_ready object self.old) (λ lines. standing_of self.new ≡ happened object (Change lines) (standing_of self.old)) }
+        ensures standing { HasChanged object self.old self.new }
     {
         let Some(known) = self.objects.get_mut(object.number()) else {
             return;
@@ -268,11 +266,11 @@ impl Names {
     /// What is ready for attributes of others stays, and so does the room for more objects and directories. A name that was
     /// ready is not any more, where there was such an object.
     pub fn delete(&mut self, object: ObjId)
-        ensures standing { standing_of self.new ≡ happened object Deleted (standing_of self.old) }
-        ensures others { self.new.objects.entries ≡ without_first (has_number object) self.old.objects.entries }
+        ensures standing { HasHappened object Deleted self.old self.new }
+        ensures others { LosesEntry object self.old.objects self.new.objects }
         ensures room { self.old.objects.room ≤ self.new.objects.room }
         ensures directories { self.new.directories ≡ self.old.directories }
-        ensures ready { self.new.tree.ready ≡ (if is_some (placed_at object self.old) then None else self.old.tree.ready) }
+        ensures ready { LosesReadyNameIf (placed_at object self.old) self.old self.new }
     {
         let Some(known) = self.objects.remove(object.number()) else {
             return;
@@ -303,13 +301,7 @@ impl Names {
         requires room { 0 < self.old.objects.room }
         requires last { self.old.objects.next + 1 < 2 ^ 64 }
         ensures number { result ≡ self.old.objects.next }
-        ensures standing { IfSome (placed_at object self.old) (λ gone. standing_of self.new ≡ after (Creates (record {
-          number = self.old.objects.next;
-          directory = gone.object.directory;
-          name = gone.object.name;
-          nopersist = nopersist;
-          server = server;
-        })) (happened object Deleted (standing_of self.old))) }
+        ensures standing { HasReplaced object nopersist server self.old self.new }
     {
         let number = ObjId::new(self.objects.next());
         let Some(gone) = self.objects.remove(object.number()) else {
@@ -326,7 +318,7 @@ impl Names {
     /// Whether nothing stands in a directory, and it is not the root: so also where there is no such directory. It takes no
     /// memory.
     pub fn is_bare(&self, directory: DirId) -> bool
-        ensures { IsTrue result ↔ IfSome (directory_numbered (content_of (standing_of self.now)) directory) (λ d. IsBare (content_of (standing_of self.now)) d) }
+        ensures { IsTrue result ↔ IsBareIn directory self.now }
     {
         let number = directory.number();
         let Some(known) = self.directories.get(number) else {
@@ -348,11 +340,11 @@ impl Names {
     /// What is ready for attributes stays, and so does the room for more objects and directories. A name that was ready is
     /// not any more, where there was such a directory.
     pub fn remove_directory(&mut self, directory: DirId)
-        requires { IfSome (directory_numbered (content_of (standing_of self.old)) directory) (λ d. IsBare (content_of (standing_of self.old)) d) }
-        ensures standing { standing_of self.new ≡ after (RemovesDirectory directory) (standing_of self.old) }
+        requires { IsBareIn directory self.old }
+        ensures standing { HasMoved (RemovesDirectory directory) self.old self.new }
         ensures objects { self.new.objects ≡ self.old.objects }
         ensures room { self.old.directories.room ≤ self.new.directories.room }
-        ensures ready { self.new.tree.ready ≡ (if is_some (directory_numbered (content_of (standing_of self.old)) directory) then None else self.old.tree.ready) }
+        ensures ready { LosesReadyNameIf (directory_in directory self.old) self.old self.new }
     {
         let Some(known) = self.directories.remove(directory.number()) else {
             return;
@@ -364,14 +356,14 @@ impl Names {
 
     /// How many objects stand directly in the directory at a path. Elsewhere there are none. It takes no memory.
     pub fn objects_in(&self, path: &[Bytes]) -> usize
-        ensures { result ≡ length (objects_at (content_of (standing_of self.now)) path.now) }
+        ensures { result ≡ length (objects_at (named_content self.now) path.now) }
     {
         self.tree.objects_in(path)
     }
 
     /// How many directories stand directly in the directory at a path. Elsewhere there are none. It takes no memory.
     pub fn directories_in(&self, path: &[Bytes]) -> usize
-        ensures { result ≡ length (subdirectories (content_of (standing_of self.now)) path.now) }
+        ensures { result ≡ length (subdirectories (named_content self.now) path.now) }
     {
         self.tree.directories_in(path)
     }
@@ -381,7 +373,7 @@ impl Names {
     /// Each has the path of its directory with its name behind it.
     pub fn objects(&self) -> Iter<'_, NamedObject>
         ensures known { map known_of result ≡ (standing_of self.now).objects }
-        ensures paths { AllByRecursion (HasPath (content_of (standing_of self.now))) result }
+        ensures paths { AllByRecursion (HasPath (named_content self.now)) result }
     {
         self.objects.iter()
     }
@@ -412,8 +404,8 @@ impl Names {
     /// It is NotFound or NotDirectory as [`find`](Names::find) is, NotDirectory also where an object stands there, and else
     /// OutOfMemory is the only error.
     pub fn members(&self, path: &[Bytes]) -> Result<Vec<Member<Global>>, Refusal>
-        ensures refusal { paths.refusal_of result ≢ Some OutOfMemory → paths.refusal_of result ≡ first_refusal (list_checks (content_of (standing_of self.now)) path.now) }
-        ensures ok { IfOk result (λ listed. listed.items ≡ members_at (content_of (standing_of self.now)) path.now) }
+        ensures refusal { IsRefusedAs result (listing_refusal path.now self.now) }
+        ensures ok { IfOk result (λ l. l.items ≡ members_at (named_content self.now) path.now) }
     {
         self.tree.list(path)
     }
@@ -422,8 +414,8 @@ impl Names {
     ///
     /// It is NotFound or NotDirectory as [`find`](Names::find) is, and NotDirectory also where an object stands there.
     pub fn members_lent(&self, path: &[Bytes]) -> Result<Lent<'_, Global>, Refusal>
-        ensures refusal { paths.refusal_of result ≡ first_refusal (list_checks (content_of (standing_of self.now)) path.now) }
-        ensures ok { IfOk result (λ listed. listed ≡ members_at (content_of (standing_of self.now)) path.now) }
+        ensures refusal { refusal_of result ≡ listing_refusal path.now self.now }
+        ensures ok { IfOk result (λ l. l ≡ members_at (named_content self.now) path.now) }
     {
         self.tree.lent(path)
     }
@@ -431,7 +423,7 @@ impl Names {
     /// The numbers of the objects directly in a directory, in byte order of names. Where there is no such directory there
     /// are none. OutOfMemory is the only error.
     pub fn objects_of(&self, alloc: Global, directory: DirId) -> Result<Vec<ObjId>, Refusal>
-        ensures ok { IfOk result (λ numbers. numbers.items ≡ map (λ o. o.object.number) (members (content_of (standing_of self.now)) directory)) }
+        ensures ok { IfOk result (λ numbers. numbers.items ≡ member_numbers directory self.now) }
         ensures err { IsOkUnless result OutOfMemory }
     {
         let number = directory.number();
@@ -447,7 +439,7 @@ impl Names {
     /// What stands directly in a directory, in byte order of names, as the names lend it. Where there is no such directory,
     /// nothing does. It takes no memory.
     pub fn lent_objects(&self, directory: DirId) -> Objects<'_>
-        ensures { filter_map (λ o. o) result ≡ members (content_of (standing_of self.now)) directory }
+        ensures { filter_map (λ o. o) result ≡ members (named_content self.now) directory }
     {
         let number = directory.number();
         let Some(known) = self.directories.get(number) else {
@@ -462,7 +454,7 @@ impl Names {
     /// Names under which the same stands. Nothing is ready in them. OutOfMemory is the only error.
     pub fn copy(&self) -> Result<Names, Refusal>
         ensures standing { IfOk result (λ copy. standing_of copy ≡ standing_of self.now) }
-        ensures objects { IfOk result (λ copy. AllZip (IsCloneEntry IsCopy) self.now.objects.entries copy.objects.entries) }
+        ensures objects { IfOk result (λ copy. HasClones IsCopy self.now.objects copy.objects) }
         ensures ready { IfOk result (λ copy. copy.tree.ready ≡ None) }
         ensures err { IsOkUnless result OutOfMemory }
     {

@@ -1,9 +1,10 @@
 -- Attached connections in rising number, and the room that was taken for more.
-use Rattle.std.specs.Prelude.{◌≡◌, ◌≢◌, ℕ, ◌≤◌, List, [], Bool, false, ◌==◌, if◌then◌else◌, Option, None, Err, is_some, option_map, IfSome, IsTrue, map, find}
+use Rattle.std.specs.Prelude.{◌≡◌, ◌≢◌, ℕ, ◌<◌, ◌≤◌, List, [], Bool, false, ◌==◌, if◌then◌else◌, Option, None, Err, is_some, option_map, IfSome, IsSomeAnd, IsTrue, map, find}
 use Rattle.std.specs.Option.{option_map_or}
+use Rattle.std.specs.List.{AllByRecursion}
 use Rattle.pps_types.specs.Outbox.{Outbox, empty_outbox, is_armed, is_parked, arm_refusal, park_refusal, finished_in}
 use Rattle.pps_types.specs.declared.refusal.Refusal.TheVariants.{BadHandle}
-use Rattle.pps_types.specs.Plan.{on_first}
+use Rattle.pps_types.specs.Plan.{on_first, without_first}
 use Rattle.notify_box.specs.Roomed.{Roomed, IsReadyToArm, IsReadyToPark}
 
 -- What stands of an attached connection: its outbox, and its open handles in rising number.
@@ -54,6 +55,18 @@ outbox_of conn xs = option_map_or (λ x. x.outbox) (standing_at conn xs) empty_o
 abbrev pub handles_of : ℕ → List Standing → List ℕ
 handles_of conn xs = option_map_or (λ x. x.handles) (standing_at conn xs) []
 
+-- the handle is above all that the connection has
+abbrev pub IsAboveHandles : ℕ → ℕ → List Standing → Type 0
+IsAboveHandles conn handle xs = AllByRecursion (λ h. h < handle) (handles_of conn xs)
+
+-- how many places the connection takes: one, where it is attached
+abbrev pub place_count : ℕ → List Standing → ℕ
+place_count conn xs = if is_attached conn xs then 1 else 0
+
+-- what the connection has to come
+abbrev pub outbox_in : ℕ → RoomedConnections → Outbox
+outbox_in conn all = outbox_of conn (standing_in all)
+
 -- where it is attached, a read is parked on the handle
 abbrev pub HasParked : ℕ → ℕ → List Standing → Type 0
 HasParked conn handle xs = IsTrue (is_attached conn xs) → IsTrue (is_parked (outbox_of conn xs) handle)
@@ -88,6 +101,22 @@ LacksPulseRoom handle r = (arm_refusal r.outbox handle ≡ None) × (is_armed r.
 abbrev pub LacksReadRoom : ℕ → Roomed → Type 0
 LacksReadRoom handle r = (park_refusal r.outbox handle ≡ None) × (r.read_room ≡ 0)
 
+-- it is attached, and its outbox lacks room for a pulse on the handle
+abbrev pub LacksPulseRoomAt : ℕ → ℕ → RoomedConnections → Type 0
+LacksPulseRoomAt conn handle all = IsSomeAnd (roomed_at conn all) (LacksPulseRoom handle)
+
+-- it is attached, and its outbox lacks room for a parked read
+abbrev pub LacksReadRoomAt : ℕ → ℕ → RoomedConnections → Type 0
+LacksReadRoomAt conn handle all = IsSomeAnd (roomed_at conn all) (LacksReadRoom handle)
+
+-- each has room for as many handles as before
+abbrev pub KeepsHandleRooms : RoomedConnections → RoomedConnections → Type 0
+KeepsHandleRooms old new = (each count : ℕ) → HasHandleRoom each count old → HasHandleRoom each count new
+
+-- no room for handles changed
+abbrev pub AreHandleRoomsSame : RoomedConnections → RoomedConnections → Type 0
+AreHandleRoomsSame old new = (each : ℕ) → handle_room_at each new ≡ handle_room_at each old
+
 -- ---- changes of one connection, where it is attached
 
 abbrev pub with_outbox : ℕ → (Outbox → Outbox) → List Standing → List Standing
@@ -95,6 +124,14 @@ with_outbox conn change xs = on_first (is_numbered conn) (λ x. record x { outbo
 
 abbrev pub with_handles : ℕ → (List ℕ → List ℕ) → List Standing → List Standing
 with_handles conn change xs = on_first (is_numbered conn) (λ x. record x { handles = change x.handles }) xs
+
+-- all but this connection
+abbrev pub without_numbered : ℕ → List Standing → List Standing
+without_numbered conn xs = without_first (is_numbered conn) xs
+
+-- all handles but this one
+abbrev pub without_handle : ℕ → List ℕ → List ℕ
+without_handle handle hs = without_first (λ h. h == handle) hs
 
 -- where a read is parked on the handle, it is refused, since the handle closes
 abbrev pub parked_ended : Outbox → ℕ → Outbox

@@ -1,13 +1,12 @@
 //! The attached connections.
-ghost use Rattle.std.specs.Prelude.{◌≡◌, ◌≢◌, ◌+◌, ◌<◌, ◌≤◌, ◌↔◌, ◌==◌, ◌++◌, ◌∷◌, [], ℕ, true, false, if◌then◌else◌, length, IsTrue, Some, IfOk, IfErr, OnOk, OnErr, IsSomeAnd};
+ghost use Rattle.std.specs.Prelude.{◌≡◌, ◌+◌, ◌<◌, ◌≤◌, ◌↔◌, ◌==◌, ◌++◌, ◌∷◌, [], ℕ, true, false, if◌then◌else◌, length, IsTrue, Some, IfOk, IfErr, OnOk, OnErr};
 ghost use Rattle.std.specs.Option.{option_copied};
-ghost use Rattle.std.specs.List.{AllByRecursion};
-ghost use Rattle.pps_types.specs.Names.{refusal_of};
 ghost use Rattle.pps_types.specs.declared.refusal.Refusal.TheVariants.{OutOfMemory};
-ghost use Rattle.pps_types.specs.Outbox.{is_parked, arm_refusal, park_refusal, disarmed, with_pulse, with_parked, fired_in, finished_in, first_of, behind_first, put_rising};
-ghost use Rattle.pps_types.specs.Plan.{without_first};
+ghost use Rattle.pps_types.specs.Outbox.{is_parked, arm_refusal, park_refusal, disarmed, with_parked, fired_in, finished_in, first_of, put_rising};
 ghost use Rattle.pps_types.specs.Rising.{IsRising};
-ghost use Rattle.notify_box.specs.Standing.{standing_in, is_numbered, is_attached, outbox_of, handles_of, roomed_at, handle_room_at, CanArm, CanPark, HasHandleRoom, HasParked, LacksPulseRoom, LacksReadRoom, parked_ended, AreOthersSame, ChangesOutbox, ChangesHandles, ChangesRoom};
+ghost use Rattle.pps_types.specs.Refused.{IsRefusedAs, LacksMemory};
+ghost use Rattle.notify_box.specs.Changes.{newly_armed, without_first_item};
+ghost use Rattle.notify_box.specs.Standing.{standing_in, is_attached, handles_of, IsAboveHandles, place_count, outbox_in, roomed_at, handle_room_at, CanArm, CanPark, HasHandleRoom, HasParked, LacksPulseRoomAt, LacksReadRoomAt, KeepsHandleRooms, AreHandleRoomsSame, without_numbered, without_handle, parked_ended, AreOthersSame, ChangesOutbox, ChangesHandles, ChangesRoom};
 
 use crate::attached::{Attached, copy_all, same_all, search};
 use crate::handle_places::{insert_reserved, search_handles};
@@ -109,11 +108,11 @@ impl Connections {
 
     /// Detaches a connection: what it has to come and the numbers of its handles go with it.
     pub fn leave(&mut self, conn: Conn)
-        ensures standing { standing_in self.new ≡ without_first (is_numbered conn) (standing_in self.old) }
+        ensures standing { standing_in self.new ≡ without_numbered conn (standing_in self.old) }
         ensures absent { is_attached conn (standing_in self.new) ≡ false }
         ensures others { AreOthersSame conn self.old self.new }
-        ensures handle_rooms { (each count : ℕ) → HasHandleRoom each count self.old → HasHandleRoom each count self.new }
-        ensures room { self.new.room ≡ self.old.room + (if is_attached conn (standing_in self.old) then 1 else 0) }
+        ensures handle_rooms { KeepsHandleRooms self.old self.new }
+        ensures room { self.new.room ≡ self.old.room + place_count conn (standing_in self.old) }
     {
         if let Ok(place) = search(&self.attached, conn) {
             let _ = self.attached.remove(place);
@@ -136,7 +135,7 @@ impl Connections {
 
     /// Whether a handle is above all that a connection has.
     pub fn is_above_handles(&self, conn: Conn, handle: Handle) -> bool
-        ensures { IsTrue result ↔ AllByRecursion (λ h. h < handle) (handles_of conn (standing_in self.now)) }
+        ensures { IsTrue result ↔ IsAboveHandles conn handle (standing_in self.now) }
     {
         match self.handles_of(conn).last() {
             Some(last) => last.number() < handle.number(),
@@ -151,7 +150,7 @@ impl Connections {
         ensures ok { OnOk result (HasHandleRoom conn 1 self.new) }
         ensures err { IfErr result (λ r. r ≡ OutOfMemory) }
         ensures memory { OnErr result (handle_room_at conn self.old ≡ Some 0) }
-        ensures kept { (each count : ℕ) → HasHandleRoom each count self.old → HasHandleRoom each count self.new }
+        ensures kept { KeepsHandleRooms self.old self.new }
         ensures same { ChangesRoom conn self.old self.new }
         ensures roomed { (each : ℕ) → roomed_at each self.new ≡ roomed_at each self.old }
     {
@@ -167,7 +166,7 @@ impl Connections {
 
     /// Adds a handle to a connection's, above all that it has. It takes no memory.
     pub fn opened(&mut self, conn: Conn, handle: Handle)
-        requires above { AllByRecursion (λ h. h < handle) (handles_of conn (standing_in self.old)) }
+        requires above { IsAboveHandles conn handle (standing_in self.old) }
         requires room { HasHandleRoom conn 1 self.old }
         ensures handles { ChangesHandles conn (λ hs. hs ++ handle ∷ []) self.old self.new }
         ensures room { (each count : ℕ)
@@ -181,8 +180,8 @@ impl Connections {
 
     /// Takes a handle out of a connection's, if it is one of them. It takes no memory.
     pub fn closed(&mut self, conn: Conn, handle: Handle)
-        ensures handles { ChangesHandles conn (λ hs. without_first (λ h. h == handle) hs) self.old self.new }
-        ensures room { (each count : ℕ) → HasHandleRoom each count self.old → HasHandleRoom each count self.new }
+        ensures handles { ChangesHandles conn (λ hs. without_handle handle hs) self.old self.new }
+        ensures room { KeepsHandleRooms self.old self.new }
     {
         if let Ok(place) = search(&self.attached, conn) {
             let attached = &mut self.attached[place];
@@ -197,11 +196,11 @@ impl Connections {
     /// It is OutboxFull where the connection's items, armed pulses and parked reads are 1,024 without the handle's own
     /// armed pulse, and else OutOfMemory is the only error. Arming anew takes no memory.
     pub fn arm_ready(&mut self, conn: Conn, handle: Handle) -> Result<(), Refusal>
-        ensures refusal { refusal_of result ≢ Some OutOfMemory → refusal_of result ≡ arm_refusal (outbox_of conn (standing_in self.old)) handle }
-        ensures memory { refusal_of result ≡ Some OutOfMemory → IsSomeAnd (roomed_at conn self.old) (LacksPulseRoom handle) }
+        ensures refusal { IsRefusedAs result (arm_refusal (outbox_in conn self.old) handle) }
+        ensures memory { LacksMemory result → LacksPulseRoomAt conn handle self.old }
         ensures ok { OnOk result (CanArm conn handle self.new) }
         ensures same { ChangesRoom conn self.old self.new }
-        ensures handle_rooms { (each : ℕ) → handle_room_at each self.new ≡ handle_room_at each self.old }
+        ensures handle_rooms { AreHandleRoomsSame self.old self.new }
     {
         let Ok(place) = search(&self.attached, conn) else {
             return Ok(());
@@ -213,7 +212,7 @@ impl Connections {
     /// Arms a pulse on a handle, in place of the one that is armed on it. It takes no memory.
     pub fn arm(&mut self, conn: Conn, handle: Handle, code: u8, value: u32)
         requires { CanArm conn handle self.old }
-        ensures { ChangesOutbox conn (λ box. with_pulse box handle (code, value)) self.old self.new }
+        ensures { ChangesOutbox conn (λ box. newly_armed box handle code value) self.old self.new }
     {
         if let Ok(place) = search(&self.attached, conn) {
             let attached = &mut self.attached[place];
@@ -246,11 +245,11 @@ impl Connections {
     /// It is ReadPending where a read is parked on the handle, then OutboxFull where the connection's items, armed
     /// pulses and parked reads are 1,024, and else OutOfMemory is the only error.
     pub fn park_ready(&mut self, conn: Conn, handle: Handle) -> Result<(), Refusal>
-        ensures refusal { refusal_of result ≢ Some OutOfMemory → refusal_of result ≡ park_refusal (outbox_of conn (standing_in self.old)) handle }
-        ensures memory { refusal_of result ≡ Some OutOfMemory → IsSomeAnd (roomed_at conn self.old) (LacksReadRoom handle) }
+        ensures refusal { IsRefusedAs result (park_refusal (outbox_in conn self.old) handle) }
+        ensures memory { LacksMemory result → LacksReadRoomAt conn handle self.old }
         ensures ok { OnOk result (CanPark conn handle self.new) }
         ensures same { ChangesRoom conn self.old self.new }
-        ensures handle_rooms { (each : ℕ) → handle_room_at each self.new ≡ handle_room_at each self.old }
+        ensures handle_rooms { AreHandleRoomsSame self.old self.new }
     {
         let Ok(place) = search(&self.attached, conn) else {
             return Ok(());
@@ -272,7 +271,7 @@ impl Connections {
 
     /// Whether a read is parked on a handle of a connection.
     pub fn is_parked(&self, conn: Conn, handle: Handle) -> bool
-        ensures { result ≡ is_parked (outbox_of conn (standing_in self.now)) handle }
+        ensures { result ≡ is_parked (outbox_in conn self.now) handle }
     {
         match search(&self.attached, conn) {
             Ok(place) => {
@@ -309,7 +308,7 @@ impl Connections {
 
     /// The item that was queued first for a connection, which stays.
     pub fn first(&self, conn: Conn) -> Option<&Item>
-        ensures { option_copied result ≡ first_of (outbox_of conn (standing_in self.now)).items }
+        ensures { option_copied result ≡ first_of (outbox_in conn self.now).items }
     {
         match search(&self.attached, conn) {
             Ok(place) => {
@@ -322,8 +321,8 @@ impl Connections {
 
     /// Takes the item that was queued first for a connection, if there is one.
     pub fn take(&mut self, conn: Conn) -> Option<Item>
-        ensures item { result ≡ first_of (outbox_of conn (standing_in self.old)).items }
-        ensures rest { ChangesOutbox conn (λ box. record box { items = behind_first box.items }) self.old self.new }
+        ensures item { result ≡ first_of (outbox_in conn self.old).items }
+        ensures rest { ChangesOutbox conn (λ box. without_first_item box) self.old self.new }
     {
         let Ok(place) = search(&self.attached, conn) else {
             return None;

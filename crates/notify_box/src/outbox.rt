@@ -1,10 +1,12 @@
 //! The outbox of a connection.
-ghost use Rattle.std.specs.Prelude.{◌≡◌, ◌≢◌, ◌↔◌, ◌≤◌, IsTrue, Some, None, false, IfOk, IfErr, OnOk};
+ghost use Rattle.std.specs.Prelude.{◌≡◌, ◌↔◌, ◌≤◌, IsTrue, IfOk, IfErr, OnOk};
 ghost use Rattle.std.specs.Option.{option_copied};
-ghost use Rattle.pps_types.specs.Names.{refusal_of};
 ghost use Rattle.pps_types.specs.declared.refusal.Refusal.TheVariants.{OutOfMemory};
-ghost use Rattle.pps_types.specs.Outbox.{empty_outbox, is_armed, is_parked, held, arm_refusal, park_refusal, disarmed, with_pulse, with_parked, fired_in, finished_in, first_of, behind_first};
+ghost use Rattle.pps_types.specs.Outbox.{empty_outbox, is_parked, held, arm_refusal, park_refusal, disarmed, with_parked, fired_in, finished_in, first_of};
+ghost use Rattle.pps_types.specs.Refused.{IsRefusedAs, LacksMemory};
 ghost use Rattle.notify_box.specs.Roomed.{IsReadyToArm, IsReadyToPark};
+ghost use Rattle.notify_box.specs.Changes.{newly_armed, without_first_item};
+ghost use Rattle.notify_box.specs.Standing.{LacksPulseRoom, LacksReadRoom};
 
 use crate::alike::{same_armed, same_items, same_parked};
 use crate::armed::Armed;
@@ -75,9 +77,8 @@ impl Outbox {
     /// It is OutboxFull where items, armed pulses and parked reads are 1,024 without the handle's own armed pulse,
     /// and else OutOfMemory is the only error. Arming anew takes no memory.
     pub fn arm_ready(&mut self, handle: Handle) -> Result<(), Refusal>
-        ensures refusal { refusal_of result ≢ Some OutOfMemory → refusal_of result ≡ arm_refusal self.old.outbox handle }
-        ensures memory { refusal_of result ≡ Some OutOfMemory
-            → (arm_refusal self.old.outbox handle ≡ None) × (is_armed self.old.outbox handle ≡ false) × (self.old.pulse_room ≡ 0) }
+        ensures refusal { IsRefusedAs result (arm_refusal self.old.outbox handle) }
+        ensures memory { LacksMemory result → LacksPulseRoom handle self.old }
         ensures ok { OnOk result (IsReadyToArm self.new handle) }
         ensures same { self.new.outbox ≡ self.old.outbox }
     {
@@ -97,7 +98,7 @@ impl Outbox {
     /// Arms a pulse on a handle, in place of the one that is armed on it. It takes no memory.
     pub fn arm(&mut self, handle: Handle, code: u8, value: u32)
         requires { IsReadyToArm self.old handle }
-        ensures { self.new.outbox ≡ with_pulse self.old.outbox handle (code, value) }
+        ensures { self.new.outbox ≡ newly_armed self.old.outbox handle code value }
     {
         let armed = Armed {
             handle,
@@ -112,9 +113,8 @@ impl Outbox {
     /// It is ReadPending where a read is parked on the handle, then OutboxFull where items, armed pulses and
     /// parked reads are 1,024, and else OutOfMemory is the only error.
     pub fn park_ready(&mut self, handle: Handle) -> Result<(), Refusal>
-        ensures refusal { refusal_of result ≢ Some OutOfMemory → refusal_of result ≡ park_refusal self.old.outbox handle }
-        ensures memory { refusal_of result ≡ Some OutOfMemory
-            → (park_refusal self.old.outbox handle ≡ None) × (self.old.read_room ≡ 0) }
+        ensures refusal { IsRefusedAs result (park_refusal self.old.outbox handle) }
+        ensures memory { LacksMemory result → LacksReadRoom handle self.old }
         ensures ok { OnOk result (IsReadyToPark self.new handle) }
         ensures same { self.new.outbox ≡ self.old.outbox }
     {
@@ -186,7 +186,7 @@ impl Outbox {
     /// Takes the item that was queued first, if there is one.
     pub fn take(&mut self) -> Option<Item>
         ensures item { result ≡ first_of self.old.outbox.items }
-        ensures rest { self.new.outbox ≡ record self.old.outbox { items = behind_first self.old.outbox.items } }
+        ensures rest { self.new.outbox ≡ without_first_item self.old.outbox }
     {
         self.items.pop_front()
     }

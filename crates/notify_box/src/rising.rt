@@ -1,8 +1,9 @@
 //! Entries by number: vectors in which the numbers rise, so that one is found without looking at all.
-ghost use Rattle.std.specs.Prelude.{◌≡◌, ◌+◌, ◌<◌, ◌≤◌, ◌==◌, ℕ, not, false, None, if◌then◌else◌, length, filter, find, insert, IfOk, IfErr, IfNone, vec_len, vec_capacity};
+ghost use Rattle.std.specs.Prelude.{◌≡◌, ◌+◌, ◌<◌, ◌≤◌, ◌==◌, ℕ, not, None, if◌then◌else◌, length, filter, find, insert, IfOk, IfErr, IfNone, vec_len, vec_capacity};
 ghost use Rattle.std.specs.List.{list_any};
 ghost use Rattle.pps_types.specs.Outbox.{put_rising};
 ghost use Rattle.pps_types.specs.Rising.{IsRising, IsPlaceOf, IsGapFor};
+ghost use Rattle.notify_box.specs.ByNumber.{all_but, HasPlaceFor};
 
 use pps_types::Handle;
 
@@ -55,7 +56,7 @@ fn insert_reserved<T: Drop>(entries: &mut Vec<T>, place: usize, entry: T)
 /// Puts an entry in its place, where one of its number gives way. It takes no memory.
 pub(crate) fn put<T: Numbered>(entries: &mut Vec<T>, entry: T)
     requires rising { IsRising T.number_of entries.old.items }
-    requires room { list_any (λ e. T.number_of e == T.number_of entry) entries.old.items ≡ false → vec_len entries.old < vec_capacity entries.old }
+    requires room { HasPlaceFor T.number_of entry entries.old }
     ensures items { entries.new.items
         ≡ put_rising T.number_of entry (filter (λ e. not (T.number_of e == T.number_of entry)) entries.old.items) }
     ensures len { vec_len entries.new
@@ -73,7 +74,7 @@ pub(crate) fn put<T: Numbered>(entries: &mut Vec<T>, entry: T)
 pub(crate) fn take_out<T: Numbered>(entries: &mut Vec<T>, number: u32) -> Option<T>
     requires { IsRising T.number_of entries.old.items }
     ensures entry { result ≡ find (λ e. T.number_of e == number) entries.old.items }
-    ensures items { entries.new.items ≡ filter (λ e. not (T.number_of e == number)) entries.old.items }
+    ensures items { entries.new.items ≡ all_but T.number_of number entries.old.items }
     ensures len { vec_len entries.old
         ≡ vec_len entries.new + (if list_any (λ e. T.number_of e == number) entries.old.items then 1 else 0) }
     ensures capacity { vec_capacity entries.new ≡ vec_capacity entries.old }

@@ -1,7 +1,8 @@
 -- How a table lays out its values. No public clause cites this module.
-use Rattle.std.specs.Prelude.{◌≡◌, ℕ, zero, suc, Bool, ◌&&◌, ◌==◌, ◌<◌, ◌≤◌, List, [], ◌∷◌, Option, Some, None, is_some, IsSome, map, length, get_or, if◌then◌else◌}
+use Rattle.std.specs.Prelude.{◌≡◌, ℕ, zero, suc, Bool, ◌&&◌, ◌==◌, ◌<◌, ◌≤◌, List, [], ◌∷◌, Option, Some, None, is_some, IsSome, map, length, filter, get_or, if◌then◌else◌}
+use Rattle.std.specs.Cmp.Lexicographic.{pointwise}
 use Rattle.slab.specs.Slab.{Slab, get, slab_len}
-use Rattle.number_table.specs.Numbered.{Entry, most_taken}
+use Rattle.number_table.specs.Numbered.{Entry, entry_of, is_same_entry, most_taken}
 use Rattle.number_table.specs.declared.index.Place.{Place}
 use Rattle.number_table.specs.declared.index.Held.{Held}
 
@@ -24,6 +25,10 @@ IsPlace number (suc place) (n ∷ ns) = (n < number) × IsPlace number place ns
 
 abbrev pub numbers_in : List Place → List ℕ
 numbers_in index = map (λ p. p.number) index
+
+-- the numbers rise within the bounds within which they rose
+abbrev pub KeepsRising : List Place → List Place → Type 0
+KeepsRising old new = (low bound : ℕ) → Rises low (numbers_in old) bound → Rises low (numbers_in new) bound
 
 -- the key at a place
 abbrev pub key_at : List Place → ℕ → ℕ
@@ -69,6 +74,23 @@ module _ {T : Type 0} where
 
   abbrev pub slots_in : Slab (Held T) → List Place → List (Slot T)
   slots_in values index = map (slot_at values) index
+
+  -- the slots that have a value
+  abbrev pub held_slots : Slab (Held T) → List Place → List (Slot T)
+  held_slots values index = filter has_value (slots_in values index)
+
+  -- what has a value in a part of the index, in order
+  abbrev pub held_in : Slab (Held T) → List Place → List (Entry T)
+  held_in values index = entries_in (slots_in values index)
+
+  -- the first value of a part of the index has that number, and the others are in that rest of it
+  abbrev pub BeginsWith : Slab (Held T) → List Place → ℕ → T → List Place → Type 0
+  BeginsWith values index number value rest = held_in values index ≡ entry_of number value ∷ held_in values rest
+
+  -- whether equal values are under the same numbers of two indexes
+  abbrev pub has_same_entries : (T → T → Bool) → Slab (Held T) → List Place → Slab (Held T) → List Place → Bool
+  has_same_entries eq values index other_values other_index =
+      pointwise (is_same_entry eq) (held_in values index) (held_in other_values other_index)
 
   abbrev pub values_in : Slab (Held T) → List Place → List T
   values_in values index = map (λ e. e.value) (entries_in (slots_in values index))

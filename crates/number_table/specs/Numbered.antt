@@ -1,6 +1,7 @@
 -- What a table is: values under numbers that rise, and how far its memory goes.
-use Rattle.std.specs.Prelude.{◌≡◌, ℕ, ◌+◌, ◌*◌, Bool, ◌&&◌, ◌==◌, List, [], ◌∷◌, Option, map, find, if◌then◌else◌}
+use Rattle.std.specs.Prelude.{◌≡◌, ◌≤◌, ℕ, ◌+◌, ◌-◌, ◌*◌, min, Bool, ◌&&◌, ◌==◌, List, [], ◌∷◌, Option, map, find, if◌then◌else◌}
 use Rattle.std.specs.Option.{option_map}
+use Rattle.std.specs.List.{AllZip}
 use Rattle.std.specs.Cmp.Lexicographic.{pointwise}
 
 -- a value, and the number that it stands under
@@ -32,6 +33,10 @@ module _ {X : Type 0} where
   without_first test (x ∷ xs) = if test x then xs else x ∷ without_first test xs
 
 module _ {T : Type 0} where
+  -- a value under its number
+  abbrev pub entry_of : ℕ → T → Entry T
+  entry_of number value = record { number = number; value = value }
+
   abbrev pub has_number : ℕ → Entry T → Bool
   has_number number entry = entry.number == number
 
@@ -60,6 +65,39 @@ module _ {T : Type 0} where
   abbrev pub IsNumberedBy : (T → ℕ) → Numbered T → Type 0
   IsNumberedBy number_of table = AllTell number_of table.entries
 
+  -- ---- a table after a value came or left
+
+  -- the entry of that number, if there is one, is taken out
+  abbrev pub LosesEntry : ℕ → Numbered T → Numbered T → Type 0
+  LosesEntry number old new = new.entries ≡ without_first (has_number number) old.entries
+
+  -- there is room for one more entry where the index dropped a number, and else for as many as before
+  abbrev pub GivesRoomBack : Numbered T → Numbered T → Type 0
+  GivesRoomBack old new = min (old.taken + old.room - new.taken) (old.room + 1) ≤ new.room
+
+  -- ---- where each value has its number in it, as a function of it gives
+
+  -- the value found is the first that has the number in it
+  abbrev pub IsFoundByValue : ℕ → Numbered T → Option T → Type 0
+  IsFoundByValue number table found =
+      (number_of : T → ℕ) → IsNumberedBy number_of table → found ≡ find (λ x. number_of x == number) (values_of table)
+
+  -- the first value that has the number in it is taken out
+  abbrev pub LosesByValue : ℕ → Numbered T → Numbered T → Type 0
+  LosesByValue number old new =
+      (number_of : T → ℕ) → IsNumberedBy number_of old → values_of new ≡ without_first (λ x. number_of x == number) (values_of old)
+
+  -- where each value had its number in it, each has it still
+  abbrev pub StaysNumbered : Numbered T → Numbered T → Type 0
+  StaysNumbered old new = (number_of : T → ℕ) → IsNumberedBy number_of old → IsNumberedBy number_of new
+
+  -- the same where a value came under that number, if it has the number in it
+  abbrev pub StaysNumberedWith : ℕ → T → Numbered T → Numbered T → Type 0
+  StaysNumberedWith number value old new =
+      (number_of : T → ℕ) → IsNumberedBy number_of old → number_of value ≡ number → IsNumberedBy number_of new
+
+  -- ---- the same in two tables
+
   -- whether equal values stand under one number
   abbrev pub is_same_entry : (T → T → Bool) → Entry T → Entry T → Bool
   is_same_entry eq one other = (one.number == other.number) && eq one.value other.value
@@ -71,6 +109,10 @@ module _ {T : Type 0} where
   -- under the same number stands a clone of the value
   abbrev pub IsCloneEntry : (T → T → Type 0) → Entry T → Entry T → Type 0
   IsCloneEntry is_clone entry clone = (clone.number ≡ entry.number) × is_clone entry.value clone.value
+
+  -- under the same numbers are clones of the values, in the same order
+  abbrev pub HasClones : (T → T → Type 0) → Numbered T → Numbered T → Type 0
+  HasClones is_clone table copy = AllZip (IsCloneEntry is_clone) table.entries copy.entries
 
   -- a clone equals what it is a clone of
   abbrev pub ClonesAreEqual : (T → T → Type 0) → Type 0

@@ -1,11 +1,10 @@
 //! The index of a table: its numbers in rising order, each with the key of its value in the slab.
-ghost use Rattle.std.specs.Prelude.{◌≡◌, ◌≤◌, ◌<◌, ◌∷◌, [], ℕ, true, length, filter, find, get_or, IsSome, IfSome, IfNone, None, Some, vec_len, vec_capacity};
+ghost use Rattle.std.specs.Prelude.{◌≡◌, ◌≤◌, ◌<◌, [], ℕ, true, length, find, get_or, IsSome, IfSome, IfNone, None, Some, vec_len, vec_capacity};
 ghost use Rattle.std.specs.Option.{option_copied};
 ghost use Rattle.std.specs.Borrow.{Lends, sem};
-ghost use Rattle.std.specs.Cmp.Lexicographic.{pointwise};
 ghost use Rattle.slab.specs.Slab.{slab_len};
-ghost use Rattle.number_table.specs.Numbered.{has_number, is_same_entry, most_taken, value_under};
-ghost use Rattle.number_table.specs.Index.{IsPlace, StandsAt, Rises, numbers_in, entries_in, has_value, slot_at, slots_in, stands, key_at, with_held_value};
+ghost use Rattle.number_table.specs.Numbered.{has_number, most_taken, value_under};
+ghost use Rattle.number_table.specs.Index.{BeginsWith, IsPlace, KeepsRising, StandsAt, Rises, numbers_in, held_in, has_same_entries, held_slots, slot_at, slots_in, stands, key_at, with_held_value};
 ghost use Rattle.number_table.specs.contracts.index.Held.{the_row};
 
 use slab::Slab;
@@ -34,7 +33,8 @@ pub(crate) struct Held<T> {
 impl<T> Held<T> {
     /// Its value, to be changed in place.
     pub(crate) fn value_mut(&mut self) -> &mut T
-        ensures* lends { sem 𝓛 (Lends (the_row T.row) T.row self.entry result (with_held_value self.entry.now)) }
+        ensures* lends { sem 𝓛 (Lends (the_row T.row) T.row self.entry result
+            (with_held_value self.entry.now)) }
         ensures value { self.old.value ≡ result.now }
     {
         &mut self.value
@@ -70,8 +70,9 @@ pub(crate) fn first_value<'a, T>(
     values: &'a Slab<Held<T>>,
     index: &'a [Place],
 ) -> Option<First<'a, T>>
-    ensures some { IfSome result (λ first. entries_in (slots_in values.now index.now) ≡ record { number = first.number; value = first.value.now } ∷ entries_in (slots_in values.now first.rest.now)) }
-    ensures none { IfNone result (entries_in (slots_in values.now index.now) ≡ []) }
+    ensures some { IfSome result (λ first.
+        BeginsWith values.now index.now first.number first.value.now first.rest.now) }
+    ensures none { IfNone result (held_in values.now index.now ≡ []) }
 {
     let mut rest = index;
     while let Some((place, after)) = rest.split_first() {
@@ -94,7 +95,7 @@ pub(crate) fn are_same<T: PartialEq>(
     other_values: &Slab<Held<T>>,
     other_index: &[Place],
 ) -> bool
-    ensures { result ≡ pointwise (is_same_entry T.eq) (entries_in (slots_in values.now index.now)) (entries_in (slots_in other_values.now other_index.now)) }
+    ensures { result ≡ has_same_entries T.eq values.now index.now other_values.now other_index.now }
 {
     let mut ours = index;
     let mut theirs = other_index;
@@ -201,7 +202,7 @@ pub(crate) fn find_place<T>(
 ) -> Option<usize>
     requires rises { (bound : ℕ) × Rises 0 (numbers_in index.now) bound }
     ensures some { IfSome result (λ place. StandsAt number place (slots_in values.now index.now)) }
-    ensures none { IfNone result (find (has_number number) (entries_in (slots_in values.now index.now)) ≡ None) }
+    ensures none { IfNone result (find (has_number number) (held_in values.now index.now) ≡ None) }
 {
     let place = place_near(index, number, hint);
     if place >= index.len() {
@@ -219,7 +220,7 @@ pub(crate) fn find_value<'a, T>(
     hint: usize,
 ) -> Option<&'a T>
     requires { (bound : ℕ) × Rises 0 (numbers_in index.now) bound }
-    ensures { option_copied result ≡ value_under number (entries_in (slots_in values.now index.now)) }
+    ensures { option_copied result ≡ value_under number (held_in values.now index.now) }
 {
     let place = place_near(index, number, hint);
     if place >= index.len() {
@@ -240,7 +241,7 @@ pub(crate) fn known_place<T>(
     hint: usize,
 ) -> usize
     requires rises { (bound : ℕ) × Rises 0 (numbers_in index.now) bound }
-    requires known { IsSome (value_under number (entries_in (slots_in values.now index.now))) }
+    requires known { IsSome (value_under number (held_in values.now index.now)) }
     ensures { StandsAt number result (slots_in values.now index.now) }
 {
     let _values = values;
@@ -249,7 +250,7 @@ pub(crate) fn known_place<T>(
 
 /// Drops the numbers without a value.
 fn compact<T>(values: &Slab<Held<T>>, index: &mut Vec<Place>)
-    ensures index { slots_in values.now index.new.items ≡ filter has_value (slots_in values.now index.old.items) }
+    ensures index { slots_in values.now index.new.items ≡ held_slots values.now index.old.items }
     ensures capacity { vec_capacity index.new ≡ vec_capacity index.old }
 {
     index.retain(|place| value_at(values, *place).is_some());
@@ -257,9 +258,9 @@ fn compact<T>(values: &Slab<Held<T>>, index: &mut Vec<Place>)
 
 /// Drops the numbers without a value where they are too many beside those with one.
 pub(crate) fn compact_if_sparse<T>(values: &Slab<Held<T>>, index: &mut Vec<Place>)
-    requires counted { slab_len values.now ≡ length (entries_in (slots_in values.now index.old.items)) }
-    ensures entries { entries_in (slots_in values.now index.new.items) ≡ entries_in (slots_in values.now index.old.items) }
-    ensures rises { (low bound : ℕ) → Rises low (numbers_in index.old.items) bound → Rises low (numbers_in index.new.items) bound }
+    requires counted { slab_len values.now ≡ length (held_in values.now index.old.items) }
+    ensures entries { held_in values.now index.new.items ≡ held_in values.now index.old.items }
+    ensures rises { KeepsRising index.old.items index.new.items }
     ensures dense { vec_len index.new ≤ most_taken (slab_len values.now) }
     ensures len { vec_len index.new ≤ vec_len index.old }
     ensures capacity { vec_capacity index.new ≡ vec_capacity index.old }

@@ -1,9 +1,8 @@
 //! The table.
-ghost use Rattle.std.specs.Prelude.{◌≡◌, ◌+◌, ◌-◌, ◌^◌, ◌<◌, ◌≤◌, ◌==◌, [], ◌∷◌, ◌++◌, ℕ, ◌↔◌, length, find, option_copied, Some, OnOk, OnErr, IfOk, IsSome, IsTrue, is_some, min};
+ghost use Rattle.std.specs.Prelude.{◌≡◌, ◌+◌, ◌^◌, ◌<◌, ◌≤◌, [], ◌∷◌, ◌++◌, ◌↔◌, length, option_copied, Some, OnOk, OnErr, IfOk, IsSome, IsTrue, is_some};
 ghost use Rattle.std.specs.Option.{option_copied_mut};
 ghost use Rattle.std.specs.Borrow.{Lends, LendsIf, sem};
-ghost use Rattle.std.specs.List.{AllZip};
-ghost use Rattle.number_table.specs.Numbered.{values_of, value_at, with_value, without_first, has_number, most_taken, is_same, IsNumberedBy, IsCloneEntry, ClonesAreEqual};
+ghost use Rattle.number_table.specs.Numbered.{values_of, value_at, entry_of, with_value, most_taken, is_same, IsFoundByValue, LosesEntry, LosesByValue, StaysNumbered, StaysNumberedWith, GivesRoomBack, HasClones, ClonesAreEqual};
 
 use crate::index::{
     Held, NO_HINT, Place, are_same, compact_if_sparse, find_place, find_value, first_value, key_at,
@@ -106,9 +105,9 @@ impl<T> Table<T> {
         requires room { 0 < self.old.room }
         requires above { self.old.next ≤ number }
         requires last { number + 1 < 2 ^ 64 }
-        ensures entries { self.new.entries ≡ self.old.entries ++ record { number = number; value = value } ∷ [] }
+        ensures entries { self.new.entries ≡ self.old.entries ++ entry_of number value ∷ [] }
         ensures values { values_of self.new ≡ values_of self.old ++ value ∷ [] }
-        ensures told { (number_of : T → ℕ) → IsNumberedBy number_of self.old → number_of value ≡ number → IsNumberedBy number_of self.new }
+        ensures told { StaysNumberedWith number value self.old self.new }
         ensures next { self.new.next ≡ number + 1 }
         ensures taken { self.new.taken ≡ self.old.taken + 1 }
         ensures room { self.new.room + 1 ≡ self.old.room }
@@ -131,7 +130,7 @@ impl<T> Table<T> {
     /// The value under a number, if there is one, by a binary search.
     pub fn get(&self, number: u64) -> Option<&T>
         ensures value { option_copied result ≡ value_at number self.now }
-        ensures found { (number_of : T → ℕ) → IsNumberedBy number_of self.now → option_copied result ≡ find (λ x. number_of x == number) (values_of self.now) }
+        ensures found { IsFoundByValue number self.now (option_copied result) }
     {
         self.get_near(number, NO_HINT)
     }
@@ -139,7 +138,7 @@ impl<T> Table<T> {
     /// The value under a number, if there is one, without a search where the hint is right.
     pub fn get_near(&self, number: u64, hint: usize) -> Option<&T>
         ensures value { option_copied result ≡ value_at number self.now }
-        ensures found { (number_of : T → ℕ) → IsNumberedBy number_of self.now → option_copied result ≡ find (λ x. number_of x == number) (values_of self.now) }
+        ensures found { IsFoundByValue number self.now (option_copied result) }
     {
         find_value(&self.values, self.index.as_slice(), number, hint)
     }
@@ -157,7 +156,8 @@ impl<T> Table<T> {
 
     /// The value under a number, if there is one, to be changed in place. It takes no memory.
     pub fn get_mut(&mut self, number: u64) -> Option<&mut T>
-        ensures* writes_back { sem 𝓛 (LendsIf (the_row T.row) T.row self.entry result (with_value self.old number) self.old) }
+        ensures* writes_back { sem 𝓛 (LendsIf (the_row T.row) T.row self.entry result
+            (with_value self.old number) self.old) }
         ensures value { option_copied_mut result ≡ value_at number self.old }
     {
         match self.place(number) {
@@ -169,7 +169,8 @@ impl<T> Table<T> {
     /// The value under a number, which there is, to be changed in place: without a search where the hint is right.
     pub fn value_mut(&mut self, number: u64, hint: usize) -> &mut T
         requires { IsSome (value_at number self.old) }
-        ensures* writes_back { sem 𝓛 (Lends (the_row T.row) T.row self.entry result (with_value self.old number)) }
+        ensures* writes_back { sem 𝓛 (Lends (the_row T.row) T.row self.entry result
+            (with_value self.old number)) }
         ensures value { value_at number self.old ≡ Some result.now }
     {
         let place = known_place(&self.values, self.index.as_slice(), number, hint);
@@ -185,18 +186,18 @@ impl<T: Drop> Table<T> {
     /// at most two numbers for each removal. No other value moves.
     pub fn remove(&mut self, number: u64) -> Option<T>
         ensures value { result ≡ value_at number self.old }
-        ensures entries { self.new.entries ≡ without_first (has_number number) self.old.entries }
+        ensures entries { LosesEntry number self.old self.new }
         ensures next { self.new.next ≡ self.old.next }
 
         // Where the values tell their numbers.
-        ensures found { (number_of : T → ℕ) → IsNumberedBy number_of self.old → result ≡ find (λ x. number_of x == number) (values_of self.old) }
-        ensures values { (number_of : T → ℕ) → IsNumberedBy number_of self.old → values_of self.new ≡ without_first (λ x. number_of x == number) (values_of self.old) }
-        ensures told { (number_of : T → ℕ) → IsNumberedBy number_of self.old → IsNumberedBy number_of self.new }
+        ensures found { IsFoundByValue number self.old result }
+        ensures values { LosesByValue number self.old self.new }
+        ensures told { StaysNumbered self.old self.new }
 
         // Room comes back.
         ensures dense { self.new.taken ≤ most_taken (length self.new.entries) }
         ensures room { self.old.room ≤ self.new.room }
-        ensures back { min (self.old.taken + self.old.room - self.new.taken) (self.old.room + 1) ≤ self.new.room }
+        ensures back { GivesRoomBack self.old self.new }
         ensures fewer { self.new.taken ≤ self.old.taken }
     {
         let index = self.index.as_slice();
@@ -214,8 +215,9 @@ impl<T: Drop> Table<T> {
 impl<T: Clone + Drop> Table<T> {
     /// A table with a clone of each value under the same number, and no other numbers.
     pub fn copy(&self) -> Result<Table<T>, AllocError>
-        ensures clones { IfOk result (λ copy. AllZip (IsCloneEntry T.is_clone) self.now.entries copy.entries) }
-        ensures entries { ClonesAreEqual T.is_clone → IfOk result (λ copy. copy.entries ≡ self.now.entries) }
+        ensures clones { IfOk result (λ copy. HasClones T.is_clone self.now copy) }
+        ensures entries { ClonesAreEqual T.is_clone
+            → IfOk result (λ copy. copy.entries ≡ self.now.entries) }
         ensures next { IfOk result (λ copy. copy.next ≡ self.now.next) }
         ensures taken { IfOk result (λ copy. copy.taken ≡ length self.now.entries) }
     {

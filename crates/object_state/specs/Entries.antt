@@ -1,7 +1,9 @@
 -- The entries of the map that keeps an object's attributes, as attributes.
-use Rattle.std.specs.Prelude.{ℕ, ◌+◌, List, Option, None, Some, if◌then◌else◌, map, length, slice_get}
+use Rattle.std.specs.Prelude.{ℕ, ◌+◌, List, Option, None, Some, not, if◌then◌else◌, filter, map, length, slice_get}
 use Rattle.std.specs.Option.{option_map_or}
-use Rattle.pps_types.specs.History.{Attribute}
+use Rattle.indexmap.specs.IndexMap.{IndexMap}
+use Rattle.pps_types.specs.Bytes.{same}
+use Rattle.pps_types.specs.History.{Attribute, put}
 use Rattle.object_state.specs.declared.content.Content.{Content}
 
 abbrev pub attribute_of : List ℕ × Content → Attribute
@@ -9,6 +11,18 @@ attribute_of e = record { name = e.0; enc = e.1.enc; value = e.1.value; n = e.1.
 
 abbrev pub attributes_of : List (List ℕ × Content) → List Attribute
 attributes_of entries = map attribute_of entries
+
+-- those of a map
+abbrev pub attributes_in : {S : Type 0} → IndexMap (List ℕ) Content S → List Attribute
+attributes_in m = attributes_of m.entries
+
+-- with one of this name and content, in the place of the one of that name or else last
+abbrev pub with_named : List ℕ → Content → List Attribute → List Attribute
+with_named name content attributes = put attributes (attribute_of (name, content))
+
+-- without the one of this name
+abbrev pub without_named : List ℕ → List Attribute → List Attribute
+without_named name attributes = filter (λ (a : Attribute). not (same a.name name)) attributes
 
 -- how long the printed line of this content is, under a name of that length
 abbrev pub line_length : ℕ → Content → ℕ

@@ -5,4 +5,6 @@ pub mod Effect
 pub mod Digest
 pub mod Lent
 pub mod Limits
+pub mod Notes
+pub mod Printed
 pub mod HeldView

@@ -1,7 +1,10 @@
 -- The limits of an object.
-use Rattle.std.specs.Prelude.{ℕ, Bool, ◌||◌, nat_lt, ◌≡◌, ◌+◌, ◌≤◌, ◌<◌, ◌^◌, List, Option, fold, length}
+use Rattle.std.specs.Prelude.{ℕ, Bool, ◌||◌, nat_lt, ◌≡◌, ◌≢◌, ◌+◌, ◌≤◌, ◌<◌, ◌^◌, List, Option, Some, fold, length}
 use Rattle.std.specs.Option.{ForSome}
 use Rattle.pps_types.specs.declared.line.Line.{Line}
+use Rattle.pps_types.specs.declared.refusal.Refusal.{Refusal}
+use Rattle.pps_types.specs.declared.refusal.Refusal.TheVariants.{OutOfMemory}
+use Rattle.pps_types.specs.Checks.{first_refusal, limit_checks}
 use Rattle.pps_types.specs.History.{Attribute, text_length, apply_line}
 use Rattle.pps_types.specs.Text.{print_lines}
 
@@ -25,3 +28,21 @@ pub record IsHeld (attributes : List Attribute) (text_len room : ℕ) (ready : O
   pub kept : text_len ≡ text_length attributes
   pub within : IsWithinLimits attributes
   pub readied : ForSome ready (IsReady attributes room)
+
+-- ---- by lines that take effect, one after the other
+
+-- the attributes after these lines
+abbrev pub after_lines : List Attribute → List Line → List Attribute
+after_lines attributes lines = fold apply_line attributes lines
+
+-- after these lines they are past the limits
+abbrev pub lines_pass_limits : List Attribute → List Line → Bool
+lines_pass_limits attributes lines = is_past_limits (after_lines attributes lines)
+
+-- Where memory does not lack, it is the refusal by the limits after these lines, or none.
+abbrev pub IsLimitRefusal : Option Refusal → List Attribute → List Line → Type 0
+IsLimitRefusal given attributes lines = given ≢ Some OutOfMemory → given ≡ first_refusal (limit_checks (after_lines attributes lines))
+
+-- how many bytes the printed attributes and, after them, these printed lines have
+abbrev pub length_with : List Attribute → List Line → ℕ
+length_with attributes lines = text_length attributes + length (print_lines lines)

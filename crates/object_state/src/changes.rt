@@ -1,12 +1,12 @@
 //! Changes of attributes. They take no memory, and tell how long the printed lines are then.
-ghost use Rattle.std.specs.Prelude.{◌≡◌, ◌+◌, ◌≤◌, ◌<◌, ◌^◌, IfSome, filter as those, fold, length, not};
+ghost use Rattle.std.specs.Prelude.{◌≡◌, ◌+◌, ◌≤◌, ◌<◌, ◌^◌, IfSome, length};
 ghost use Rattle.std.specs.List.{swap};
 ghost use Rattle.indexmap.specs.IndexMap.{spare};
-ghost use Rattle.pps_types.specs.Bytes.{same};
 ghost use Rattle.pps_types.specs.History as history;
 ghost use Rattle.pps_types.specs.Text as text;
 ghost use Rattle.object_state.specs.Effect.{printed_length};
-ghost use Rattle.object_state.specs.Entries.{attribute_of, attributes_of, persistent_length};
+ghost use Rattle.object_state.specs.Entries.{attribute_of, attributes_in, persistent_length, with_named, without_named};
+ghost use Rattle.object_state.specs.Limits.{after_lines};
 
 use crate::content::{Attributes, Content};
 use pps_filter::Name;
@@ -15,10 +15,10 @@ use pps_types::Line;
 /// Puts an attribute in the place of the one of that name, or last, for which there is room.
 fn set(map: &mut Attributes, text_len: usize, name: Name, content: Content) -> usize
     requires room { 0 < spare map.old }
-    requires kept { text_len ≡ history.text_length (attributes_of map.old.entries) }
+    requires kept { text_len ≡ history.text_length (attributes_in map.old) }
     requires fits { text_len + printed_length (attribute_of (name, content)) < 2 ^ 64 }
-    ensures attributes { attributes_of map.new.entries ≡ history.put (attributes_of map.old.entries) (attribute_of (name, content)) }
-    ensures kept { result ≡ history.text_length (attributes_of map.new.entries) }
+    ensures attributes { attributes_in map.new ≡ with_named name content (attributes_in map.old) }
+    ensures kept { result ≡ history.text_length (attributes_in map.new) }
     ensures room { spare map.old ≤ spare map.new + 1 }
 {
     let name_len = name.len();
@@ -31,10 +31,10 @@ fn set(map: &mut Attributes, text_len: usize, name: Name, content: Content) -> u
 
 /// Deletes the attribute of that name, where there is one. The others keep their order.
 fn delete(map: &mut Attributes, text_len: usize, name: &Name) -> usize
-    requires kept { text_len ≡ history.text_length (attributes_of map.old.entries) }
+    requires kept { text_len ≡ history.text_length (attributes_in map.old) }
     requires fits { text_len < 2 ^ 64 }
-    ensures attributes { attributes_of map.new.entries ≡ those (λ (a : history.Attribute). not (same a.name name.now)) (attributes_of map.old.entries) }
-    ensures kept { result ≡ history.text_length (attributes_of map.new.entries) }
+    ensures attributes { attributes_in map.new ≡ without_named name.now (attributes_in map.old) }
+    ensures kept { result ≡ history.text_length (attributes_in map.new) }
     ensures room { spare map.old ≤ spare map.new }
 {
     // `len` says that no name stands twice.
@@ -47,10 +47,10 @@ fn delete(map: &mut Attributes, text_len: usize, name: &Name) -> usize
 
 fn apply_line(map: &mut Attributes, text_len: usize, line: Line) -> usize
     requires room { 0 < spare map.old }
-    requires kept { text_len ≡ history.text_length (attributes_of map.old.entries) }
+    requires kept { text_len ≡ history.text_length (attributes_in map.old) }
     requires fits { text_len + length (text.print_line line) < 2 ^ 64 }
-    ensures attributes { attributes_of map.new.entries ≡ history.apply_line (attributes_of map.old.entries) line }
-    ensures kept { result ≡ history.text_length (attributes_of map.new.entries) }
+    ensures attributes { attributes_in map.new ≡ history.apply_line (attributes_in map.old) line }
+    ensures kept { result ≡ history.text_length (attributes_in map.new) }
     ensures room { spare map.old ≤ spare map.new + 1 }
 {
     match line {
@@ -67,10 +67,10 @@ fn apply_line(map: &mut Attributes, text_len: usize, line: Line) -> usize
 /// Each line takes effect, one after the other.
 pub(crate) fn apply_lines(map: &mut Attributes, text_len: usize, lines: Vec<Line>) -> usize
     requires room { length lines.items ≤ spare map.old }
-    requires kept { text_len ≡ history.text_length (attributes_of map.old.entries) }
+    requires kept { text_len ≡ history.text_length (attributes_in map.old) }
     requires fits { text_len + length (text.print_lines lines.items) < 2 ^ 64 }
-    ensures attributes { attributes_of map.new.entries ≡ fold history.apply_line (attributes_of map.old.entries) lines.items }
-    ensures kept { result ≡ history.text_length (attributes_of map.new.entries) }
+    ensures attributes { attributes_in map.new ≡ after_lines (attributes_in map.old) lines.items }
+    ensures kept { result ≡ history.text_length (attributes_in map.new) }
 {
     let mut text_len = text_len;
     'lines: for line in lines {
@@ -104,9 +104,9 @@ fn move_down(map: &mut Attributes, kept: usize, place: usize)
 
 /// Deletes the nonpersistent attributes. The others keep their order.
 pub(crate) fn drop_nonpersistent(map: &mut Attributes) -> usize
-    requires { history.text_length (attributes_of map.old.entries) < 2 ^ 64 }
-    ensures attributes { attributes_of map.new.entries ≡ history.persistent (attributes_of map.old.entries) }
-    ensures kept { result ≡ history.text_length (attributes_of map.new.entries) }
+    requires { history.text_length (attributes_in map.old) < 2 ^ 64 }
+    ensures attributes { attributes_in map.new ≡ history.persistent (attributes_in map.old) }
+    ensures kept { result ≡ history.text_length (attributes_in map.new) }
 {
     // `retain` would not do: its contract does not tell what its closure has summed up.
     let mut text_len = 0;

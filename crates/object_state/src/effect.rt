@@ -1,11 +1,11 @@
 //! What lines would make of attributes, told without changing them.
-ghost use Rattle.std.specs.Prelude.{◌≡◌, ℕ, ◌+◌, ◌-◌, ◌≤◌, ◌<◌, ◌^◌, List, IfOk, OnOk, Some, if◌then◌else◌, fold, length};
-ghost use Rattle.pps_types.specs.Bytes.{same};
+ghost use Rattle.std.specs.Prelude.{◌≡◌, ◌+◌, ◌-◌, ◌≤◌, ◌<◌, ◌^◌, List, IfOk, OnOk, length};
 ghost use Rattle.pps_types.specs.History as history;
 ghost use Rattle.pps_types.specs.Text as text;
-ghost use Rattle.object_state.specs.Effect.{length_at, noted_in, noted_or, count_of as counted, bytes_of, Foretells};
-ghost use Rattle.object_state.specs.Entries.{attributes_of};
-ghost use Rattle.object_state.specs.Limits.{is_past_limits};
+ghost use Rattle.object_state.specs.Effect.{length_at, noted_in, count_of as counted, bytes_of, Foretells};
+ghost use Rattle.object_state.specs.Entries.{attributes_in};
+ghost use Rattle.object_state.specs.Limits.{lines_pass_limits};
+ghost use Rattle.object_state.specs.Notes.{Notes, length_then};
 
 use crate::content::Attributes;
 use crate::noted::{Noted, OrderedName};
@@ -35,8 +35,8 @@ fn count_of(len: Option<usize>) -> usize
 
 // How long the printed line of the attribute of that name is, where there is one.
 fn len_before(map: &Attributes, name: &Name) -> Option<usize>
-    requires { history.text_length (attributes_of map.now.entries) < 2 ^ 64 }
-    ensures { result ≡ length_at name.now (attributes_of map.now.entries) }
+    requires { history.text_length (attributes_in map.now) < 2 ^ 64 }
+    ensures { result ≡ length_at name.now (attributes_in map.now) }
 {
     match map.get(name) {
         None => None,
@@ -52,15 +52,14 @@ impl Effect {
         name: OrderedName,
         len: Option<usize>,
     ) -> Result<(), AllocError>
-        requires text { history.text_length (attributes_of map.now.entries) < 2 ^ 64 }
+        requires text { history.text_length (attributes_in map.now) < 2 ^ 64 }
         requires counts { self.old.count + 1 < 2 ^ 64 }
         requires fits { self.old.text_len + bytes_of len < 2 ^ 64 }
-        ensures noted { OnOk result ((q : List ℕ) → noted_in self.new.noted q
-            ≡ (if same name q then Some len else noted_in self.old.noted q)) }
+        ensures noted { OnOk result (Notes name len self.old.noted self.new.noted) }
         ensures count { OnOk result (self.new.count
-            ≡ self.old.count + counted len - counted (noted_or (noted_in self.old.noted name) (length_at name (attributes_of map.now.entries)))) }
+            ≡ self.old.count + counted len - counted (length_then self.old.noted map.now name)) }
         ensures text_len { OnOk result (self.new.text_len
-            ≡ self.old.text_len + bytes_of len - bytes_of (noted_or (noted_in self.old.noted name) (length_at name (attributes_of map.now.entries)))) }
+            ≡ self.old.text_len + bytes_of len - bytes_of (length_then self.old.noted map.now name)) }
     {
         let at_first = len_before(map, name.as_name());
         let before = self.noted.insert(name, len)?.unwrap_or(at_first);
@@ -70,12 +69,12 @@ impl Effect {
     }
 
     fn note_line(&mut self, map: &Attributes, line: &Line) -> Result<(), AllocError>
-        requires text { history.text_length (attributes_of map.now.entries) < 2 ^ 64 }
+        requires text { history.text_length (attributes_in map.now) < 2 ^ 64 }
         requires counts { self.old.count + 1 < 2 ^ 64 }
         requires fits { self.old.text_len + length (text.print_line line.now) < 2 ^ 64 }
         ensures { OnOk result ((after : List history.Attribute)
-            → Foretells (noted_in self.old.noted) self.old.count self.old.text_len (attributes_of map.now.entries) after
-            → Foretells (noted_in self.new.noted) self.new.count self.new.text_len (attributes_of map.now.entries) (history.apply_line after line.now)) }
+            → Foretells (noted_in self.old.noted) self.old.count self.old.text_len (attributes_in map.now) after
+            → Foretells (noted_in self.new.noted) self.new.count self.new.text_len (attributes_in map.now) (history.apply_line after line.now)) }
     {
         match line {
             Line::Set { name, .. } => {
@@ -99,10 +98,10 @@ pub(crate) fn would_pass_limits(
     text_len: usize,
     lines: &[Line],
 ) -> Result<bool, AllocError>
-    requires kept { text_len ≡ history.text_length (attributes_of map.now.entries) }
+    requires kept { text_len ≡ history.text_length (attributes_in map.now) }
     requires fits { text_len + length (text.print_lines lines.now) < 2 ^ 64 }
-    requires counts { length (attributes_of map.now.entries) + length lines.now < 2 ^ 64 }
-    ensures { IfOk result (λ passes. passes ≡ is_past_limits (fold history.apply_line (attributes_of map.now.entries) lines.now)) }
+    requires counts { length (attributes_in map.now) + length lines.now < 2 ^ 64 }
+    ensures { IfOk result (λ passes. passes ≡ lines_pass_limits (attributes_in map.now) lines.now) }
 {
     let mut effect = Effect {
         noted: Noted::new(alloc),

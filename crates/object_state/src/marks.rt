@@ -1,8 +1,10 @@
 //! What the lines of a write come to: their marks, resolved.
-ghost use Rattle.std.specs.Prelude.{◌≡◌, ℕ, List, true, false, IfOk, OnOk};
+ghost use Rattle.std.specs.Prelude.{◌≡◌, List, true, false, IfOk, OnOk};
 ghost use Rattle.pps_types.specs.History as history;
-ghost use Rattle.object_state.specs.Effect.{noted_in, noted_or, ForetellsMarks};
-ghost use Rattle.object_state.specs.Entries.{attributes_of};
+ghost use Rattle.pps_types.specs.History.{resolve};
+ghost use Rattle.object_state.specs.Effect.{noted_in, ForetellsMarks};
+ghost use Rattle.object_state.specs.Entries.{attributes_in};
+ghost use Rattle.object_state.specs.Notes.{is_marked_then};
 
 use crate::content::Attributes;
 use crate::noted::{Noted, OrderedName};
@@ -12,7 +14,7 @@ use std::alloc::{AllocError, Global};
 
 // Whether an attribute of that name is there and nonpersistent.
 fn was_marked(map: &Attributes, name: &Name) -> bool
-    ensures { result ≡ history.is_marked name.now (attributes_of map.now.entries) }
+    ensures { result ≡ history.is_marked name.now (attributes_in map.now) }
 {
     match map.get(name) {
         None => false,
@@ -30,7 +32,7 @@ struct Marked {
 // Tells it by the notes or else by the map. Where there are no notes, they are not asked.
 fn with_mark(noted: &Noted<bool>, map: &Attributes, name: Bytes) -> Marked
     ensures name { result.name ≡ name }
-    ensures mark { result.n ≡ noted_or (noted_in noted.now name) (history.is_marked name (attributes_of map.now.entries)) }
+    ensures mark { result.n ≡ is_marked_then noted.now map.now name }
 {
     if noted.is_empty() {
         let name = Name::new(name);
@@ -61,9 +63,9 @@ struct Resolved {
 // The line that a line of a write comes to.
 fn resolve_line(noted: &Noted<bool>, map: &Attributes, line: WriteLine, is_last: bool) -> Resolved
     ensures line { (after : List history.Attribute)
-        → ForetellsMarks (noted_in noted.now) (attributes_of map.now.entries) after → result.line ≡ history.resolved after line }
+        → ForetellsMarks (noted_in noted.now) (attributes_in map.now) after → result.line ≡ history.resolved after line }
     ensures stays { (after : List history.Attribute) → is_last ≡ false → result.changes ≡ false
-        → ForetellsMarks (noted_in noted.now) (attributes_of map.now.entries) after → ForetellsMarks (noted_in noted.now) (attributes_of map.now.entries) (history.apply_line after result.line) }
+        → ForetellsMarks (noted_in noted.now) (attributes_in map.now) after → ForetellsMarks (noted_in noted.now) (attributes_in map.now) (history.apply_line after result.line) }
 {
     match line {
         WriteLine::Set {
@@ -136,7 +138,7 @@ pub(crate) fn resolve(
     map: &Attributes,
     lines: Vec<WriteLine>,
 ) -> Result<Vec<Line>, AllocError>
-    ensures { IfOk result (λ made. made.items ≡ history.resolve (attributes_of map.now.entries) lines.items) }
+    ensures { IfOk result (λ made. made.items ≡ resolve (attributes_in map.now) lines.items) }
 {
     let count = lines.len();
     let mut noted = Noted::new(alloc);

@@ -1,14 +1,14 @@
 //! What is noted of names, while the lines of a write are gone through.
-ghost use Rattle.std.specs.Prelude.{◌≡◌, ◌==◌, ◌↔◌, ℕ, List, [], Some, IsTrue, IfOk, OnOk, if◌then◌else◌, nat_eq};
+ghost use Rattle.std.specs.Prelude.{◌≡◌, ◌==◌, ◌↔◌, [], IsTrue, IfOk, OnOk, nat_eq};
 ghost use Rattle.std.specs.Option.{option_copied};
 ghost use Rattle.std.specs.Ordering.{as_partial_cmp, eq_of_both, on};
 ghost use Rattle.std.specs.Cmp.{partial_order_from_own_ties};
 ghost use Rattle.std.specs.Cmp.Rules.{comparing};
 ghost use Rattle.std.proofs.Common.{rules};
 ghost use lib.Pointwise.{pointwise};
-ghost use Rattle.pps_types.specs.Bytes.{same};
 ghost use Rattle.object_state.specs.Digest.{name_digest, name_order};
 ghost use Rattle.object_state.specs.Effect.{noted_in};
+ghost use Rattle.object_state.specs.Notes.{Notes};
 
 use pps_filter::Name;
 use pps_types::Bytes;
@@ -151,7 +151,7 @@ impl<T: Drop> Noted<T> {
     /// Notes it in place of what was noted of that name, which it gives.
     pub(crate) fn insert(&mut self, name: OrderedName, value: T) -> Result<Option<T>, AllocError>
         ensures before { IfOk result (λ before. before ≡ noted_in self.old name) }
-        ensures noted { OnOk result ((other : List ℕ) → noted_in self.new other ≡ (if same name other then Some value else noted_in self.old other)) }
+        ensures noted { OnOk result (Notes name value self.old self.new) }
     {
         Ok(self.by_name.insert(name, value)?)
     }

@@ -1,16 +1,11 @@
 //! One object's attributes.
-ghost use Rattle.std.specs.Prelude.{◌≡◌, ◌≢◌, ◌^◌, ◌+◌, ◌≤◌, ◌<◌, ◌++◌, ◌↔◌, IsTrue, IfOk, IfSome, IsSome, OnOk, OnErr, IsOkUnless, None, Some, [], option_map, slice_get, fold, length, vec_len, vec_capacity};
+ghost use Rattle.std.specs.Prelude.{◌≡◌, ◌^◌, ◌+◌, ◌≤◌, ◌<◌, ◌++◌, ◌↔◌, IsTrue, IfOk, IfSome, IsSome, OnOk, OnErr, IsOkUnless, None, Some, [], option_map, slice_get, length, vec_len, vec_capacity};
 ghost use Rattle.std.specs.List.{list_any};
-ghost use Rattle.std.specs.Option.{option_copied};
 ghost use Rattle.pps_types.specs.Bytes.{same};
-ghost use Rattle.pps_types.specs.History.{text_length, persistent, apply_line};
-ghost use Rattle.pps_types.specs.History as history;
+ghost use Rattle.pps_types.specs.History.{text_length, persistent, resolve};
 ghost use Rattle.pps_types.specs.Names as names;
-ghost use Rattle.pps_types.specs.Checks.{first_refusal, limit_checks};
-ghost use Rattle.pps_types.specs.Text.{print_lines};
-ghost use Rattle.pps_types.specs.declared.refusal.Refusal.TheVariants.{OutOfMemory};
-ghost use Rattle.object_state.specs.Held.{print_matching};
-ghost use Rattle.object_state.specs.Limits.{is_past_limits};
+ghost use Rattle.object_state.specs.Held.{matching_text, AppliesLines};
+ghost use Rattle.object_state.specs.Limits.{lines_pass_limits, length_with, IsLimitRefusal};
 
 use crate::changes::{apply_lines, drop_nonpersistent};
 use crate::content::Attributes;
@@ -116,7 +111,7 @@ impl Object {
     /// How many bytes the printed lines of those attributes have that match. It takes no memory.
     #[tactic(auto, using(crate::proofs::Printing::matching_le))]
     pub fn print_len(&self, filter: Option<&Filter>) -> usize
-        ensures { result ≡ length (print_matching (option_copied filter.entry) self.now.attributes) }
+        ensures { result ≡ length (matching_text filter.entry self.now) }
     {
         match filter {
             None => self.text_len,
@@ -126,8 +121,8 @@ impl Object {
 
     /// Pushes the printed lines of those attributes that match, for which there is room. It takes no memory.
     pub fn push_print(&self, out: &mut Vec<u8>, filter: Option<&Filter>)
-        requires { vec_len out.old + length (print_matching (option_copied filter) self.now.attributes) ≤ vec_capacity out.old }
-        ensures items { out.new.items ≡ out.old.items ++ print_matching (option_copied filter.entry) self.now.attributes }
+        requires { vec_len out.old + length (matching_text filter self.now) ≤ vec_capacity out.old }
+        ensures items { out.new.items ≡ out.old.items ++ matching_text filter.entry self.now }
         ensures capacity { vec_capacity out.old ≤ vec_capacity out.new }
     {
         match filter {
@@ -142,7 +137,7 @@ impl Object {
     /// of objects). OutOfMemory is the only error.
     #[tactic(auto, using(crate::proofs::Printing::matching_le))]
     pub fn print(&self, filter: Option<&Filter>) -> Result<Vec<u8>, Refusal>
-        ensures ok { IfOk result (λ printed. printed.items ≡ print_matching (option_copied filter.entry) self.now.attributes) }
+        ensures ok { IfOk result (λ printed. printed.items ≡ matching_text filter.entry self.now) }
         ensures err { IsOkUnless result Refusal.OutOfMemory }
     {
         let alloc: Global = *self.map.allocator();
@@ -175,7 +170,7 @@ impl Object {
     /// Without a bracket an attribute stays persistent or nonpersistent, as it was just before its line, and a new one
     /// is persistent (QNX PPS guide, on persistence). OutOfMemory is the only error.
     pub fn resolve(&self, lines: Vec<WriteLine>) -> Result<Vec<Line>, Refusal>
-        ensures ok { IfOk result (λ made. made.items ≡ history.resolve self.now.attributes lines.items) }
+        ensures ok { IfOk result (λ made. made.items ≡ resolve self.now.attributes lines.items) }
         ensures err { IsOkUnless result Refusal.OutOfMemory }
     {
         let alloc: Global = *self.map.allocator();
@@ -185,8 +180,8 @@ impl Object {
     // Whether the attributes would pass a limit with these lines, which with the text are that long. Where they are few
     // and short enough, nothing is simulated.
     fn is_too_large(&self, lines: &[Line], whole_len: usize) -> Result<bool, AllocError>
-        requires { whole_len ≡ text_length self.now.attributes + length (print_lines lines.now) }
-        ensures { IfOk result (λ passes. passes ≡ is_past_limits (fold apply_line self.now.attributes lines.now)) }
+        requires { whole_len ≡ length_with self.now.attributes lines.now }
+        ensures { IfOk result (λ passes. passes ≡ lines_pass_limits self.now.attributes lines.now) }
     {
         if !passes_limits(self.map.len() + lines.len(), whole_len) {
             return Ok(false);
@@ -197,9 +192,9 @@ impl Object {
 
     // Copies of lines that do not pass a limit.
     fn checked_copies(&self, lines: &[Line]) -> Result<Vec<Line>, Refusal>
-        ensures refusal { names.refusal_of result ≢ Some OutOfMemory → names.refusal_of result ≡ first_refusal (limit_checks (fold apply_line self.now.attributes lines.now)) }
+        ensures refusal { IsLimitRefusal (names.refusal_of result) self.now.attributes lines.now }
         ensures ok { IfOk result (λ copies. copies.items ≡ lines.now) }
-        ensures len { OnOk result (text_length self.now.attributes + length (print_lines lines.now) < 2 ^ 64) }
+        ensures len { OnOk result (length_with self.now.attributes lines.now < 2 ^ 64) }
     {
         let Some(whole_len) = len_with(self.text_len, lines) else {
             return Err(Refusal::OutOfMemory);
@@ -218,7 +213,7 @@ impl Object {
     /// It is TooLarge exactly where the object would have more than 1,024 attributes, or more than 65,536 bytes of
     /// printed lines, after all of these lines. Else OutOfMemory is the only error.
     pub fn apply_ready(&mut self, lines: &[Line]) -> Result<(), Refusal>
-        ensures refusal { names.refusal_of result ≢ Some OutOfMemory → names.refusal_of result ≡ first_refusal (limit_checks (fold apply_line self.old.attributes lines.now)) }
+        ensures refusal { IsLimitRefusal (names.refusal_of result) self.old.attributes lines.now }
         ensures ok { OnOk result (self.new.ready ≡ Some lines.now) }
         ensures same { self.new.attributes ≡ self.old.attributes }
         ensures err { OnErr result (self.new.ready ≡ None) }
@@ -236,8 +231,8 @@ impl Object {
     /// its place, and a deletion leaves the others in their order (QNX PPS guide, on changing attributes). It is refused
     /// as [`apply_ready`](Object::apply_ready) is. Whatever was ready before is not any more.
     pub fn apply(&mut self, lines: &[Line]) -> Result<(), Refusal>
-        ensures refusal { names.refusal_of result ≢ Some OutOfMemory → names.refusal_of result ≡ first_refusal (limit_checks (fold apply_line self.old.attributes lines.now)) }
-        ensures attributes { OnOk result (self.new.attributes ≡ fold apply_line self.old.attributes lines.now) }
+        ensures refusal { IsLimitRefusal (names.refusal_of result) self.old.attributes lines.now }
+        ensures attributes { OnOk result (AppliesLines lines.now self.old self.new) }
         ensures err { OnErr result (self.new.attributes ≡ self.old.attributes) }
         ensures ready { self.new.ready ≡ None }
     {
@@ -249,7 +244,7 @@ impl Object {
     /// Applies the lines that were made ready. It takes no memory.
     pub fn apply_commit(&mut self)
         requires { IsSome self.old.ready }
-        ensures attributes { IfSome self.old.ready (λ lines. self.new.attributes ≡ fold apply_line self.old.attributes lines) }
+        ensures attributes { IfSome self.old.ready (λ lines. AppliesLines lines self.old self.new) }
         ensures ready { self.new.ready ≡ None }
     {
         if let Some(lines) = self.ready.take() {

@@ -1,10 +1,9 @@
 //! Printing of attributes.
-ghost use Rattle.std.specs.Prelude.{◌≡◌, ◌+◌, ◌≤◌, ◌<◌, ◌^◌, ◌++◌, length, vec_len, vec_capacity, map as each};
+ghost use Rattle.std.specs.Prelude.{◌≡◌, ◌+◌, ◌≤◌, ◌<◌, ◌^◌, ◌++◌, length, vec_len, vec_capacity};
 ghost use Rattle.attr_text.specs.Written.{overwritten};
-ghost use Rattle.pps_types.specs.History.{line_of};
-ghost use Rattle.pps_types.specs.Text.{print_line, print_lines};
-ghost use Rattle.object_state.specs.Entries.{attribute_of, attributes_of};
-ghost use Rattle.object_state.specs.Held.{print_matching};
+ghost use Rattle.object_state.specs.Entries.{attributes_in};
+ghost use Rattle.object_state.specs.Held.{print_all};
+ghost use Rattle.object_state.specs.Printed.{print_entry, print_filtered};
 
 use crate::content::{Attributes, Content};
 use crate::places::first_place;
@@ -13,8 +12,8 @@ use pps_filter::{Filter, Name};
 
 /// How long the printed lines of those that match are.
 pub(crate) fn matching_len(map: &Attributes, filter: &Filter) -> usize
-    requires { length (print_matching (Some filter.now) (attributes_of map.now.entries)) < 2 ^ 64 }
-    ensures { result ≡ length (print_matching (Some filter.now) (attributes_of map.now.entries)) }
+    requires { length (print_filtered filter.now map.now) < 2 ^ 64 }
+    ensures { result ≡ length (print_filtered filter.now map.now) }
 {
     let mut total = 0;
     let mut place = first_place(map, filter, 0);
@@ -27,8 +26,8 @@ pub(crate) fn matching_len(map: &Attributes, filter: &Filter) -> usize
 
 // Pushes the printed line of the attribute, for which there is room.
 fn push_entry(out: &mut Vec<u8>, name: &Name, content: &Content)
-    requires { vec_len out.old + length (print_line (line_of (attribute_of (name.now, content.now)))) ≤ vec_capacity out.old }
-    ensures items { out.new.items ≡ out.old.items ++ print_line (line_of (attribute_of (name.now, content.now))) }
+    requires { vec_len out.old + length (print_entry name.now content.now) ≤ vec_capacity out.old }
+    ensures items { out.new.items ≡ out.old.items ++ print_entry name.now content.now }
     ensures capacity { vec_capacity out.old ≤ vec_capacity out.new }
 {
     push_set(
@@ -42,9 +41,9 @@ fn push_entry(out: &mut Vec<u8>, name: &Name, content: &Content)
 
 // Writes the printed line of the attribute over what stands from `at` on, and says where it ends.
 fn write_entry(out: &mut [u8], at: usize, name: &Name, content: &Content) -> usize
-    requires { at + length (print_line (line_of (attribute_of (name.now, content.now)))) ≤ length out.old }
-    ensures text { out.new ≡ overwritten out.old at (print_line (line_of (attribute_of (name.now, content.now)))) }
-    ensures end { result ≡ at + length (print_line (line_of (attribute_of (name.now, content.now)))) }
+    requires { at + length (print_entry name.now content.now) ≤ length out.old }
+    ensures text { out.new ≡ overwritten out.old at (print_entry name.now content.now) }
+    ensures end { result ≡ at + length (print_entry name.now content.now) }
 {
     write_set(
         out,
@@ -58,8 +57,8 @@ fn write_entry(out: &mut [u8], at: usize, name: &Name, content: &Content) -> usi
 
 // Writes the printed lines of all attributes over what stands from `start` on.
 fn write_all(out: &mut [u8], start: usize, map: &Attributes)
-    requires { start + length (print_lines (each line_of (attributes_of map.now.entries))) ≤ length out.old }
-    ensures { out.new ≡ overwritten out.old start (print_lines (each line_of (attributes_of map.now.entries))) }
+    requires { start + length (print_all (attributes_in map.now)) ≤ length out.old }
+    ensures { out.new ≡ overwritten out.old start (print_all (attributes_in map.now)) }
 {
     let mut at = start;
     'entries: for (name, content) in map {
@@ -70,9 +69,9 @@ fn write_all(out: &mut [u8], start: usize, map: &Attributes)
 /// Pushes the printed lines of all attributes, which are that long, and for which there is room. The place for all of
 /// them is made at once.
 pub(crate) fn push_all(out: &mut Vec<u8>, map: &Attributes, len: usize)
-    requires len { len ≡ length (print_lines (each line_of (attributes_of map.now.entries))) }
+    requires len { len ≡ length (print_all (attributes_in map.now)) }
     requires room { vec_len out.old + len ≤ vec_capacity out.old }
-    ensures items { out.new.items ≡ out.old.items ++ print_lines (each line_of (attributes_of map.now.entries)) }
+    ensures items { out.new.items ≡ out.old.items ++ print_all (attributes_in map.now) }
     ensures capacity { vec_capacity out.old ≤ vec_capacity out.new }
 {
     let start = out.len();
@@ -82,8 +81,8 @@ pub(crate) fn push_all(out: &mut Vec<u8>, map: &Attributes, len: usize)
 
 /// Pushes the printed lines of those that match, for which there is room.
 pub(crate) fn push_matching(out: &mut Vec<u8>, map: &Attributes, filter: &Filter)
-    requires { vec_len out.old + length (print_matching (Some filter.now) (attributes_of map.now.entries)) ≤ vec_capacity out.old }
-    ensures items { out.new.items ≡ out.old.items ++ print_matching (Some filter.now) (attributes_of map.now.entries) }
+    requires { vec_len out.old + length (print_filtered filter.now map.now) ≤ vec_capacity out.old }
+    ensures items { out.new.items ≡ out.old.items ++ print_filtered filter.now map.now }
     ensures capacity { vec_capacity out.old ≤ vec_capacity out.new }
 {
     let mut place = first_place(map, filter, 0);

@@ -1,5 +1,5 @@
 -- All open handles of a service, under their numbers, by the object or directory that each is on.
-use Rattle.std.specs.Prelude.{◌≡◌, ◌≤◌, ◌<◌, ◌==◌, ℕ, Bool, true, List, [], Option, Some, is_some, IfSome, map, filter, length, option_map}
+use Rattle.std.specs.Prelude.{◌≡◌, ◌≤◌, ◌<◌, ◌==◌, ℕ, Bool, true, false, List, [], ◌∷◌, Option, Some, None, is_some, IfSome, map, filter, length, option_map, option_and_then}
 use Rattle.std.specs.Option.{option_map_or}
 use Rattle.std.specs.List.{AllByRecursion, filter_map}
 use Rattle.pps_types.specs.declared.found.Found.{Found}
@@ -7,12 +7,14 @@ use Rattle.pps_types.specs.declared.found.Found.TheVariants.{Object as FoundObje
 use Rattle.pps_types.specs.declared.handle_kind.HandleKind.{HandleKind}
 use Rattle.pps_types.specs.History.{Entry}
 use Rattle.pps_types.specs.Reading.{Open, reseen, visible}
-use Rattle.pps_types.specs.Plan.{caught_up, left}
+use Rattle.pps_types.specs.Plan.{caught_up, left, on_numbered}
 use Rattle.pps_types.specs.Rests.{Seen}
 use Rattle.pps_types.specs.Owed.{longest_rest}
 use Rattle.pps_types.specs.WellFormed.{AreRising}
 use Rattle.service_laws.specs.Concerned.{is_on_object, is_on_directory}
 use Rattle.number_table.specs.Numbered.{Entry as Numbering, Numbered, value_under, value_at, with_value}
+use Rattle.engine_targets.specs.declared.opening.Opening.{Opening}
+use Rattle.engine_targets.specs.HandleAt.{with_opened}
 use Rattle.engine_targets.specs.Opened.{handle_at, is_directory, number_of, armed_pulse}
 use Rattle.engine_targets.specs.Seated.{AreSeated}
 use Rattle.engine_servers.specs.declared.seats.Seats.{Seats}
@@ -68,9 +70,29 @@ seats_at f w = place_at f (places_of w)
 abbrev pub handles_at : Found → Whole → List (Open Seen)
 handles_at f w = handles_on (places_of w) f
 
+-- an object or a directory goes where no handle is on it
+abbrev pub GoesIfUnused : Found → Whole → Whole → Type 0
+GoesIfUnused f old new = handles_at f old ≡ [] → seats_at f new ≡ None
+
+-- and else nothing changes
+abbrev pub StaysIfUsed : Found → Whole → Whole → Type 0
+StaysIfUsed f old new = (handles_at f old ≡ [] → ⊥) → new ≡ old
+
+-- what is on any other object or directory stays, with its room
+abbrev pub KeepsOthers : Found → Whole → Whole → Type 0
+KeepsOthers found old new = (f : Found) → (f ≡ found → ⊥) → seats_at f new ≡ seats_at f old
+
 -- others have the same handles on what these are on
 abbrev pub HasSame : Places → Seats → Type 0
 HasSame p s = handles_on p (target_of s) ≡ handles_of s
+
+-- the handle of a number in a place, where there is one
+abbrev pub seated_at : ℕ → Option Seats → Option (Open Seen)
+seated_at number place = option_and_then (λ (s : Seats). handle_at number (handles_of s)) place
+
+-- no handle is on the object or directory of that number in a table
+abbrev pub HasNoneAt : ℕ → Numbered Seats → Type 0
+HasNoneAt number table = handles_in_place (value_at number table) ≡ []
 
 -- just those records are held for readers that have to be kept: the longest rest that a handle is owed
 abbrev pub HoldsWhatIsOwed : Seats → Type 0
@@ -80,6 +102,10 @@ HoldsWhatIsOwed s = kept_of s ≡ longest_rest (is_directory (target_of s)) (num
 pub record IsRight (s : Seats) : Type 0 where
   pub seated : AreSeated (is_directory (target_of s)) (number_of (target_of s)) (handles_of s)
   pub exact : HoldsWhatIsOwed s
+
+-- the numbers of a table rise, below the next one
+abbrev pub HasRisingNumbers : {T : Type 0} → Numbered T → Type 0
+HasRisingNumbers table = AreRising 0 (map (λ e. e.number) table.entries) table.next
 
 -- each is where it says and holds what is owed, and no number of an object or a directory comes twice
 pub record ArePlaced (p : Places) : Type 0 where
@@ -97,6 +123,14 @@ handle_of_row w = row_handle (λ f. handles_at f w)
 abbrev pub handles_in : Whole → List (Open Seen)
 handles_in w = filter_map (handle_of_row w) w.rows.entries
 
+-- this is the place of the handle of that number, if that is open
+abbrev pub IsPlaceOf : ℕ → Whole → Seats → Type 0
+IsPlaceOf number w s = handle_at number (handles_of s) ≡ handle_at number (handles_in w)
+
+-- the same handles are open in both, and the same number is next
+abbrev pub HasSameHandles : Whole → Whole → Type 0
+HasSameHandles one other = (handles_in one ≡ handles_in other) × (one.rows.next ≡ other.rows.next)
+
 pub record IsWhole (w : Whole) : Type 0 where
   pub rowed : AreRowed (λ f. handles_at f w) w.rows.entries w.rows.next
   pub placed : ArePlaced (places_of w)
@@ -110,6 +144,10 @@ pub record Site : Type 0 where
 
 abbrev pub site_of : Seats → Site
 site_of s = record { name = name_of s; service = is_service s }
+
+-- that of a directory, which has no name here, and no server
+abbrev pub directory_site : Site
+directory_site = record { name = []; service = false }
 
 -- an object that is to be added
 pub record Fresh : Type 0 where
@@ -127,8 +165,24 @@ pub record IsFresh (object : ℕ) (s : Seats) : Type 0 where
 abbrev pub site_at : Found → Whole → Option Site
 site_at f w = option_map site_of (seats_at f w)
 
+-- handles can be opened on it
+abbrev pub HasSite : Found → Whole → Type 0
+HasSite f w = is_some (site_at f w) ≡ true
+
+-- the fact holds if the object is a server's
+abbrev pub IfServed : ℕ → Whole → Type 0 → Type 0
+IfServed object w fact = IfSome (site_at (FoundObject object) w) (λ s. s.service ≡ true → fact)
+
+-- it is an object
+abbrev pub IsObject : Found → Type 0
+IsObject f = is_directory f ≡ false
+
 abbrev pub name_at : Found → Whole → List ℕ
 name_at f w = option_map_or (λ s. s.name) (site_at f w) []
+
+-- all handles after one was opened on an object or a directory
+abbrev pub with_opened_on : Found → Opening → Whole → List (Open Seen)
+with_opened_on f opening w = with_opened (number_of f) (name_at f w) opening (handles_in w)
 
 -- for how many more handles there is memory in a place
 abbrev pub room_at : Found → Whole → ℕ
@@ -158,9 +212,17 @@ abbrev pub is_on : Found → Open Seen → Bool
 is_on (FoundObject n) = is_on_object n
 is_on (FoundDirectory n) = is_on_directory n
 
+-- in each place are just the handles that are on its object or directory
+abbrev pub HasEachInPlace : Whole → Type 0
+HasEachInPlace w = (f : Found) → handles_at f w ≡ filter (is_on f) (handles_in w)
+
 -- the records that are held in a place
 abbrev pub kept_at : Found → Whole → List Entry
 kept_at f w = option_map_or kept_of (seats_at f w) []
+
+-- in each place are just the records that have to be kept for the readers of its object or directory
+abbrev pub HoldsJustWhatIsOwed : Whole → Type 0
+HoldsJustWhatIsOwed w = (f : Found) → kept_at f w ≡ longest_rest (is_directory f) (number_of f) (handles_in w)
 
 -- ---- records
 
@@ -179,6 +241,14 @@ HasRoom entries w = (f : Found) (s : Seats) → seats_at f w ≡ Some s → HasR
 abbrev pub KeepsRecords : Whole → Whole → Type 0
 KeepsRecords old new = (entries : List Entry) → HasRoom entries old → HasRoom entries new
 
+-- where a place with handles had room for a record and others, it has room for the others
+abbrev pub UsesRoomAt : Entry → Seats → Seats → Type 0
+UsesRoomAt e old new = (entries : List Entry) → 0 < length (handles_of old) → IsReady (e ∷ entries) old → IsReady entries new
+
+-- where there was room for a record and others, there is room for the others
+abbrev pub UsesRoom : Entry → Whole → Whole → Type 0
+UsesRoom e old new = (entries : List Entry) → HasRoom (e ∷ entries) old → HasRoom entries new
+
 -- ---- one handle changes
 
 abbrev pub changed : Change → Open Seen → Open Seen
@@ -186,6 +256,10 @@ changed CatchUp h = reseen caught_up h
 changed (Pass count) h = reseen (λ h. left h count h.seen) h
 changed (Park size) h = record h { parked = size }
 changed (Arm pulse) h = record h { armed = armed_pulse pulse }
+
+-- handles after the one of a number changed so
+abbrev pub with_changed : ℕ → Change → List (Open Seen) → List (Open Seen)
+with_changed number change handles = on_numbered number (changed change) handles
 
 -- ---- a record that is told
 
@@ -199,6 +273,10 @@ IsShared count e w = IsSharedAt count e (FoundObject e.record_of.object) w
 -- there is room for records in one place
 abbrev pub HasRoomIn : List Entry → Found → Whole → Type 0
 HasRoomIn entries f w = IfSome (seats_at f w) (HasRoomAt entries f)
+
+-- where there was room for a record and others in one place, there is room for the others
+abbrev pub UsesRoomIn : Entry → Found → Whole → Whole → Type 0
+UsesRoomIn e f old new = (entries : List Entry) → HasRoomIn (e ∷ entries) f old → HasRoomIn entries f new
 
 -- ---- room for records
 

@@ -1,14 +1,10 @@
 //! What changes of one handle.
-ghost use Rattle.std.specs.Prelude.{◌≡◌, ◌<◌, ◌≤◌, ◌∷◌, ◌++◌, ◌+◌, [], List, length, map};
-ghost use Rattle.pps_types.specs.History.{Entry as Told};
-ghost use Rattle.std.specs.List.{AllByRecursion};
+ghost use Rattle.std.specs.Prelude.{◌≡◌, ◌<◌, ◌≤◌, ◌∷◌, ◌+◌, [], length, map};
 ghost use Rattle.std.specs.Prelude.{OnOk, OnErr};
-ghost use Rattle.pps_types.specs.Plan as planning;
-ghost use Rattle.pps_types.specs.Reading as reading;
-ghost use Rattle.pps_types.specs.Rests as rests;
-ghost use Rattle.engine_targets.specs.Opened.{opened, is_directory, number_of};
-ghost use Rattle.engine_servers.specs.Seated.{target_of, name_of, handles_of, places_of, IsSameTarget, IsReady, IsEnough, KeepsRoom, Suits};
-ghost use Rattle.open_handles.specs.Whole.{changed, IsRight};
+ghost use Rattle.pps_types.specs.Plan.{offer, without_number};
+ghost use Rattle.engine_targets.specs.HandleAt.{AreBelow};
+ghost use Rattle.engine_servers.specs.Seated.{handles_of, handles_with, places_of, IsSameTarget, IsReady, IsEnough, KeepsRoom, Suits};
+ghost use Rattle.open_handles.specs.Whole.{with_changed, IsRight, UsesRoomAt};
 
 use engine_servers::{Seats, Shares};
 use engine_targets::{Opening, Pulse};
@@ -32,7 +28,7 @@ pub(crate) enum Change {
 /// Changes one handle in its place.
 pub(crate) fn change_in(seats: &mut Seats, number: Handle, change: Change)
     ensures same { IsSameTarget seats.old seats.new }
-    ensures handles { handles_of seats.new ≡ planning.on_numbered number (changed change) (handles_of seats.old) }
+    ensures handles { handles_of seats.new ≡ with_changed number change (handles_of seats.old) }
     ensures places { places_of seats.new ≡ places_of seats.old }
     ensures seated { IsRight seats.new }
 {
@@ -49,7 +45,7 @@ pub(crate) fn change_in(seats: &mut Seats, number: Handle, change: Change)
 /// Closes a handle in its place.
 pub(crate) fn close_in(seats: &mut Seats, number: Handle)
     ensures same { IsSameTarget seats.old seats.new }
-    ensures handles { handles_of seats.new ≡ planning.without_number number (handles_of seats.old) }
+    ensures handles { handles_of seats.new ≡ without_number number (handles_of seats.old) }
     ensures room { KeepsRoom seats.old seats.new }
     ensures places { places_of seats.old ≤ places_of seats.new }
     ensures seated { IsRight seats.new }
@@ -79,9 +75,9 @@ pub(crate) fn reserve_in(seats: &mut Seats) -> Result<(), AllocError>
 pub(crate) fn open_in(seats: &mut Seats, opening: Opening)
     requires places { 0 < places_of seats.old }
     requires suits { Suits opening.kind seats.old }
-    requires above { AllByRecursion (λ (h : reading.Open rests.Seen). h.number < opening.number) (handles_of seats.old) }
+    requires above { AreBelow opening.number (handles_of seats.old) }
     ensures same { IsSameTarget seats.old seats.new }
-    ensures handles { handles_of seats.new ≡ handles_of seats.old ++ reading.reseen (λ h. planning.first_seen h (reading.style h.kind)) (opened (number_of (target_of seats.old)) (name_of seats.old) opening) ∷ [] }
+    ensures handles { handles_of seats.new ≡ handles_with opening seats.old }
     ensures places { places_of seats.new + 1 ≡ places_of seats.old }
     ensures seated { IsRight seats.new }
 {
@@ -95,8 +91,8 @@ pub(crate) fn offer_in(seats: &mut Seats, shares: Shares)
     requires room { 0 < length (handles_of seats.old) → IsReady (shares.entry ∷ []) seats.old }
     requires enough { IsEnough shares.count shares.entry seats.old }
     ensures same { IsSameTarget seats.old seats.new }
-    ensures handles { handles_of seats.new ≡ map (planning.offer shares.entry) (handles_of seats.old) }
-    ensures room { (entries : List Told) → 0 < length (handles_of seats.old) → IsReady (shares.entry ∷ entries) seats.old → IsReady entries seats.new }
+    ensures handles { handles_of seats.new ≡ map (offer shares.entry) (handles_of seats.old) }
+    ensures room { UsesRoomAt shares.entry seats.old seats.new }
     ensures places { places_of seats.new ≡ places_of seats.old }
     ensures seated { IsRight seats.new }
 {

@@ -1,7 +1,7 @@
 //! Whether the same handles are open.
-ghost use Rattle.std.specs.Prelude.{◌≡◌, ◌↔◌, IsTrue};
+ghost use Rattle.std.specs.Prelude.{◌↔◌, IsTrue};
 ghost use Rattle.std.specs.List.{AllByRecursion};
-ghost use Rattle.open_handles.specs.Whole.{handles_in, HasSame};
+ghost use Rattle.open_handles.specs.Whole.{HasSame, HasSameHandles};
 
 use crate::handles::Handles;
 use crate::places::Places;
@@ -36,7 +36,7 @@ impl Places {
 impl Handles {
     /// Whether the same handles are open in both, which have seen the same, and the same number is next. It takes no memory.
     pub fn same(&self, other: &Handles) -> bool
-        ensures { IsTrue result ↔ ((handles_in self.now ≡ handles_in other.now) × (self.now.rows.next ≡ other.now.rows.next)) }
+        ensures { IsTrue result ↔ HasSameHandles self.now other.now }
     {
         if !self.rows.same(&other.rows) {
             return false;

@@ -1,8 +1,7 @@
 //! Copies of open handles.
 ghost use Rattle.std.specs.Prelude.{◌≡◌, IfOk};
-ghost use Rattle.std.specs.List.{AllZip};
 ghost use Rattle.pps_types.specs.declared.found.Found.{Found as FoundAt};
-ghost use Rattle.number_table.specs.Numbered.{IsCloneEntry};
+ghost use Rattle.number_table.specs.Numbered.{HasClones};
 ghost use Rattle.engine_servers.specs.Seated.{IsCopy};
 ghost use Rattle.open_handles.specs.Whole.{handles_in, kept_at, site_at};
 
@@ -13,10 +12,11 @@ use std::alloc::AllocError;
 impl Places {
     // The same handles on the same objects and directories once more, without room.
     fn copy(&self) -> Result<Places, AllocError>
-        ensures objects { IfOk result (λ copy. AllZip (IsCloneEntry IsCopy) self.now.objects.entries copy.objects.entries) }
+        ensures objects { IfOk result (λ copy. HasClones IsCopy self.now.objects copy.objects) }
         ensures next_object { IfOk result (λ copy. copy.objects.next ≡ self.now.objects.next) }
-        ensures directories { IfOk result (λ copy. AllZip (IsCloneEntry IsCopy) self.now.directories.entries copy.directories.entries) }
-        ensures next_directory { IfOk result (λ copy. copy.directories.next ≡ self.now.directories.next) }
+        ensures directories { IfOk result (λ copy.
+            HasClones IsCopy self.now.directories copy.directories) }
+        ensures next_directory { IfOk result (λ c. c.directories.next ≡ self.now.directories.next) }
     {
         Ok(Places {
             objects: self.objects.copy()?,
@@ -35,7 +35,7 @@ impl Handles {
         ensures kept { IfOk result (λ copy. (f : FoundAt) → kept_at f copy ≡ kept_at f self.now) }
         ensures next { IfOk result (λ copy. copy.rows.next ≡ self.now.rows.next) }
         ensures next_object { IfOk result (λ copy. copy.objects.next ≡ self.now.objects.next) }
-        ensures next_directory { IfOk result (λ copy. copy.directories.next ≡ self.now.directories.next) }
+        ensures next_directory { IfOk result (λ c. c.directories.next ≡ self.now.directories.next) }
     {
         let rows = self.rows.copy()?;
         let places = self.places.copy()?;

@@ -1,38 +1,28 @@
 //! All open handles.
-ghost use Rattle.std.specs.Prelude.{◌≡◌, ◌≢◌, ◌↔◌, ◌+◌, ◌<◌, ◌≤◌, ◌^◌, ◌∷◌, ◌++◌, ◌&&◌, nat_le, [], Some, None, true, false, List, is_some, length, map, filter, find, IsTrue, IfOk, IfSome, OnOk, OnErr, option_map, option_and_then};
-ghost use Rattle.std.specs.Option.{option_copied, option_map_or};
+ghost use Rattle.std.specs.Prelude.{◌≡◌, ◌≢◌, ◌↔◌, ◌+◌, ◌<◌, ◌≤◌, ◌^◌, ◌∷◌, [], Some, None, true, length, map, filter, IsTrue, IfOk, IfSome, OnOk, OnErr};
+ghost use Rattle.std.specs.Option.{option_copied};
 ghost use Rattle.pps_types.specs.declared.found.Found.{Found as FoundAt};
 ghost use Rattle.pps_types.specs.declared.found.Found.TheVariants.{Object as FoundObject, Directory as FoundDirectory};
 ghost use Rattle.number_table.specs.Numbered.{value_at};
-ghost use Rattle.engine_servers.specs.Seated.{handles_of, name_of};
-ghost use Rattle.engine_targets.specs.Opened.{opened, as_opened, armed_pulse, handle_at, is_directory, number_of};
-ghost use Rattle.pps_types.specs.History as history;
-ghost use Rattle.pps_types.specs.Plan as planning;
-ghost use Rattle.pps_types.specs.Reading as reading;
-ghost use Rattle.pps_types.specs.Rests as rests;
-ghost use Rattle.pps_types.specs.Owed as owing;
-ghost use Rattle.pps_types.specs.Content as content;
-ghost use Rattle.pps_types.specs.Checks as checking;
-ghost use Rattle.pps_types.specs.Names.{refusal_of};
-ghost use Rattle.pps_types.specs.declared.refusal.Refusal.TheVariants.{OutOfMemory};
-ghost use Rattle.engine_targets.specs.Woken as waking;
-ghost use Rattle.engine_targets.specs.Blocks.{owed_blocks, refused_for, first_len};
-ghost use Rattle.engine_servers.specs.declared.seats.Seats.{Seats as SeatsOf};
+ghost use Rattle.engine_servers.specs.Seated.{name_of};
+ghost use Rattle.engine_servers.specs.Backlogs.{is_server_full_at, is_client_full_at, full_client_in};
+ghost use Rattle.engine_targets.specs.Opened.{armed_pulse, handle_at};
+ghost use Rattle.engine_targets.specs.HandleAt.{parked_at, armed_at, owed_at, with_caught_up, with_passed, with_parked, with_armed};
+ghost use Rattle.engine_targets.specs.Woken.{woken_by};
+ghost use Rattle.pps_types.specs.Plan.{offer, without_number};
 ghost use Rattle.pps_types.specs.WellFormed.{AreRising};
-ghost use Rattle.engine_targets.specs.Glances.{glanced, glance_on};
-ghost use Rattle.open_handles.specs.declared.handles.Opened.{Opened as OpenedAs};
-ghost use Rattle.open_handles.specs.declared.handles.Looked.{Looked as LookedAs};
-ghost use Rattle.open_handles.specs.Whole.{Whole, handles_in, handles_at, seats_at, site_at, name_at, room_at, kept_at, is_on, is_told, changed, IsShared, IsSharedAt, HasRoom, HasRoomIn, IsReadyAt, IsReadyFor, IsReserved, AreOfSame, SuitsAt, KeepsSites, KeepsPlaces, KeepsRecords, KeepsTable};
+ghost use Rattle.open_handles.specs.Lookups.{ShowsOpening, ShowsGlance};
+ghost use Rattle.open_handles.specs.Whole.{Whole, handles_in, handles_at, seated_at, site_at, directory_site, name_at, room_at, kept_at, is_on, is_told, with_opened_on, with_changed, HasSite, IfServed, IsObject, IsPlaceOf, IsShared, IsSharedAt, HasRoom, HasRoomIn, HasEachInPlace, HasRisingNumbers, HoldsJustWhatIsOwed, UsesRoom, UsesRoomIn, IsReadyAt, IsReadyFor, IsReserved, AreOfSame, SuitsAt, GoesIfUnused, StaysIfUsed, KeepsOthers, KeepsSites, KeepsPlaces, KeepsRecords, KeepsTable};
 
 use crate::change::{
     Change, change_in, close_in, offer_in, open_in, reserve_in, reserve_records_in,
 };
 use crate::new_site::NewSite;
 use crate::places::{Places, drop_unused};
-use crate::told::Told;
+use crate::shared_record::SharedRecord;
 use crate::woken::unite;
 use engine_servers::{Seats, Shares};
-use engine_targets::{Given, Glance, Opening, Pulse};
+use engine_targets::{Glance, Opening, Pulse};
 use number_table::Table;
 use pps_types::{DirId, Found, Handle, ObjId, Refusal};
 use server_queue::Entry;
@@ -188,7 +178,7 @@ impl Handles {
         ensures handles { handles_in self.new ≡ handles_in self.old }
         ensures added { site_at (FoundObject fresh.object) self.new ≡ Some fresh.site }
         ensures place { 0 < room_at (FoundObject fresh.object) self.new }
-        ensures others { (f : FoundAt) → (f ≡ FoundObject fresh.object → ⊥) → seats_at f self.new ≡ seats_at f self.old }
+        ensures others { KeepsOthers (FoundObject fresh.object) self.old self.new }
         ensures next { self.new.objects.next ≡ fresh.object + 1 }
         ensures rows { self.new.rows ≡ self.old.rows }
         ensures directories { KeepsTable self.old.directories self.new.directories }
@@ -206,8 +196,8 @@ impl Handles {
         requires above { self.old.directories.next ≤ directory }
         requires last { directory + 1 < 2 ^ 64 }
         ensures handles { handles_in self.new ≡ handles_in self.old }
-        ensures added { site_at (FoundDirectory directory) self.new ≡ Some (record { name = []; service = false }) }
-        ensures others { (f : FoundAt) → (f ≡ FoundDirectory directory → ⊥) → seats_at f self.new ≡ seats_at f self.old }
+        ensures added { site_at (FoundDirectory directory) self.new ≡ Some directory_site }
+        ensures others { KeepsOthers (FoundDirectory directory) self.old self.new }
         ensures next { self.new.directories.next ≡ directory + 1 }
         ensures rows { self.new.rows ≡ self.old.rows }
         ensures objects { KeepsTable self.old.objects self.new.objects }
@@ -230,8 +220,8 @@ impl Handles {
         ensures rows { KeepsTable self.old.rows self.new.rows }
         ensures places { KeepsPlaces self.old self.new }
         ensures records { KeepsRecords self.old self.new }
-        ensures room { OnOk result (is_some (site_at found self.old) ≡ true → 0 < self.new.rows.room) }
-        ensures place { OnOk result (is_some (site_at found self.old) ≡ true → 0 < room_at found self.new) }
+        ensures room { OnOk result (HasSite found self.old → 0 < self.new.rows.room) }
+        ensures place { OnOk result (HasSite found self.old → 0 < room_at found self.new) }
         ensures lacking { OnErr result (0 < self.old.rows.room → room_at found self.old ≡ 0) }
     {
         let Some(seats) = self.places.get_mut(found) else {
@@ -248,7 +238,7 @@ impl Handles {
         requires place { 0 < room_at found self.old }
         requires suits { SuitsAt opening.kind found self.old }
         requires above { self.old.rows.next ≤ opening.number }
-        ensures handles { handles_in self.new ≡ handles_in self.old ++ reading.reseen (λ h. planning.first_seen h (reading.style h.kind)) (opened (number_of found) (name_at found self.old) opening) ∷ [] }
+        ensures handles { handles_in self.new ≡ with_opened_on found opening self.old }
         ensures sites { KeepsSites self.old self.new }
         ensures next { self.new.rows.next ≡ opening.number + 1 }
     {
@@ -264,7 +254,7 @@ impl Handles {
         requires place { 0 < room_at found self.old }
         requires suits { SuitsAt opening.kind found self.old }
         requires above { self.old.rows.next ≤ opening.number }
-        ensures handles { handles_in self.new ≡ handles_in self.old ++ reading.reseen (λ h. planning.first_seen h (reading.style h.kind)) (opened (number_of found) (name_at found self.old) opening) ∷ [] }
+        ensures handles { handles_in self.new ≡ with_opened_on found opening self.old }
         ensures sites { KeepsSites self.old self.new }
         ensures next { self.new.rows.next ≡ opening.number + 1 }
     {
@@ -276,7 +266,7 @@ impl Handles {
 
     /// Closes a handle, if it is open. It takes no memory, and room stays.
     pub fn close(&mut self, handle: Handle)
-        ensures handles { handles_in self.new ≡ planning.without_number handle (handles_in self.old) }
+        ensures handles { handles_in self.new ≡ without_number handle (handles_in self.old) }
         ensures sites { KeepsSites self.old self.new }
         ensures rows { KeepsTable self.old.rows self.new.rows }
         ensures places { KeepsPlaces self.old self.new }
@@ -294,7 +284,7 @@ impl Handles {
 
     // Changes a handle, if it is open.
     fn change(&mut self, handle: Handle, change: Change)
-        ensures handles { handles_in self.new ≡ planning.on_numbered handle (changed change) (handles_in self.old) }
+        ensures handles { handles_in self.new ≡ with_changed handle change (handles_in self.old) }
         ensures sites { KeepsSites self.old self.new }
         ensures rows { self.new.rows ≡ self.old.rows }
         ensures places { KeepsPlaces self.old self.new }
@@ -310,7 +300,7 @@ impl Handles {
 
     /// A handle, if it is open, has read everything. It takes no memory.
     pub fn catch_up(&mut self, handle: Handle)
-        ensures handles { handles_in self.new ≡ planning.on_numbered handle (reading.reseen planning.caught_up) (handles_in self.old) }
+        ensures handles { handles_in self.new ≡ with_caught_up handle (handles_in self.old) }
         ensures sites { KeepsSites self.old self.new }
         ensures rows { self.new.rows ≡ self.old.rows }
         ensures places { KeepsPlaces self.old self.new }
@@ -320,7 +310,7 @@ impl Handles {
 
     /// A handle, if it is open, was given so many of the records that it is owed. It takes no memory.
     pub fn pass(&mut self, handle: Handle, count: usize)
-        ensures handles { handles_in self.new ≡ planning.on_numbered handle (reading.reseen (λ h. planning.left h count h.seen)) (handles_in self.old) }
+        ensures handles { handles_in self.new ≡ with_passed handle count (handles_in self.old) }
         ensures sites { KeepsSites self.old self.new }
         ensures rows { self.new.rows ≡ self.old.rows }
         ensures places { KeepsPlaces self.old self.new }
@@ -330,7 +320,7 @@ impl Handles {
 
     /// A read of that size waits on a handle, or none any more, if the handle is open. It takes no memory.
     pub fn park(&mut self, handle: Handle, size: Option<u32>)
-        ensures handles { handles_in self.new ≡ planning.on_numbered handle (λ h. record h { parked = size }) (handles_in self.old) }
+        ensures handles { handles_in self.new ≡ with_parked handle size (handles_in self.old) }
         ensures sites { KeepsSites self.old self.new }
         ensures rows { self.new.rows ≡ self.old.rows }
         ensures places { KeepsPlaces self.old self.new }
@@ -340,7 +330,7 @@ impl Handles {
 
     /// A pulse waits on a handle, or none any more, if the handle is open. It takes no memory.
     pub fn arm(&mut self, handle: Handle, pulse: Option<Pulse>)
-        ensures handles { handles_in self.new ≡ planning.on_numbered handle (λ h. record h { armed = armed_pulse pulse }) (handles_in self.old) }
+        ensures handles { handles_in self.new ≡ with_armed handle pulse (handles_in self.old) }
         ensures sites { KeepsSites self.old self.new }
         ensures rows { self.new.rows ≡ self.old.rows }
         ensures places { KeepsPlaces self.old self.new }
@@ -350,7 +340,7 @@ impl Handles {
 
     // The handles of the place where a handle is, if it is open.
     fn place_of(&self, handle: Handle) -> Option<&Seats>
-        ensures { handle_at handle (handles_in self.now) ≡ option_and_then (λ (s : SeatsOf). handle_at handle (handles_of s)) (option_copied result) }
+        ensures { handle_at handle (handles_in self.now) ≡ seated_at handle (option_copied result) }
     {
         let Some(found) = self.rows.get(u64::from(handle.number())) else {
             return None;
@@ -360,7 +350,7 @@ impl Handles {
 
     /// The size of the read that waits on a handle, if one does.
     pub fn parked(&self, handle: Handle) -> Option<u32>
-        ensures { result ≡ option_and_then (λ (h : reading.Open rests.Seen). h.parked) (handle_at handle (handles_in self.now)) }
+        ensures { result ≡ parked_at handle (handles_in self.now) }
     {
         match self.place_of(handle) {
             None => None,
@@ -370,7 +360,7 @@ impl Handles {
 
     /// The pulse that is armed on a handle, if one is.
     pub fn armed(&self, handle: Handle) -> Option<Pulse>
-        ensures { armed_pulse result ≡ option_and_then (λ (h : reading.Open rests.Seen). h.armed) (handle_at handle (handles_in self.now)) }
+        ensures { armed_pulse result ≡ armed_at handle (handles_in self.now) }
     {
         match self.place_of(handle) {
             None => None,
@@ -391,7 +381,7 @@ impl Handles {
     /// How many records a handle is owed: none is told where it is not open, in full mode, before the first read and past
     /// the limit.
     pub fn owed(&self, handle: Handle) -> Option<usize>
-        ensures { result ≡ option_and_then (λ (h : reading.Open rests.Seen). owing.owed_in_seen h h.seen) (handle_at handle (handles_in self.now)) }
+        ensures { result ≡ owed_at handle (handles_in self.now) }
     {
         match self.place_of(handle) {
             None => None,
@@ -401,8 +391,8 @@ impl Handles {
 
     /// Whether the server's handle on a server object, if it is open, is owed as many messages of a client as its limit.
     pub fn is_server_full(&self, object: ObjId, server: Handle, client: Handle) -> bool
-        ensures { IfSome (site_at (FoundObject object) self.now) (λ s. s.service ≡ true
-            → result ≡ option_map_or (λ (h : reading.Open rests.Seen). nat_le h.limit (checking.count_owed (checking.is_message_of client) h)) (handle_at server (handles_at (FoundObject object) self.now)) false) }
+        ensures { IfServed object self.now
+            (result ≡ is_server_full_at server client (handles_at (FoundObject object) self.now)) }
     {
         match self.places.get(Found::Object(object)) {
             None => false,
@@ -412,8 +402,8 @@ impl Handles {
 
     /// Whether a client's handle on a server object, if it is open, is owed as many messages of its server as its limit.
     pub fn is_client_full(&self, object: ObjId, client: Handle) -> bool
-        ensures { IfSome (site_at (FoundObject object) self.now) (λ s. s.service ≡ true
-            → result ≡ option_map_or (λ (h : reading.Open rests.Seen). nat_le h.limit (checking.count_owed checking.is_server_message h)) (handle_at client (handles_at (FoundObject object) self.now)) false) }
+        ensures { IfServed object self.now
+            (result ≡ is_client_full_at client (handles_at (FoundObject object) self.now)) }
     {
         match self.places.get(Found::Object(object)) {
             None => false,
@@ -424,8 +414,8 @@ impl Handles {
     /// The first client on a server object, in rising number, that is owed as many messages of its server as its limit. It
     /// looks at the handles on that object alone.
     pub fn full_client(&self, object: ObjId) -> Option<Handle>
-        ensures { IfSome (site_at (FoundObject object) self.now) (λ s. s.service ≡ true
-            → result ≡ option_map (λ (h : reading.Open rests.Seen). h.number) (find (λ (h : reading.Open rests.Seen). checking.is_client h.kind && nat_le h.limit (checking.count_owed checking.is_server_message h)) (handles_at (FoundObject object) self.now))) }
+        ensures { IfServed object self.now
+            (result ≡ full_client_in (handles_at (FoundObject object) self.now)) }
     {
         match self.places.get(Found::Object(object)) {
             None => None,
@@ -440,7 +430,7 @@ impl Handles {
         found: Found,
         entries: &[Entry],
     ) -> Result<Vec<Handle>, AllocError>
-        ensures { IfOk result (λ woken. woken.items ≡ waking.woken_by entries.now (handles_at found self.now)) }
+        ensures { IfOk result (λ w. w.items ≡ woken_by entries.now (handles_at found self.now)) }
     {
         match self.places.get(found) {
             None => Ok(Vec::new(alloc)),
@@ -450,7 +440,7 @@ impl Handles {
 
     // Whom a record wakes.
     fn woken_by_one(&self, alloc: Global, entry: &Entry) -> Result<Vec<Handle>, AllocError>
-        ensures { IfOk result (λ woken. woken.items ≡ waking.woken_by (entry.now ∷ []) (handles_in self.now)) }
+        ensures { IfOk result (λ w. w.items ≡ woken_by (entry.now ∷ []) (handles_in self.now)) }
     {
         self.handles_are_placed();
         let object = Found::Object(entry.record().object);
@@ -466,7 +456,7 @@ impl Handles {
     ///
     /// AllocError comes only where memory is wanting.
     pub fn woken_by(&self, alloc: Global, entries: &[Entry]) -> Result<Vec<Handle>, AllocError>
-        ensures { IfOk result (λ woken. woken.items ≡ waking.woken_by entries.now (handles_in self.now)) }
+        ensures { IfOk result (λ w. w.items ≡ woken_by entries.now (handles_in self.now)) }
     {
         self.handles_are_placed();
         let mut woken = Vec::new(alloc);
@@ -497,7 +487,7 @@ impl Handles {
     /// Does nothing. Its contract is the law that the handles on an object or a directory are those of its place, and that the
     /// numbers of all handles rise, below the next one.
     pub fn handles_are_placed(&self)
-        ensures placed { (f : FoundAt) → handles_at f self.now ≡ filter (is_on f) (handles_in self.now) }
+        ensures placed { HasEachInPlace self.now }
         ensures rise { AreRising 0 (map (λ h. h.number) (handles_in self.now)) self.now.rows.next }
     {
         let _count = self.rows.len();
@@ -505,8 +495,8 @@ impl Handles {
 
     /// Does nothing. Its contract is the law that the numbers of objects and those of directories rise, below the next ones.
     pub fn places_rise(&self)
-        ensures objects { AreRising 0 (map (λ e. e.number) self.now.objects.entries) self.now.objects.next }
-        ensures directories { AreRising 0 (map (λ e. e.number) self.now.directories.entries) self.now.directories.next }
+        ensures objects { HasRisingNumbers self.now.objects }
+        ensures directories { HasRisingNumbers self.now.directories }
     {
         let _count = self.rows.len();
     }
@@ -514,7 +504,7 @@ impl Handles {
     /// Does nothing. Its contract is the law that just those records are held for the readers of each object and directory that
     /// have to be kept: the longest rest that a handle on it is owed.
     pub fn is_exact(&self)
-        ensures { (f : FoundAt) → kept_at f self.now ≡ owing.longest_rest (is_directory f) (number_of f) (handles_in self.now) }
+        ensures { HoldsJustWhatIsOwed self.now }
     {
         let _count = self.rows.len();
     }
@@ -532,9 +522,9 @@ impl Handles {
     /// Drops an object on which no handle is. Otherwise nothing changes. It takes no memory.
     pub fn drop_object(&mut self, object: ObjId)
         ensures handles { handles_in self.new ≡ handles_in self.old }
-        ensures gone { handles_at (FoundObject object) self.old ≡ [] → seats_at (FoundObject object) self.new ≡ None }
-        ensures used { (handles_at (FoundObject object) self.old ≡ [] → ⊥) → self.new ≡ self.old }
-        ensures others { (f : FoundAt) → (f ≡ FoundObject object → ⊥) → seats_at f self.new ≡ seats_at f self.old }
+        ensures gone { GoesIfUnused (FoundObject object) self.old self.new }
+        ensures used { StaysIfUsed (FoundObject object) self.old self.new }
+        ensures others { KeepsOthers (FoundObject object) self.old self.new }
         ensures rows { self.new.rows ≡ self.old.rows }
         ensures objects { KeepsTable self.old.objects self.new.objects }
         ensures directories { self.new.directories ≡ self.old.directories }
@@ -546,9 +536,9 @@ impl Handles {
     /// Drops a directory on which no handle is. Otherwise nothing changes. It takes no memory.
     pub fn drop_directory(&mut self, directory: DirId)
         ensures handles { handles_in self.new ≡ handles_in self.old }
-        ensures gone { handles_at (FoundDirectory directory) self.old ≡ [] → seats_at (FoundDirectory directory) self.new ≡ None }
-        ensures used { (handles_at (FoundDirectory directory) self.old ≡ [] → ⊥) → self.new ≡ self.old }
-        ensures others { (f : FoundAt) → (f ≡ FoundDirectory directory → ⊥) → seats_at f self.new ≡ seats_at f self.old }
+        ensures gone { GoesIfUnused (FoundDirectory directory) self.old self.new }
+        ensures used { StaysIfUsed (FoundDirectory directory) self.old self.new }
+        ensures others { KeepsOthers (FoundDirectory directory) self.old self.new }
         ensures rows { self.new.rows ≡ self.old.rows }
         ensures objects { self.new.objects ≡ self.old.objects }
         ensures directories { KeepsTable self.old.directories self.new.directories }
@@ -559,7 +549,7 @@ impl Handles {
 
     /// What the open of a handle fixed, and what it is on, if it is open.
     pub fn opening(&self, handle: Handle) -> Option<Opened<'_>>
-        ensures { option_map (λ (o : OpenedAs). opened (number_of o.found) (name_at o.found self.now) o.opening.now) result ≡ option_map as_opened (handle_at handle (handles_in self.now)) }
+        ensures { ShowsOpening handle self.now result }
     {
         let Some(found) = self.rows.get(u64::from(handle.number())) else {
             return None;
@@ -578,8 +568,8 @@ impl Handles {
 
     /// What is seen of a handle at one look, if it is open. What a read gives of what it is owed is asked of the handles there.
     pub fn look(&self, handle: Handle) -> Option<Looked<'_>>
-        ensures glance { option_map (λ (o : LookedAs). glance_on (number_of o.found) (name_at o.found self.now) o.glance) result ≡ option_map glanced (handle_at handle (handles_in self.now)) }
-        ensures seats { IfSome result (λ o. handle_at handle (handles_of o.seats.now) ≡ handle_at handle (handles_in self.now)) }
+        ensures glance { ShowsGlance handle self.now result }
+        ensures seats { IfSome result (λ o. IsPlaceOf handle self.now o.seats.now) }
         ensures name { IfSome result (λ o. name_of o.seats.now ≡ name_at o.found self.now) }
     {
         let Some(found) = self.rows.get(u64::from(handle.number())) else {
@@ -601,13 +591,13 @@ impl Handles {
     /// A record with shares of it for all handles that it is told to.
     ///
     /// AllocError comes only where memory is wanting.
-    pub fn shares(&self, alloc: Global, entry: Entry) -> Result<Told, AllocError>
+    pub fn shares(&self, alloc: Global, entry: Entry) -> Result<SharedRecord, AllocError>
         ensures entry { IfOk result (λ told. told.entry ≡ entry) }
         ensures enough { IfOk result (λ told. IsShared told.count told.entry self.now) }
     {
         let for_directory = Shares::new(alloc, entry.share()?, 0)?;
         let for_object = self.shares_for(alloc, entry)?;
-        Ok(Told {
+        Ok(SharedRecord {
             for_object,
             for_directory,
         })
@@ -629,13 +619,14 @@ impl Handles {
     fn offer_at(&mut self, found: Found, shares: Shares)
         requires told { is_told found shares.entry ≡ true }
         requires room { HasRoomIn (shares.entry ∷ []) found self.old }
-        requires enough { is_directory found ≡ false → IsSharedAt shares.count shares.entry found self.old }
-        ensures handles { handles_at found self.new ≡ map (planning.offer shares.entry) (handles_at found self.old) }
-        ensures others { (f : FoundAt) → (f ≡ found → ⊥) → seats_at f self.new ≡ seats_at f self.old }
+        requires enough { IsObject found → IsSharedAt shares.count shares.entry found self.old }
+        ensures handles { handles_at found self.new
+            ≡ map (offer shares.entry) (handles_at found self.old) }
+        ensures others { KeepsOthers found self.old self.new }
         ensures sites { KeepsSites self.old self.new }
         ensures rows { self.new.rows ≡ self.old.rows }
         ensures places { KeepsPlaces self.old self.new }
-        ensures records { (entries : List history.Entry) → HasRoomIn (shares.entry ∷ entries) found self.old → HasRoomIn entries found self.new }
+        ensures records { UsesRoomIn shares.entry found self.old self.new }
     {
         let Some(seats) = self.places.get_mut(found) else {
             return;
@@ -646,17 +637,17 @@ impl Handles {
     /// Offers all handles a record, for which there is room, and of which there are shares enough: each that sees it is owed it
     /// from then on, or has news, or is past its limit. It takes no memory, and looks at each handle on its object and on its
     /// directory once.
-    pub fn offer(&mut self, told: Told)
+    pub fn offer(&mut self, told: SharedRecord)
         requires room { HasRoom (told.entry ∷ []) self.old }
         requires enough { IsShared told.count told.entry self.old }
-        ensures handles { handles_in self.new ≡ map (planning.offer told.entry) (handles_in self.old) }
+        ensures handles { handles_in self.new ≡ map (offer told.entry) (handles_in self.old) }
         ensures sites { KeepsSites self.old self.new }
         ensures rows { self.new.rows ≡ self.old.rows }
         ensures places { KeepsPlaces self.old self.new }
-        ensures records { (entries : List history.Entry) → HasRoom (told.entry ∷ entries) self.old → HasRoom entries self.new }
+        ensures records { UsesRoom told.entry self.old self.new }
     {
         let _count = self.rows.len();
-        let Told {
+        let SharedRecord {
             for_object,
             for_directory,
         } = told;

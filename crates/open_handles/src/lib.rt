@@ -7,9 +7,9 @@ mod copies;
 mod handles;
 mod new_site;
 mod places;
-mod told;
+mod shared_record;
 mod woken;
 
 pub use handles::{Handles, Looked, Opened};
 pub use new_site::NewSite;
-pub use told::Told;
+pub use shared_record::SharedRecord;

@@ -51,7 +51,7 @@ impl NewSite {
         is_served: bool,
     ) -> Result<NewSite, AllocError>
         ensures object { IfOk result (λ fresh. fresh.object ≡ object) }
-        ensures site { IfOk result (λ fresh. fresh.site ≡ record { name = name; service = is_served }) }
+        ensures site { IfOk result (λ x. x.site ≡ record { name = name; service = is_served }) }
     {
         let mut seats = seats_of(alloc, object, name, is_served);
         seats.reserve_handle()?;

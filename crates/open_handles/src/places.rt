@@ -1,9 +1,9 @@
 //! The handles by where they are.
-ghost use Rattle.std.specs.Prelude.{◌≡◌, [], Some, IsSome};
+ghost use Rattle.std.specs.Prelude.{◌≡◌, Some, IsSome};
 ghost use Rattle.std.specs.Borrow.{Lends, LendsIf, sem};
 ghost use Rattle.std.specs.Option.{option_copied, option_copied_mut};
-ghost use Rattle.number_table.specs.Numbered.{value_at, has_number, without_first};
-ghost use Rattle.open_handles.specs.Whole.{place_at, with_place, handles_in_place, KeepsTable};
+ghost use Rattle.number_table.specs.Numbered.{LosesEntry};
+ghost use Rattle.open_handles.specs.Whole.{place_at, with_place, HasNoneAt, KeepsTable};
 
 use engine_servers::Seats;
 use number_table::Table;
@@ -35,7 +35,8 @@ impl Places {
 
     /// The handles on an object or a directory, to be changed in place.
     pub(crate) fn get_mut(&mut self, found: Found) -> Option<&mut Seats>
-        ensures* writes_back { sem 𝓛 (LendsIf the_row seats_row self.entry result (with_place self.old found) self.old) }
+        ensures* writes_back { sem 𝓛 (LendsIf the_row seats_row self.entry result
+            (with_place self.old found) self.old) }
         ensures value { option_copied_mut result ≡ place_at found self.old }
     {
         match found {
@@ -47,7 +48,8 @@ impl Places {
     /// The handles on an object or a directory, which is there, to be changed in place.
     pub(crate) fn known_mut(&mut self, found: Found) -> &mut Seats
         requires { IsSome (place_at found self.old) }
-        ensures* writes_back { sem 𝓛 (Lends the_row seats_row self.entry result (with_place self.old found)) }
+        ensures* writes_back { sem 𝓛 (Lends the_row seats_row self.entry result
+            (with_place self.old found)) }
         ensures value { place_at found self.old ≡ Some result.now }
     {
         match found {
@@ -59,8 +61,8 @@ impl Places {
 
 /// Drops those of a number on which no handle is.
 pub(crate) fn drop_unused(table: &mut Table<Seats>, number: u64)
-    ensures gone { handles_in_place (value_at number table.old) ≡ [] → table.new.entries ≡ without_first (has_number number) table.old.entries }
-    ensures used { (handles_in_place (value_at number table.old) ≡ [] → ⊥) → table.new ≡ table.old }
+    ensures gone { HasNoneAt number table.old → LosesEntry number table.old table.new }
+    ensures used { (HasNoneAt number table.old → ⊥) → table.new ≡ table.old }
     ensures kept { KeepsTable table.old table.new }
 {
     let Some(seats) = table.get(number) else {

@@ -16,8 +16,10 @@ struct Lowest<'a> {
 /// Takes the lowest, if there is one, off each list that begins with it.
 fn take_lowest<'a>(one: &'a [Handle], other: &'a [Handle]) -> Option<Lowest<'a>>
     ensures none { IfNone result (united one.now other.now ≡ []) }
-    ensures some { IfSome result (λ l. united one.now other.now ≡ l.handle ∷ united l.one.now l.other.now) }
-    ensures fewer { IfSome result (λ l. length l.one.now + length l.other.now < length one.now + length other.now) }
+    ensures some { IfSome result (λ l.
+        united one.now other.now ≡ l.handle ∷ united l.one.now l.other.now) }
+    ensures fewer { IfSome result (λ l.
+        length l.one.now + length l.other.now < length one.now + length other.now) }
 {
     let [x, xs @ ..] = one else {
         let [y, ys @ ..] = other else {

@@ -1,8 +1,9 @@
 //! The options of an open.
-ghost use Rattle.std.specs.Prelude.{◌≡◌, IfOk, IfErr, OnOk, false};
-ghost use Rattle.pps_types.specs.Bytes.{plain_pieces};
+ghost use Rattle.std.specs.Prelude.{◌≡◌, IfOk, IfErr, OnOk};
 ghost use Rattle.pps_types.specs.OpenText as meant;
+ghost use Rattle.pps_types.specs.OpenText.{with_filter, with_limit, with_option};
 ghost use Rattle.pps_filter.specs.Refused.{IsOptionRefusal};
+ghost use Rattle.open_options.specs.Added.{listed_options, Adds, IsRefusalToAdd};
 ghost use Rattle.open_options.specs.Seen.{options_seen};
 ghost use Rattle.open_options.specs.Word.{with_word};
 
@@ -67,9 +68,8 @@ impl Options {
 
     /// Adds what stands behind `f=`, which may stand once.
     fn add_filter(&mut self, alloc: Global, text: &[u8]) -> Result<(), Refusal>
-        ensures ok { OnOk result (meant.with_filter (options_seen self.old) text.now
-            ≡ Some (options_seen self.new)) }
-        ensures err { IfErr result (IsOptionRefusal (meant.with_filter (options_seen self.old) text.now)) }
+        ensures ok { OnOk result (Adds with_filter self.old text.now self.new) }
+        ensures err { IfErr result (IsRefusalToAdd with_filter self.old text.now) }
     {
         if self.filter.is_some() {
             return Err(Refusal::BadOption);
@@ -80,9 +80,8 @@ impl Options {
 
     /// Adds what stands behind `limit=`, which may stand once.
     fn add_limit(&mut self, text: &[u8]) -> Result<(), Refusal>
-        ensures ok { OnOk result (meant.with_limit (options_seen self.old) text.now
-            ≡ Some (options_seen self.new)) }
-        ensures err { IfErr result (IsOptionRefusal (meant.with_limit (options_seen self.old) text.now)) }
+        ensures ok { OnOk result (Adds with_limit self.old text.now self.new) }
+        ensures err { IfErr result (IsRefusalToAdd with_limit self.old text.now) }
     {
         if self.limit.is_some() {
             return Err(Refusal::BadOption);
@@ -96,9 +95,8 @@ impl Options {
 
     /// Adds one option. An empty one says nothing, and a word may stand again.
     fn add(&mut self, alloc: Global, text: &[u8]) -> Result<(), Refusal>
-        ensures ok { OnOk result (meant.with_option (options_seen self.old) text.now
-            ≡ Some (options_seen self.new)) }
-        ensures err { IfErr result (IsOptionRefusal (meant.with_option (options_seen self.old) text.now)) }
+        ensures ok { OnOk result (Adds with_option self.old text.now self.new) }
+        ensures err { IfErr result (IsRefusalToAdd with_option self.old text.now) }
     {
         if text.is_empty() {
             return Ok(());
@@ -127,9 +125,8 @@ impl Options {
 
 /// Reads options with a plain comma between each two, in any combination.
 fn read_each(alloc: Global, text: &[u8]) -> Result<Options, Refusal>
-    ensures ok { IfOk result (λ read. meant.options_from meant.no_options (plain_pieces false 44 text.now)
-        ≡ Some (options_seen read)) }
-    ensures err { IfErr result (IsOptionRefusal (meant.options_from meant.no_options (plain_pieces false 44 text.now))) }
+    ensures ok { IfOk result (λ read. listed_options text.now ≡ Some (options_seen read)) }
+    ensures err { IfErr result (IsOptionRefusal (listed_options text.now)) }
 {
     let mut options = Options::new();
     let mut rest = Some(text);

@@ -5,7 +5,9 @@ use server_queue::Entry;
 use std::alloc::{AllocError, Global};
 use std::process::Abort;
 use std::test::Fail;
-use whole_texts::{Following, Member, Reply, Told, Woken, follow, gives_everything, late_answer};
+use whole_texts::{
+    Following, Member, Reply, TargetAfter, Woken, follow, gives_everything, late_answer,
+};
 
 /// What an open without options fixes for handle 4 of connection 2, which may be owed 2 records.
 fn opening(kind: HandleKind) -> Opening {
@@ -51,7 +53,7 @@ fn reply(alloc: Global, kind: HandleKind, size: u32) -> Result<Reply, Refusal> {
     object.apply(&[line(alloc)?])?;
     let members = [Member::alive(b"gps", &object)];
     let entries = [change(alloc, 9)?, change(alloc, 4)?];
-    let told = Told::new(&entries, true, &members);
+    let told = TargetAfter::new(&entries, true, &members);
     late_answer(alloc, 1, &opening(kind), &told, size)
 }
 
@@ -123,7 +125,7 @@ fn more_than_the_limit_is_everything(rt: HostRuntime) -> Result<(), Fail> {
     assert!(rt; gives_everything(1, &opening, &entries));
     let object = Object::new(alloc);
     let members = [Member::alive(b"gps", &object)];
-    let told = Told::new(&entries, true, &members);
+    let told = TargetAfter::new(&entries, true, &members);
     let reply = late_answer(alloc, 1, &opening, &told, 100)?;
     assert!(rt; is_wanted(&reply, Wanted::Everything(b"!@gps\n")));
     Ok(())
@@ -170,7 +172,7 @@ fn assert_follows(
 ) -> Result<(), Refusal> {
     let opening = opening(HandleKind::Object { delta: true });
     let woken = Woken::new(1, &opening, Some(parked), armed);
-    let told = Told::new(entries, true, &[]);
+    let told = TargetAfter::new(entries, true, &[]);
     let mut changes = Vec::new(alloc);
     follow(alloc, &mut changes, &woken, &told)?;
     assert_eq!(rt; changes.len(), wanted.len());

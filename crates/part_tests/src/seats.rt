@@ -1,10 +1,6 @@
-ghost use Rattle.std.specs.Prelude.{◌≡◌, ◌<◌, ◌∷◌, ◌++◌, [], OnOk};
-ghost use Rattle.std.specs.List.{AllByRecursion};
-ghost use Rattle.pps_types.specs.Plan.{first_seen};
-ghost use Rattle.pps_types.specs.Reading.{Open, reseen, style};
-ghost use Rattle.pps_types.specs.Rests.{Seen};
-ghost use Rattle.engine_targets.specs.Opened.{number_of, opened};
-ghost use Rattle.engine_servers.specs.Seated.{IsSameTarget, Suits, handles_of, name_of, target_of};
+ghost use Rattle.std.specs.Prelude.{◌≡◌, OnOk};
+ghost use Rattle.engine_targets.specs.HandleAt.{AreBelow};
+ghost use Rattle.engine_servers.specs.Seated.{IsSameTarget, Suits, handles_of, handles_with};
 
 use crate::steps::{assert_met, is_alone, opening};
 use engine_servers::Seats;
@@ -18,9 +14,9 @@ use std::test::Fail;
 /// Opens a handle.
 fn open(seats: &mut Seats, opening: Opening) -> Result<(), AllocError>
     requires suits { Suits opening.kind seats.old }
-    requires above { AllByRecursion (λ (h : Open Seen). h.number < opening.number) (handles_of seats.old) }
+    requires above { AreBelow opening.number (handles_of seats.old) }
     ensures same { IsSameTarget seats.old seats.new }
-    ensures handles { OnOk result (handles_of seats.new ≡ handles_of seats.old ++ reseen (λ h. first_seen h (style h.kind)) (opened (number_of (target_of seats.old)) (name_of seats.old) opening) ∷ []) }
+    ensures handles { OnOk result (handles_of seats.new ≡ handles_with opening seats.old) }
 {
     seats.reserve_handle()?;
     seats.open_reserved(opening);

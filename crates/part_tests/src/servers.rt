@@ -1,15 +1,13 @@
-ghost use Rattle.std.specs.Prelude.{◌≡◌, ◌<◌, ◌∷◌, ◌++◌, [], OnOk};
-ghost use Rattle.std.specs.List.{AllByRecursion};
-ghost use Rattle.pps_types.specs.Plan.{first_seen};
-ghost use Rattle.pps_types.specs.Reading.{Open, Queue as QueueStyle, reseen, style};
-ghost use Rattle.pps_types.specs.Rests.{Seen};
-ghost use Rattle.engine_targets.specs.Opened.{opened};
+ghost use Rattle.std.specs.Prelude.{◌≡◌, OnOk};
+ghost use Rattle.pps_types.specs.Reading.{Queue as QueueStyle, style};
+ghost use Rattle.engine_targets.specs.HandleAt.{AreBelow};
+ghost use Rattle.engine_servers.specs.Standing.{handles_with};
 
 use crate::steps::{assert_met, is_alone, limit_of, lines, opening};
 use engine_servers::Service;
 use engine_targets::{Opening, Pulse};
 use pps_types::{Bytes, Handle, HandleKind, Kind, ObjId, Record, Refusal};
-use server_queue::{Entry, Plan};
+use server_queue::Entry;
 use std::alloc::{AllocError, Global};
 use std::process::Abort;
 use std::test::Fail;
@@ -17,8 +15,8 @@ use std::test::Fail;
 /// Opens a handle.
 fn open(service: &mut Service, opening: Opening) -> Result<(), AllocError>
     requires queue { style opening.kind ≡ QueueStyle }
-    requires above { AllByRecursion (λ (h : Open Seen). h.number < opening.number) service.old.handles }
-    ensures handles { OnOk result (service.new.handles ≡ service.old.handles ++ reseen (λ h. first_seen h (style h.kind)) (opened service.old.object service.old.name opening) ∷ []) }
+    requires above { AreBelow opening.number service.old.handles }
+    ensures handles { OnOk result (service.new.handles ≡ handles_with opening service.old) }
 {
     service.reserve_handle()?;
     service.open_reserved(opening);

@@ -1,10 +1,8 @@
-ghost use Rattle.std.specs.Prelude.{◌≡◌, ◌<◌, [], ◌∷◌, ◌++◌, true, OnOk};
-ghost use Rattle.std.specs.List.{AllByRecursion};
-ghost use Rattle.pps_types.specs.Owed.{same_flag};
-ghost use Rattle.pps_types.specs.Plan.{first_seen};
-ghost use Rattle.pps_types.specs.Reading.{Open, is_directory_kind, reseen, style};
-ghost use Rattle.pps_types.specs.Rests.{Seen};
-ghost use Rattle.engine_targets.specs.Opened.{is_directory, is_reader, number_of, opened};
+ghost use Rattle.std.specs.Prelude.{◌≡◌, true, OnOk};
+ghost use Rattle.engine_targets.specs.Opened.{is_reader};
+ghost use Rattle.engine_targets.specs.HandleAt.{AreBelow};
+ghost use Rattle.engine_targets.specs.Seated.{SuitsTarget};
+ghost use Rattle.engine_targets.specs.Standing.{handles_with};
 
 use crate::steps::{assert_met, is_alone, limit_of, lines, opening};
 use engine_targets::{Opening, Pulse, Target};
@@ -17,10 +15,10 @@ use std::test::Fail;
 /// Opens a handle.
 fn open(target: &mut Target, opening: Opening) -> Result<(), AllocError>
     requires reader { is_reader opening.kind ≡ true }
-    requires flag { same_flag (is_directory_kind opening.kind) (is_directory target.old.of) ≡ true }
-    requires above { AllByRecursion (λ (h : Open Seen). h.number < opening.number) target.old.handles }
+    requires flag { SuitsTarget opening.kind target.old.of }
+    requires above { AreBelow opening.number target.old.handles }
     ensures of { target.new.of ≡ target.old.of }
-    ensures handles { OnOk result (target.new.handles ≡ target.old.handles ++ reseen (λ h. first_seen h (style h.kind)) (opened (number_of target.old.of) target.old.name opening) ∷ []) }
+    ensures handles { OnOk result (target.new.handles ≡ handles_with opening target.old) }
 {
     target.reserve_handle()?;
     target.open_reserved(opening);

@@ -1,11 +1,12 @@
 use object_state::Object;
 use pps_filter::read_filter;
 use pps_types::{Bytes, HandleKind, Kind, Line, Lines, Refusal};
+use server_queue::GivenBlocks;
 use std::alloc::{AllocError, Global};
 use std::process::Abort;
 use std::test::Fail;
 use whole_texts::{
-    Effect, Fitted, Listed, Member, Whole, after_record, answers_are_read, listing, listing_len,
+    Effect, Listed, Member, Whole, after_record, answers_are_read, listing, listing_len,
     listings_are_told, read_answer,
 };
 
@@ -101,8 +102,8 @@ fn everything_of_a_directory(rt: HostRuntime) -> Result<(), Fail> {
 }
 
 /// So many blocks that fit, of this text.
-fn fitted(alloc: Global, count: usize, text: &[u8]) -> Result<Fitted, AllocError> {
-    Ok(Fitted {
+fn fitted(alloc: Global, count: usize, text: &[u8]) -> Result<GivenBlocks, AllocError> {
+    Ok(GivenBlocks {
         count,
         text: text.to_vec(alloc)?,
     })

@@ -14,7 +14,7 @@ use Rattle.pps_types.specs.Checks.{Refuse, first_refusal, parsed, mode_fits, all
 use Rattle.name_table.specs.Laws.{QuestionsAreTold}
 use Rattle.name_table.specs.Standing.{Named, content_of, standing_of}
 use Rattle.service_state.specs.Tables.{Tabled, content_in}
-use Rattle.path_requests.specs.declared.checks.Asked.{Asked}
+use Rattle.path_requests.specs.declared.checks.NumberedSpot.{NumberedSpot}
 use Rattle.path_requests.specs.Asked.{IsAsked, found_by, is_all}
 use Rattle.path_requests.proofs.Places.{above_free}
 
@@ -56,7 +56,7 @@ pub name_decides : (c : Content) (mode : Mode) (spec : OpenSpec) (fits : Bool) (
 name_decides c mode spec fits found refused e f placed all is =
     is ∙ sym (open_by c mode spec (Ok found) (fits_told mode spec fits e f) placed ∙ ap (λ (b : Bool). first_refusal (cond b (all_checks c found) (name_checks c mode spec found))) all)
 
-pub asked_told : (c : Content) (mode : Mode) (spec : OpenSpec) (fits : Bool) (found : Option Found) (all : Bool) (r : Result Asked Refusal) → fits ≡ mode_fits mode spec → fits ≡ true → place (at c) spec.names ≡ Ok found → spec.all ≡ all
+pub asked_told : (c : Content) (mode : Mode) (spec : OpenSpec) (fits : Bool) (found : Option Found) (all : Bool) (r : Result NumberedSpot Refusal) → fits ≡ mode_fits mode spec → fits ≡ true → place (at c) spec.names ≡ Ok found → spec.all ≡ all
     → IfOk r (λ a. is_all a.spot ≡ all) → IfOk r (λ a. found ≡ found_by a.spot) → IfOk r (λ a. a.number ≡ c.next_handle) → IfOk r (IsAsked c mode spec)
 asked_told c mode spec fits found all (Err r) e f placed is spots founds numbers = tt
 asked_told c mode spec fits found all (Ok a) e f placed is spots founds numbers = record {

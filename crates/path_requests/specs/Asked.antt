@@ -1,5 +1,5 @@
 -- What an open is on, once no check refuses it.
-use Rattle.std.specs.Prelude.{◌≡◌, ℕ, Bool, true, false, Option, Some, None, Ok, unwrap_or, if◌then◌else◌}
+use Rattle.std.specs.Prelude.{◌≡◌, ℕ, List, Bool, true, false, Option, Some, None, Ok, unwrap_or, if◌then◌else◌}
 use Rattle.pps_types.specs.declared.event.Mode.{Mode}
 use Rattle.pps_types.specs.declared.found.Found.{Found}
 use Rattle.pps_types.specs.declared.found.Found.TheVariants.{Object as FoundObject, Directory as FoundDirectory}
@@ -10,9 +10,11 @@ use Rattle.pps_types.specs.OpenText.{OpenSpec}
 use Rattle.pps_types.specs.Reading.{Open}
 use Rattle.pps_types.specs.Content.{Content, at}
 use Rattle.pps_types.specs.Checks.{mode_fits}
+use Rattle.engine_targets.specs.declared.opening.Opening.{Opening}
+use Rattle.engine_targets.specs.Opened.{opened}
 use Rattle.path_requests.specs.declared.checks.Spot.{Spot}
 use Rattle.path_requests.specs.declared.checks.Spot.TheVariants.{All, Alive, Free}
-use Rattle.path_requests.specs.declared.checks.Asked.{Asked}
+use Rattle.path_requests.specs.declared.checks.NumberedSpot.{NumberedSpot}
 
 -- what stands there
 abbrev pub found_by : Spot → Option Found
@@ -25,7 +27,7 @@ is_all (All directory) = true
 is_all spot = false
 
 -- It is on that spot, to which its path leads, and gets the next number.
-pub record IsAsked (c : Content) (mode : Mode) (spec : OpenSpec) (a : Asked) : Type 0 where
+pub record IsAsked (c : Content) (mode : Mode) (spec : OpenSpec) (a : NumberedSpot) : Type 0 where
   pub fits : mode_fits mode spec ≡ true
   pub all : spec.all ≡ is_all a.spot
   pub place : place (at c) spec.names ≡ Ok (found_by a.spot)
@@ -59,3 +61,8 @@ handle_by c conn mode spec kind target = record {
   parked = None;
   armed = None;
 }
+
+-- on each target, the opening makes that handle
+abbrev pub FixesHandle : Content → ℕ → Mode → OpenSpec → HandleKind → Opening → Type 0
+FixesHandle c conn mode spec kind opening =
+    (target : ℕ) (name : List ℕ) → opened target name opening ≡ handle_by c conn mode spec kind (target, name)

@@ -1,5 +1,10 @@
+pub mod FoundIn
+pub mod Alive
+pub mod Checks
+pub mod Restored
 pub mod Planned
 pub mod Asked
 pub mod Ways
 pub mod Listed
 pub mod Removed
+pub mod Done

@@ -1,9 +1,14 @@
 -- What an open does, as moves, and what it wants for that.
-use Rattle.std.specs.Prelude.{◌≡◌, ◌<◌, ℕ, List, [], ◌∷◌, ◌++◌, Bool, true, false, is_some, IsSomeAnd}
+use Rattle.std.specs.Prelude.{◌≡◌, ◌<◌, ℕ, List, [], ◌∷◌, ◌++◌, Bool, true, false, Some, None, is_some, IfSome, IsSomeAnd, if◌then◌else◌}
 use Rattle.std.specs.Option.{option_map_or}
 use Rattle.std.specs.List.{flat_map, list_all}
 use Rattle.pps_types.specs.declared.found.Found.{Found}
-use Rattle.pps_types.specs.Plan.{Move, Creates, AppendsRecord, Opens as OpensHandle}
+use Rattle.pps_types.specs.declared.found.Found.TheVariants.{Object as FoundObject}
+use Rattle.pps_types.specs.declared.record.Kind.{Kind}
+use Rattle.pps_types.specs.declared.record.Kind.TheVariants.{Deleted}
+use Rattle.pps_types.specs.Names.{Path, last_name}
+use Rattle.pps_types.specs.Content.{object_numbered}
+use Rattle.pps_types.specs.Plan.{Move, Creates, AppendsRecord, Opens as OpensHandle, entry_of}
 use Rattle.engine_targets.specs.declared.opening.Opening.{Opening}
 use Rattle.engine_targets.specs.Opened.{opened, number_of}
 use Rattle.name_table.specs.Standing.{placed_at}
@@ -32,6 +37,33 @@ moves_of (OnFound beginning found opening) t = flat_map beginning_of beginning.i
 moves_of (Creating object opening) t = Creates (new_object object t) ∷ opens_new t (new_object object t).name opening
 moves_of (Replacing replacement opening) t =
     option_map_or (λ gone. AppendsRecord replacement.deletion.entry ∷ Creates (replacing_object replacement gone.object t) ∷ opens_new t gone.object.name opening) (placed_at replacement.object t.names) []
+
+-- a new object at that path, in that directory, and its first handle
+abbrev pub creation_moves : Tabled → Path → ℕ → Bool → Bool → Opening → List Move
+creation_moves t path directory nopersist is_served opening =
+    Creates (record {
+      number = (content_in t).next_object;
+      directory = directory;
+      name = last_name path;
+      nopersist = nopersist;
+      server = if is_served then Some (content_in t).next_handle else None;
+    }) ∷ OpensHandle (opened (content_in t).next_object (last_name path) opening) ∷ []
+
+-- after a record of that kind of the object, where that is alive, it opens on it
+abbrev pub OpensWithRecord : Opens → ℕ → Kind → Opening → Tabled → Tabled → Type 0
+OpensWithRecord o object kind opening old new = IfSome (object_numbered (content_in old) object) (λ known. moves_of o new
+    ≡ AppendsRecord (entry_of known.object kind None) ∷ OpensHandle (opened object (name_at (FoundObject object) old.handles) opening) ∷ [])
+
+-- where the object is alive, a server's object takes its place, and it opens on that
+abbrev pub TakesOver : Opens → ℕ → Bool → Opening → Tabled → Tabled → Type 0
+TakesOver o object nopersist opening old new = IfSome (object_numbered (content_in old) object) (λ known. moves_of o new
+    ≡ AppendsRecord (entry_of known.object Deleted None) ∷ Creates (record {
+      number = (content_in old).next_object;
+      directory = known.object.directory;
+      name = known.object.name;
+      nopersist = nopersist;
+      server = Some (content_in old).next_handle;
+    }) ∷ OpensHandle (opened (content_in old).next_object known.object.name opening) ∷ [])
 
 -- ---- what it wants
 

@@ -1,5 +1,5 @@
 -- How an open leaves what stands at its path.
-use Rattle.std.specs.Prelude.{◌≡◌, ℕ, List, [], ◌∷◌, Bool, true, false, None, Ok, IsSome, IsSomeAnd, if◌then◌else◌}
+use Rattle.std.specs.Prelude.{◌≡◌, ◌+◌, ◌<◌, ◌^◌, ℕ, List, [], ◌∷◌, ◌++◌, Bool, true, false, Option, Some, None, Ok, IsSome, IsSomeAnd, if◌then◌else◌}
 use Rattle.std.specs.Option.{option_map_or}
 use Rattle.pps_types.specs.declared.event.Mode.{Mode}
 use Rattle.pps_types.specs.declared.found.Found.{Found}
@@ -7,19 +7,24 @@ use Rattle.pps_types.specs.declared.found.Found.TheVariants.{Object as FoundObje
 use Rattle.pps_types.specs.declared.handle_kind.HandleKind.{HandleKind}
 use Rattle.pps_types.specs.declared.record.Kind.{Kind}
 use Rattle.pps_types.specs.declared.record.Kind.TheVariants.{Deleted, Opened, Truncated}
+use Rattle.pps_types.specs.declared.refusal.Refusal.{Refusal}
+use Rattle.pps_types.specs.declared.refusal.Refusal.TheVariants.{TableFull}
 use Rattle.pps_types.specs.Names.{Name, parent, last_name, find_at}
 use Rattle.pps_types.specs.OpenText.{OpenSpec}
 use Rattle.pps_types.specs.Content.{Content, Object, at, object_numbered}
-use Rattle.pps_types.specs.Plan.{Move, Creates as CreatesObject, AppendsRecord, entry_of, new_object, new_handle, preparing, found_object}
+use Rattle.pps_types.specs.Plan.{Move, Creates as CreatesObject, AppendsRecord, Opens as OpensHandle, entry_of, new_object, new_handle, preparing, found_object}
+use Rattle.service_laws.specs.SettlingTargets.{last_number_passed}
 use Rattle.engine_targets.specs.Opened.{number_of, is_directory}
 use Rattle.engine_servers.specs.Seated.{suits}
 use Rattle.open_handles.specs.Whole.{Whole, name_at, site_at}
 use Rattle.service_state.specs.Lines.{deletes, is_change}
 use Rattle.service_state.specs.Tables.{Tabled, content_in}
+use Rattle.path_requests.specs.declared.planned_open.Opens.{Opens}
 use Rattle.path_requests.specs.declared.ways.Step.{Step}
 use Rattle.path_requests.specs.declared.ways.Step.TheVariants.{Stays, Tells, Creates, Replaces}
 use Rattle.path_requests.specs.declared.ways.Way.{Way}
 use Rattle.path_requests.specs.Asked.{handle_by}
+use Rattle.path_requests.specs.Planned.{moves_of}
 
 -- what is done to an object that is alive, a server's or a plain one, by an open whose handle gets that number
 abbrev pub step_on : Mode → OpenSpec → ℕ → Bool → ℕ → Step
@@ -51,6 +56,18 @@ abbrev pub step_objects : Step → ℕ
 step_objects (Creates directory) = 1
 step_objects (Replaces object) = 1
 step_objects _ = 0
+
+-- TableFull where the last number would be passed by those that it makes
+abbrev pub step_refusal : Tabled → Step → Option Refusal
+step_refusal t step = if last_number_passed (content_in t) (step_records step) (step_objects step) 0 then Some TableFull else None
+
+-- there are numbers for the records that it makes
+abbrev pub HasRecordsLeft : Tabled → Step → Type 0
+HasRecordsLeft t step = (content_in t).records + step_records step < 2 ^ 64
+
+-- there are numbers for the objects that it makes
+abbrev pub HasObjectsLeft : Tabled → Step → Type 0
+HasObjectsLeft t step = (content_in t).next_object + step_objects step < 2 ^ 64
 
 -- ---- that it can be gone
 
@@ -92,3 +109,8 @@ pub record IsWay (t : Tabled) (mode : Mode) (spec : OpenSpec) (w : Way) : Type 0
   pub moves : preparing (content_in t) mode spec (found_object (content_in t) spec) ≡ step_moves (content_in t) spec w.step
   pub handle : (conn : ℕ) → new_handle (content_in t) conn mode spec (found_object (content_in t) spec) ≡ handle_by (content_in t) conn mode spec w.kind (step_target t spec w.step)
   pub able : CanStep t spec w.kind w.step
+
+-- an open goes this way: it has the moves of the step, and then its handle opens
+abbrev pub GoesWay : ℕ → Mode → OpenSpec → Way → Tabled → Tabled → Opens → Type 0
+GoesWay conn mode spec w old new o = moves_of o new ≡ step_moves (content_in old) spec w.step
+    ++ OpensHandle (handle_by (content_in old) conn mode spec w.kind (step_target old spec w.step)) ∷ []

@@ -1,11 +1,13 @@
 //! What an open is refused for.
-ghost use Rattle.std.specs.Prelude.{◌≡◌, is_some, true, false, Some, None, IfOk};
-ghost use Rattle.std.specs.Option.{option_map_or};
+ghost use Rattle.std.specs.Prelude.{◌≡◌, true, false, None, IfOk};
 ghost use Rattle.pps_types.specs.declared.found.Found.TheVariants.{Object as FoundObject};
-ghost use Rattle.pps_types.specs.Names as paths;
 ghost use Rattle.pps_types.specs.Content as content;
 ghost use Rattle.pps_types.specs.Checks as checking;
+ghost use Rattle.pps_types.specs.Checks.{handle_checks, object_checks, all_checks, name_checks, open_checks};
 ghost use Rattle.service_state.specs.Tables.{content_in};
+ghost use Rattle.service_state.specs.Refused.{IsCheckedBy};
+ghost use Rattle.path_requests.specs.Alive.{is_served_in};
+ghost use Rattle.path_requests.specs.Checks.{alive_checks_in};
 ghost use Rattle.path_requests.specs.Asked.{IsAsked, found_by, is_all};
 
 use name_table::{parent, questions_are_told};
@@ -35,7 +37,7 @@ pub(crate) enum Spot {
 
 /// What an open is on, with the number that its handle gets.
 #[derive(Clone, Copy, Debug, PartialEq, Eq)]
-pub(crate) struct Asked {
+pub(crate) struct NumberedSpot {
     pub(crate) number: Handle,
     pub(crate) spot: Spot,
 }
@@ -56,7 +58,7 @@ fn mode_fits(mode: Mode, spec: &OpenSpec) -> bool
 
 // The number of one more handle.
 fn new_number(tables: &Tables) -> Result<Handle, Refusal>
-    ensures refusal { paths.refusal_of result ≡ checking.first_refusal (checking.handle_checks (content_in tables.now)) }
+    ensures refusal { IsCheckedBy result (handle_checks (content_in tables.now)) }
     ensures number { IfOk result (λ number. number ≡ (content_in tables.now).next_handle) }
 {
     let handles = tables.handles();
@@ -71,7 +73,7 @@ fn new_number(tables: &Tables) -> Result<Handle, Refusal>
 
 /// TableFull where there is no room for one more object at the path.
 pub(crate) fn check_room(tables: &Tables, path: &[Bytes]) -> Result<(), Refusal>
-    ensures { paths.refusal_of result ≡ checking.first_refusal (checking.object_checks (content_in tables.now) path.now) }
+    ensures { IsCheckedBy result (object_checks (content_in tables.now) path.now) }
 {
     let names = tables.names();
     if names.objects_in(parent(path)) >= MEMBERS_MAX {
@@ -92,7 +94,7 @@ fn has_handles(tables: &Tables, object: ObjId) -> bool
 
 /// Whether an object is a server object.
 pub(crate) fn is_served(tables: &Tables, object: ObjId) -> bool
-    ensures { result ≡ option_map_or (λ (o : content.LiveObject). is_some o.object.server) (content.object_numbered (content_in tables.now) object) false }
+    ensures { result ≡ is_served_in tables.now object }
 {
     match tables.names().object(object) {
         None => false,
@@ -108,8 +110,8 @@ fn is_used(tables: &Tables, object: ObjId) -> bool
 }
 
 // The last element is `.all`.
-fn check_all(tables: &Tables, found: Option<Found>) -> Result<Asked, Refusal>
-    ensures refusal { paths.refusal_of result ≡ checking.first_refusal (checking.all_checks (content_in tables.now) found) }
+fn check_all(tables: &Tables, found: Option<Found>) -> Result<NumberedSpot, Refusal>
+    ensures refusal { IsCheckedBy result (all_checks (content_in tables.now) found) }
     ensures all { IfOk result (λ a. is_all a.spot ≡ true) }
     ensures spot { IfOk result (λ a. found ≡ found_by a.spot) }
     ensures number { IfOk result (λ a. a.number ≡ (content_in tables.now).next_handle) }
@@ -122,14 +124,14 @@ fn check_all(tables: &Tables, found: Option<Found>) -> Result<Asked, Refusal>
         Found::Directory(directory) => {
             let number = new_number(tables)?;
             let spot = Spot::All(directory);
-            Ok(Asked { number, spot })
+            Ok(NumberedSpot { number, spot })
         }
     }
 }
 
 // A name that is free, where an object may be created.
-fn check_free(tables: &Tables, mode: Mode, spec: &OpenSpec) -> Result<Asked, Refusal>
-    ensures refusal { paths.refusal_of result ≡ checking.first_refusal (checking.name_checks (content_in tables.now) mode spec.now None) }
+fn check_free(tables: &Tables, mode: Mode, spec: &OpenSpec) -> Result<NumberedSpot, Refusal>
+    ensures refusal { IsCheckedBy result (name_checks (content_in tables.now) mode spec.now None) }
     ensures spot { IfOk result (λ a. a.spot ≡ Spot.Free) }
     ensures number { IfOk result (λ a. a.number ≡ (content_in tables.now).next_handle) }
 {
@@ -139,7 +141,7 @@ fn check_free(tables: &Tables, mode: Mode, spec: &OpenSpec) -> Result<Asked, Ref
     let number = new_number(tables)?;
     check_room(tables, spec.path().names())?;
     let spot = Spot::Free;
-    Ok(Asked { number, spot })
+    Ok(NumberedSpot { number, spot })
 }
 
 // An object that is alive, which a server may have only where nobody else does.
@@ -148,8 +150,8 @@ fn check_alive(
     mode: Mode,
     spec: &OpenSpec,
     object: ObjId,
-) -> Result<Asked, Refusal>
-    ensures refusal { paths.refusal_of result ≡ checking.first_refusal (checking.name_checks (content_in tables.now) mode spec.now (Some (FoundObject object))) }
+) -> Result<NumberedSpot, Refusal>
+    ensures refusal { IsCheckedBy result (alive_checks_in tables.now mode spec.now object) }
     ensures spot { IfOk result (λ a. a.spot ≡ Spot.Alive object) }
     ensures number { IfOk result (λ a. a.number ≡ (content_in tables.now).next_handle) }
 {
@@ -158,7 +160,7 @@ fn check_alive(
     }
     let number = new_number(tables)?;
     let spot = Spot::Alive(object);
-    Ok(Asked { number, spot })
+    Ok(NumberedSpot { number, spot })
 }
 
 // The last element is a name.
@@ -167,8 +169,8 @@ fn check_name(
     mode: Mode,
     spec: &OpenSpec,
     found: Option<Found>,
-) -> Result<Asked, Refusal>
-    ensures refusal { paths.refusal_of result ≡ checking.first_refusal (checking.name_checks (content_in tables.now) mode spec.now found) }
+) -> Result<NumberedSpot, Refusal>
+    ensures refusal { IsCheckedBy result (name_checks (content_in tables.now) mode spec.now found) }
     ensures all { IfOk result (λ a. is_all a.spot ≡ false) }
     ensures spot { IfOk result (λ a. found ≡ found_by a.spot) }
     ensures number { IfOk result (λ a. a.number ≡ (content_in tables.now).next_handle) }
@@ -188,8 +190,12 @@ fn check_name(
 /// the path leads to no place; with `.all` NotFound where nothing is there, and NotDirectory where an object is; else NotFound
 /// where nothing is there and `c` is not set, IsDirectory where a directory is, Busy where a server opens what has a handle or
 /// a server; and TableFull where there are too many handles, or too many objects for one more. It takes no memory.
-pub(crate) fn check_open(tables: &Tables, mode: Mode, spec: &OpenSpec) -> Result<Asked, Refusal>
-    ensures refusal { paths.refusal_of result ≡ checking.first_refusal (checking.open_checks (content_in tables.now) mode spec.now) }
+pub(crate) fn check_open(
+    tables: &Tables,
+    mode: Mode,
+    spec: &OpenSpec,
+) -> Result<NumberedSpot, Refusal>
+    ensures refusal { IsCheckedBy result (open_checks (content_in tables.now) mode spec.now) }
     ensures asked { IfOk result (IsAsked (content_in tables.now) mode spec.now) }
 {
     questions_are_told();

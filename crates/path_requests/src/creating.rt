@@ -1,17 +1,13 @@
 //! A new object with its first handle.
-ghost use Rattle.std.specs.Prelude.{◌≡◌, ◌+◌, ◌<◌, ◌^◌, ◌∷◌, [], true, false, Some, None, Ok, IfOk, IfErr, OnOk, if◌then◌else◌};
-ghost use Rattle.pps_types.specs.declared.found.Found.TheVariants.{Directory as FoundDirectory};
-ghost use Rattle.pps_types.specs.Names as paths;
-ghost use Rattle.pps_types.specs.Content as content;
-ghost use Rattle.pps_types.specs.Plan as planning;
+ghost use Rattle.std.specs.Prelude.{◌≡◌, ◌+◌, ◌<◌, ◌^◌, true, false, Some, None, IfOk, IfErr, OnOk, if◌then◌else◌};
 ghost use Rattle.pps_types.specs.WellFormed.{IsContent};
 ghost use Rattle.pps_types.specs.declared.refusal.Refusal.TheVariants.{OutOfMemory};
-ghost use Rattle.engine_targets.specs.Opened.{opened};
 ghost use Rattle.name_table.specs.Standing.{IsReadyToCreate};
 ghost use Rattle.notify_box.specs.Standing.{HasHandleRoom};
 ghost use Rattle.engine_servers.specs.Seated.{suits};
 ghost use Rattle.service_state.specs.Tables.{content_in};
-ghost use Rattle.path_requests.specs.Planned.{moves_of, IsReady};
+ghost use Rattle.path_requests.specs.FoundIn.{IsAboveIn};
+ghost use Rattle.path_requests.specs.Planned.{moves_of, creation_moves, IsReady};
 
 use crate::planned_open::Opens;
 use engine_targets::Opening;
@@ -60,19 +56,14 @@ pub(crate) fn creating(
     opening: Opening,
 ) -> Result<Opens, Refusal>
     requires content { IsContent (content_in tables.old) }
-    requires above { paths.find_at (content.at (content_in tables.old)) (paths.parent path.items) ≡ Ok (FoundDirectory directory) }
+    requires above { IsAboveIn tables.old directory path.items }
     requires number { opening.number ≡ (content_in tables.old).next_handle }
     requires suits { suits opening.kind false is_served ≡ true }
     requires records { (content_in tables.old).records + 1 < 2 ^ 64 }
     requires objects { (content_in tables.old).next_object + 1 < 2 ^ 64 }
     ensures content { content_in tables.new ≡ content_in tables.old }
-    ensures moves { IfOk result (λ o. moves_of o tables.new ≡ planning.Creates (record {
-      number = (content_in tables.old).next_object;
-      directory = directory;
-      name = paths.last_name path.items;
-      nopersist = nopersist;
-      server = if is_served then Some (content_in tables.old).next_handle else None;
-    }) ∷ planning.Opens (opened (content_in tables.old).next_object (paths.last_name path.items) opening) ∷ []) }
+    ensures moves { IfOk result (λ o. moves_of o tables.new
+        ≡ creation_moves tables.old path.items directory nopersist is_served opening) }
     ensures ready { IfOk result (λ o. IsReady o tables.new) }
     ensures err { IfErr result (λ r. r ≡ OutOfMemory) }
 {

@@ -1,12 +1,10 @@
 //! Listing a directory.
-ghost use Rattle.std.specs.Prelude.{◌≡◌, ◌++◌, [], None, map, IfOk, IfErr, OnOk};
+ghost use Rattle.std.specs.Prelude.{◌≡◌, ◌++◌, map, IfOk, IfErr, OnOk};
 ghost use Rattle.std.specs.List.{concat};
 ghost use Rattle.pps_types.specs.declared.event.Request.TheVariants.{List as ListRequest};
-ghost use Rattle.pps_types.specs.Checks as checking;
-ghost use Rattle.pps_types.specs.Plan as planning;
-ghost use Rattle.service_state.specs.Tables.{content_in};
-ghost use Rattle.service_state.specs.Refused.{Fails};
+ghost use Rattle.service_state.specs.Refused.{AllPass, Fails, checks_in};
 ghost use Rattle.path_requests.specs.Listed.{line_listed};
+ghost use Rattle.path_requests.specs.Done.{DoesList};
 
 use crate::paths::read_names;
 use name_table::{Lent, members_are_listed, questions_are_told};
@@ -45,9 +43,9 @@ fn names_listed(alloc: Global, members: &Lent<'_, Global>) -> Result<Vec<u8>, Al
 /// It is BadPath where the text is no path, NotFound where nothing stands there, and NotDirectory where an object stands there
 /// or on the way. Else OutOfMemory is the only error.
 pub fn list(tables: &Tables, alloc: Global, conn: Conn, path: &Bytes) -> Result<Outcome, Refusal>
-    ensures passes { OnOk result (checking.first_refusal (checking.request_checks (content_in tables.now) conn (ListRequest path.now)) ≡ None) }
-    ensures does { IfOk result (λ outcome. planning.effect (content_in tables.now) conn (ListRequest path.now) ≡ (outcome, [])) }
-    ensures err { IfErr result (λ r. Fails (checking.request_checks (content_in tables.now) conn (ListRequest path.now)) r) }
+    ensures passes { OnOk result (AllPass (checks_in tables.now conn (ListRequest path.now))) }
+    ensures does { IfOk result (λ outcome. DoesList outcome conn path.now tables.now) }
+    ensures err { IfErr result (λ r. Fails (checks_in tables.now conn (ListRequest path.now)) r) }
 {
     members_are_listed();
     questions_are_told();

@@ -1,12 +1,10 @@
 //! Making a directory.
-ghost use Rattle.std.specs.Prelude.{◌≡◌, ◌+◌, ◌<◌, ◌^◌, ◌∷◌, [], None, IfOk, IfErr, OnOk};
+ghost use Rattle.std.specs.Prelude.{◌≡◌, ◌+◌, ◌<◌, ◌^◌, IfOk, IfErr, OnOk};
 ghost use Rattle.pps_types.specs.declared.event.Request.TheVariants.{Mkdir};
-ghost use Rattle.pps_types.specs.declared.outcome.Outcome.TheVariants.{Done};
-ghost use Rattle.pps_types.specs.Checks as checking;
-ghost use Rattle.pps_types.specs.Plan as planning;
 ghost use Rattle.name_table.specs.Standing.{IsReadyToMake};
 ghost use Rattle.service_state.specs.Tables.{content_in};
-ghost use Rattle.service_state.specs.Refused.{Fails, all_request_checks};
+ghost use Rattle.service_state.specs.Refused.{AllPass, Fails, all_checks_in};
+ghost use Rattle.path_requests.specs.Done.{DoesMkdir};
 
 use crate::paths::read_names;
 use pps_types::{Bytes, Conn, Refusal};
@@ -26,12 +24,12 @@ pub fn make_directory(
     path: &Bytes,
 ) -> Result<Vec<Bytes>, Refusal>
     ensures content { content_in tables.new ≡ content_in tables.old }
-    ensures passes { OnOk result (checking.first_refusal (all_request_checks (content_in tables.old) conn (Mkdir path.now)) ≡ None) }
-    ensures does { IfOk result (λ names. planning.effect (content_in tables.old) conn (Mkdir path.now) ≡ (Done, planning.MakesDirectory names.items ∷ [])) }
+    ensures passes { OnOk result (AllPass (all_checks_in tables.old conn (Mkdir path.now))) }
+    ensures does { IfOk result (λ names. DoesMkdir names.items conn path.now tables.old) }
     ensures ready { IfOk result (λ names. IsReadyToMake tables.new.names names.items) }
     ensures place { OnOk result (0 < tables.new.handles.directories.room) }
     ensures last { OnOk result ((content_in tables.new).next_directory + 1 < 2 ^ 64) }
-    ensures err { IfErr result (λ r. Fails (all_request_checks (content_in tables.old) conn (Mkdir path.now)) r) }
+    ensures err { IfErr result (λ r. Fails (all_checks_in tables.old conn (Mkdir path.now)) r) }
 {
     events_are_settled();
     let names = read_names(alloc, path)?;

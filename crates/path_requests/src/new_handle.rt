@@ -1,8 +1,7 @@
 //! The handle that an open makes.
-ghost use Rattle.std.specs.Prelude.{◌≡◌, ℕ, List};
-ghost use Rattle.engine_targets.specs.Opened.{opened};
+ghost use Rattle.std.specs.Prelude.{◌≡◌};
 ghost use Rattle.service_state.specs.Tables.{content_in};
-ghost use Rattle.path_requests.specs.Asked.{kind_by, handle_by};
+ghost use Rattle.path_requests.specs.Asked.{FixesHandle, kind_by};
 
 use engine_targets::Opening;
 use open_options::OpenSpec;
@@ -46,7 +45,7 @@ pub(crate) fn new_opening(
     ensures connection { result.1.connection ≡ conn }
     ensures kind { result.1.kind ≡ kind }
     ensures number { result.1.number ≡ (content_in tables.now).next_handle }
-    ensures opening { (target : ℕ) (name : List ℕ) → opened target name result.1 ≡ handle_by (content_in tables.now) conn mode spec kind (target, name) }
+    ensures opening { FixesHandle (content_in tables.now) conn mode spec kind result.1 }
 {
     let wait = spec.wait();
     let reflect = spec.reflect();

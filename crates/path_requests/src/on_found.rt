@@ -1,13 +1,9 @@
 //! A handle on what stands.
-ghost use Rattle.std.specs.Prelude.{◌≡◌, ◌+◌, ◌<◌, ◌^◌, ◌∷◌, [], false, None, IfOk, IfErr, IfSome};
-ghost use Rattle.pps_types.specs.Content as content;
-ghost use Rattle.pps_types.specs.Plan as planning;
-ghost use Rattle.pps_types.specs.declared.found.Found.TheVariants.{Object as FoundObject};
+ghost use Rattle.std.specs.Prelude.{◌≡◌, ◌+◌, ◌<◌, ◌^◌, IfOk, IfErr};
 ghost use Rattle.pps_types.specs.declared.refusal.Refusal.TheVariants.{OutOfMemory};
-ghost use Rattle.engine_targets.specs.Opened.{opened, number_of};
-ghost use Rattle.open_handles.specs.Whole.{name_at};
+ghost use Rattle.service_state.specs.Moves.{opening_on};
 ghost use Rattle.service_state.specs.Tables.{content_in};
-ghost use Rattle.path_requests.specs.Planned.{moves_of, IsReady};
+ghost use Rattle.path_requests.specs.Planned.{moves_of, OpensWithRecord, IsReady};
 ghost use Rattle.path_requests.specs.Ways.{SuitsOn, CanTell};
 
 use crate::planned_open::Opens;
@@ -47,7 +43,7 @@ pub(crate) fn on_found(
     requires number { opening.number ≡ (content_in tables.old).next_handle }
     requires suits { SuitsOn opening.kind found tables.old.handles }
     ensures content { content_in tables.new ≡ content_in tables.old }
-    ensures moves { IfOk result (λ o. moves_of o tables.new ≡ planning.Opens (opened (number_of found) (name_at found tables.old.handles) opening) ∷ []) }
+    ensures moves { IfOk result (λ o. moves_of o tables.new ≡ opening_on found opening tables.old) }
     ensures ready { IfOk result (λ o. IsReady o tables.new) }
     ensures err { IfErr result (λ r. r ≡ OutOfMemory) }
 {
@@ -71,8 +67,7 @@ pub(crate) fn on_told(
     requires able { CanTell tables.old opening.kind object kind }
     requires last { (content_in tables.old).records + 1 < 2 ^ 64 }
     ensures content { content_in tables.new ≡ content_in tables.old }
-    ensures moves { IfOk result (λ o. IfSome (content.object_numbered (content_in tables.old) object) (λ known. moves_of o tables.new
-        ≡ planning.AppendsRecord (planning.entry_of known.object kind None) ∷ planning.Opens (opened object (name_at (FoundObject object) tables.old.handles) opening) ∷ [])) }
+    ensures moves { IfOk result (λ o. OpensWithRecord o object kind opening tables.old tables.new) }
     ensures ready { IfOk result (λ o. IsReady o tables.new) }
     ensures err { IfErr result (λ r. r ≡ OutOfMemory) }
 {

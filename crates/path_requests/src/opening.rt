@@ -1,17 +1,15 @@
 //! Open: its checks in their order, what it does, and the memory that it takes ahead.
-ghost use Rattle.std.specs.Prelude.{◌≡◌, ◌+◌, ◌<◌, ◌^◌, ◌∷◌, ◌++◌, [], ℕ, true, None, Ok, IfOk, IfErr, OnOk};
+ghost use Rattle.std.specs.Prelude.{◌≡◌, Ok, IfOk, IfErr, OnOk};
 ghost use Rattle.pps_types.specs.declared.event.Request.TheVariants.{Open as OpenRequest};
-ghost use Rattle.pps_types.specs.declared.outcome.Outcome.TheVariants.{Opened as OpenedHandle};
 ghost use Rattle.pps_types.specs.declared.refusal.Refusal.TheVariants.{OutOfMemory};
 ghost use Rattle.pps_types.specs.OpenText as meant;
-ghost use Rattle.pps_types.specs.Checks as checking;
-ghost use Rattle.pps_types.specs.Plan as planning;
 ghost use Rattle.pps_types.specs.WellFormed.{IsContent};
 ghost use Rattle.service_state.specs.Tables.{content_in};
-ghost use Rattle.service_state.specs.Refused.{Fails, all_request_checks};
-ghost use Rattle.path_requests.specs.Asked.{handle_by};
-ghost use Rattle.path_requests.specs.Planned.{moves_of, IsReady};
-ghost use Rattle.path_requests.specs.Ways.{CanStep, IsWay, step_moves, step_target, step_records, step_objects};
+ghost use Rattle.service_state.specs.Refused.{AllPass, TakesMemory, Fails};
+ghost use Rattle.path_requests.specs.Checks.{PassesForAnyone, TakesMemoryForAnyone, FailsForAnyone, open_checks_in};
+ghost use Rattle.path_requests.specs.Done.{DoesOpen};
+ghost use Rattle.path_requests.specs.Planned.{IsReady};
+ghost use Rattle.path_requests.specs.Ways.{CanStep, IsWay, GoesWay, HasRecordsLeft, HasObjectsLeft};
 
 use crate::checks::{check_open, letters_fit};
 use crate::creating::creating;
@@ -40,11 +38,11 @@ fn checked(tables: &Tables, alloc: Global, mode: Mode, text: &Bytes) -> Result<P
     ensures spec { IfOk result (λ p. meant.open_text text.now ≡ Ok p.spec) }
     ensures number { IfOk result (λ p. p.number ≡ (content_in tables.now).next_handle) }
     ensures way { IfOk result (λ p. IsWay tables.now mode p.spec p.way) }
-    ensures records { IfOk result (λ p. (content_in tables.now).records + step_records p.way.step < 2 ^ 64) }
-    ensures objects { IfOk result (λ p. (content_in tables.now).next_object + step_objects p.way.step < 2 ^ 64) }
-    ensures passes { OnOk result ((conn : ℕ) → checking.first_refusal (all_request_checks (content_in tables.now) conn (OpenRequest mode text.now)) ≡ None) }
-    ensures wants { OnOk result ((conn : ℕ) → checking.reaches_memory (all_request_checks (content_in tables.now) conn (OpenRequest mode text.now)) ≡ true) }
-    ensures err { IfErr result (λ r. (conn : ℕ) → Fails (all_request_checks (content_in tables.now) conn (OpenRequest mode text.now)) r) }
+    ensures records { IfOk result (λ p. HasRecordsLeft tables.now p.way.step) }
+    ensures objects { IfOk result (λ p. HasObjectsLeft tables.now p.way.step) }
+    ensures passes { OnOk result (PassesForAnyone tables.now (OpenRequest mode text.now)) }
+    ensures wants { OnOk result (TakesMemoryForAnyone tables.now (OpenRequest mode text.now)) }
+    ensures err { IfErr result (λ r. FailsForAnyone tables.now (OpenRequest mode text.now) r) }
 {
     events_are_settled();
     if !letters_fit(mode) {
@@ -72,11 +70,10 @@ fn prepared(
     requires content { IsContent (content_in tables.old) }
     requires number { passed.number ≡ (content_in tables.old).next_handle }
     requires able { CanStep tables.old passed.spec passed.way.kind passed.way.step }
-    requires records { (content_in tables.old).records + step_records passed.way.step < 2 ^ 64 }
-    requires objects { (content_in tables.old).next_object + step_objects passed.way.step < 2 ^ 64 }
+    requires records { HasRecordsLeft tables.old passed.way.step }
+    requires objects { HasObjectsLeft tables.old passed.way.step }
     ensures content { content_in tables.new ≡ content_in tables.old }
-    ensures moves { IfOk result (λ o. moves_of o tables.new ≡ step_moves (content_in tables.old) passed.spec passed.way.step
-        ++ planning.Opens (handle_by (content_in tables.old) conn mode passed.spec passed.way.kind (step_target tables.old passed.spec passed.way.step)) ∷ []) }
+    ensures moves { IfOk result (GoesWay conn mode passed.spec passed.way tables.old tables.new) }
     ensures ready { IfOk result (λ o. IsReady o tables.new) }
     ensures err { IfErr result (λ r. r ≡ OutOfMemory) }
 {
@@ -112,11 +109,11 @@ pub fn open(
 ) -> Result<Opens, Refusal>
     requires { IsContent (content_in tables.old) }
     ensures content { content_in tables.new ≡ content_in tables.old }
-    ensures passes { OnOk result (checking.first_refusal (all_request_checks (content_in tables.old) conn (OpenRequest mode text.now)) ≡ None) }
-    ensures wants { OnOk result (checking.reaches_memory (all_request_checks (content_in tables.old) conn (OpenRequest mode text.now)) ≡ true) }
-    ensures does { IfOk result (λ o. planning.effect (content_in tables.old) conn (OpenRequest mode text.now) ≡ (OpenedHandle (content_in tables.old).next_handle, moves_of o tables.new)) }
+    ensures passes { OnOk result (AllPass (open_checks_in tables.old conn mode text.now)) }
+    ensures wants { OnOk result (TakesMemory (open_checks_in tables.old conn mode text.now)) }
+    ensures does { IfOk result (λ o. DoesOpen o conn mode text.now tables.old tables.new) }
     ensures ready { IfOk result (λ o. IsReady o tables.new) }
-    ensures err { IfErr result (λ r. Fails (all_request_checks (content_in tables.old) conn (OpenRequest mode text.now)) r) }
+    ensures err { IfErr result (λ r. Fails (open_checks_in tables.old conn mode text.now) r) }
 {
     let passed = checked(tables, alloc, mode, text)?;
     prepared(tables, alloc, conn, mode, passed)

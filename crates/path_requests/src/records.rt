@@ -1,9 +1,8 @@
 //! Records that an open tells.
-ghost use Rattle.std.specs.Prelude.{◌≡◌, ◌∷◌, [], Some, None, IfOk, IfErr, IfSome, IsSome, OnOk};
-ghost use Rattle.pps_types.specs.Content as content;
-ghost use Rattle.pps_types.specs.Plan as planning;
+ghost use Rattle.std.specs.Prelude.{◌≡◌, IfOk, IfErr, IsSome};
 ghost use Rattle.pps_types.specs.declared.refusal.Refusal.TheVariants.{OutOfMemory};
-ghost use Rattle.service_state.specs.Tables.{content_in};
+ghost use Rattle.service_state.specs.Refused.{live_object_in};
+ghost use Rattle.path_requests.specs.Alive.{IsRecordOf};
 
 use pps_types::{Kind, ObjId, Refusal};
 use server_queue::Entry;
@@ -17,8 +16,8 @@ pub(crate) fn entry_of(
     object: ObjId,
     kind: Kind,
 ) -> Result<Entry, Refusal>
-    requires { IsSome (content.object_numbered (content_in tables.now) object) }
-    ensures ok { IfOk result (λ e. IfSome (content.object_numbered (content_in tables.now) object) (λ o. e ≡ planning.entry_of o.object kind None)) }
+    requires { IsSome (live_object_in tables.now object) }
+    ensures ok { IfOk result (λ e. IsRecordOf e object kind tables.now) }
     ensures err { IfErr result (λ r. r ≡ OutOfMemory) }
 {
     let Some(known) = tables.names().object(object) else {

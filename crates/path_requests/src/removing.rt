@@ -1,22 +1,22 @@
 //! Removing what stands at a path.
-ghost use Rattle.std.specs.Prelude.{◌≡◌, ◌⊎◌, None, Some, Ok, [], not, true, false, length, map, option_map, IfOk, IfErr, OnOk};
+ghost use Rattle.std.specs.Prelude.{◌≡◌, Some, not, map, IfOk, IfErr, OnOk};
 ghost use Rattle.std.specs.List.{AllByRecursion};
 ghost use Rattle.pps_types.specs.declared.event.Request.TheVariants.{Unlink};
-ghost use Rattle.pps_types.specs.declared.outcome.Outcome.TheVariants.{Done};
-ghost use Rattle.pps_types.specs.declared.record.Kind.TheVariants.{Deleted};
 ghost use Rattle.pps_types.specs.declared.found.Found.TheVariants.{Directory as FoundDirectory};
 ghost use Rattle.pps_types.specs.Bytes.{is_empty};
-ghost use Rattle.pps_types.specs.Names as names;
 ghost use Rattle.pps_types.specs.Content as content;
-ghost use Rattle.pps_types.specs.Checks as checking;
-ghost use Rattle.pps_types.specs.Plan as planning;
+ghost use Rattle.pps_types.specs.Checks.{unlink_checks};
 ghost use Rattle.pps_types.specs.WellFormed.{IsContent};
 ghost use Rattle.name_table.specs.Listed.{objects_at};
 ghost use Rattle.service_state.specs.Beginning.{IsSharedBy};
 ghost use Rattle.service_state.specs.Tables.{content_in};
-ghost use Rattle.service_state.specs.Refused.{Fails, all_request_checks};
+ghost use Rattle.service_state.specs.Refused.{AllPass, Fails, IsCheckedBy, all_checks_in};
 ghost use Rattle.handle_requests.specs.Begun.{bare, telling};
-ghost use Rattle.path_requests.specs.Removed.{moves_in, IsReady};
+ghost use Rattle.path_requests.specs.FoundIn.{directory_number_in, find_in, found_in};
+ghost use Rattle.path_requests.specs.Alive.{deletion_in};
+ghost use Rattle.path_requests.specs.Checks.{unlink_found_in};
+ghost use Rattle.path_requests.specs.Done.{DoesUnlink};
+ghost use Rattle.path_requests.specs.Removed.{IsReady};
 
 use crate::checks::is_served;
 use crate::paths::read_names;
@@ -59,8 +59,8 @@ fn is_used(tables: &Tables, directory: DirId) -> bool
 
 // Whether the directory at a path may be removed.
 fn check_directory(tables: &Tables, path: &[Bytes], directory: DirId) -> Result<(), Refusal>
-    requires { option_map (λ (d : content.Directory). d.number) (content.directory_at (content_in tables.now) path.now) ≡ Some directory }
-    ensures { names.refusal_of result ≡ checking.first_refusal (checking.unlink_found (content_in tables.now) path.now (FoundDirectory directory)) }
+    requires { directory_number_in tables.now path.now ≡ Some directory }
+    ensures { IsCheckedBy result (unlink_found_in tables.now path.now (FoundDirectory directory)) }
 {
     if has_objects(tables, path) {
         return Err(Refusal::NotEmpty);
@@ -76,8 +76,8 @@ fn check_directory(tables: &Tables, path: &[Bytes], directory: DirId) -> Result<
 
 // Whether what is found at a path may be removed.
 fn check_found(tables: &Tables, path: &[Bytes], found: Found) -> Result<(), Refusal>
-    requires { content.at (content_in tables.now) path.now ≡ Some found }
-    ensures { names.refusal_of result ≡ checking.first_refusal (checking.unlink_found (content_in tables.now) path.now found) }
+    requires { found_in tables.now path.now ≡ Some found }
+    ensures { IsCheckedBy result (unlink_found_in tables.now path.now found) }
 {
     match found {
         Found::Directory(directory) => check_directory(tables, path, directory),
@@ -92,7 +92,7 @@ fn check_found(tables: &Tables, path: &[Bytes], found: Found) -> Result<(), Refu
 
 // What stands at a path.
 fn find(tables: &Tables, path: &[Bytes]) -> Result<Found, Refusal>
-    ensures { result ≡ names.find_at (content.at (content_in tables.now)) path.now }
+    ensures { result ≡ find_in tables.now path.now }
 {
     questions_are_told();
     tables.names().find(path)
@@ -107,8 +107,8 @@ fn same(found: &Found) -> Found
 
 // Whether what stands at a path may be removed, and what that is.
 fn check_unlink(tables: &Tables, path: &[Bytes]) -> Result<Found, Refusal>
-    ensures refusal { names.refusal_of result ≡ checking.first_refusal (checking.unlink_checks (content_in tables.now) path.now) }
-    ensures found { IfOk result (λ found. content.at (content_in tables.now) path.now ≡ Some found) }
+    ensures refusal { IsCheckedBy result (unlink_checks (content_in tables.now) path.now) }
+    ensures found { IfOk result (λ found. found_in tables.now path.now ≡ Some found) }
 {
     if path.is_empty() {
         return Err(Refusal::Busy);
@@ -125,8 +125,8 @@ fn check_unlink(tables: &Tables, path: &[Bytes]) -> Result<Found, Refusal>
 
 // What the deletion of an object begins with. AllocError comes only where memory is wanting.
 fn deletion(tables: &Tables, alloc: Global, object: ObjId) -> Result<Vec<Beginning>, AllocError>
-    ensures begun { IfOk result (λ beginning. map bare beginning.items ≡ telling (option_map (λ (o : content.LiveObject). planning.entry_of o.object Deleted None) (content.object_numbered (content_in tables.now) object))) }
-    ensures shared { IfOk result (λ beginning. AllByRecursion (IsSharedBy tables.now.handles) beginning.items) }
+    ensures begun { IfOk result (λ b. map bare b.items ≡ telling (deletion_in tables.now object)) }
+    ensures shared { IfOk result (λ b. AllByRecursion (IsSharedBy tables.now.handles) b.items) }
 {
     questions_are_told();
     let mut beginning = Vec::new(alloc);
@@ -152,10 +152,10 @@ pub fn unlink(
 ) -> Result<Unlinked, Refusal>
     requires { IsContent (content_in tables.old) }
     ensures content { content_in tables.new ≡ content_in tables.old }
-    ensures passes { OnOk result (checking.first_refusal (all_request_checks (content_in tables.old) conn (Unlink path.now)) ≡ None) }
-    ensures does { IfOk result (λ unlinked. planning.effect (content_in tables.old) conn (Unlink path.now) ≡ (Done, moves_in unlinked)) }
+    ensures passes { OnOk result (AllPass (all_checks_in tables.old conn (Unlink path.now))) }
+    ensures does { IfOk result (λ unlinked. DoesUnlink unlinked conn path.now tables.old) }
     ensures ready { IfOk result (λ unlinked. IsReady unlinked tables.new) }
-    ensures err { IfErr result (λ r. Fails (all_request_checks (content_in tables.old) conn (Unlink path.now)) r) }
+    ensures err { IfErr result (λ r. Fails (all_checks_in tables.old conn (Unlink path.now)) r) }
 {
     events_are_settled();
     numbers_are_within(tables);

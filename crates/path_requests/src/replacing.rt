@@ -1,23 +1,20 @@
 //! A server's object in another's place.
-ghost use Rattle.std.specs.Prelude.{◌≡◌, ◌+◌, ◌<◌, ◌^◌, ◌∷◌, [], true, false, Some, None, IsSome, IfOk, IfErr, IfSome, OnOk, option_map};
-ghost use Rattle.pps_types.specs.Content as content;
-ghost use Rattle.pps_types.specs.Plan as planning;
+ghost use Rattle.std.specs.Prelude.{◌≡◌, ◌+◌, ◌<◌, ◌^◌, ◌∷◌, [], true, false, IsSome, IfOk, IfErr, OnOk};
 ghost use Rattle.pps_types.specs.WellFormed.{IsContent};
-ghost use Rattle.pps_types.specs.declared.record.Kind.TheVariants.{Created, Deleted};
 ghost use Rattle.pps_types.specs.declared.refusal.Refusal.TheVariants.{OutOfMemory};
-ghost use Rattle.engine_targets.specs.Opened.{opened};
-ghost use Rattle.name_table.specs.Standing.{known_of, placed_at};
 ghost use Rattle.engine_servers.specs.Seated.{suits};
 ghost use Rattle.notify_box.specs.Standing.{HasHandleRoom};
 ghost use Rattle.open_handles.specs.Whole.{HasRoom, IsShared};
 ghost use Rattle.service_state.specs.Tables.{content_in};
 ghost use Rattle.service_state.specs.Tied.{KeepsHandleRoom};
-ghost use Rattle.path_requests.specs.Planned.{moves_of, IsReady};
+ghost use Rattle.service_state.specs.Refused.{IsKnownIn, live_object_in};
+ghost use Rattle.path_requests.specs.Alive.{IsCreationFor, IsServersSite};
+ghost use Rattle.path_requests.specs.Planned.{TakesOver, IsReady};
 
 use crate::planned_open::Opens;
 use crate::records::entry_of;
 use engine_targets::Opening;
-use open_handles::{NewSite, Told};
+use open_handles::{NewSite, SharedRecord};
 use pps_types::{Bytes, Conn, Found, Kind, ObjId, Refusal};
 use server_queue::Entry;
 use service_state::{Replacement, Tables, entry_about};
@@ -42,7 +39,7 @@ fn told_both(
     alloc: Global,
     first: Entry,
     second: Entry,
-) -> Result<(Told, Told), Refusal>
+) -> Result<(SharedRecord, SharedRecord), Refusal>
     ensures content { content_in tables.new ≡ content_in tables.old }
     ensures names { tables.new.names ≡ tables.old.names }
     ensures connections { tables.new.connections ≡ tables.old.connections }
@@ -63,12 +60,8 @@ fn told_both(
 
 // The record of the creation of an object in another's place.
 fn creation_of(tables: &Tables, alloc: Global, gone: ObjId, number: ObjId) -> Result<Entry, Refusal>
-    requires { IsSome (content.object_numbered (content_in tables.now) gone) }
-    ensures ok { IfOk result (λ e. IfSome (content.object_numbered (content_in tables.now) gone) (λ o. e ≡ record {
-      directory = o.object.directory;
-      name = o.object.name;
-      record_of = record { object = number; kind = Created; writer = None };
-    })) }
+    requires { IsSome (live_object_in tables.now gone) }
+    ensures ok { IfOk result (λ e. IsCreationFor e number gone tables.now) }
     ensures err { IfErr result (λ r. r ≡ OutOfMemory) }
 {
     let Some(known) = tables.names().object(gone) else {
@@ -86,9 +79,9 @@ fn creation_of(tables: &Tables, alloc: Global, gone: ObjId, number: ObjId) -> Re
 
 // The place of a server's object in another's place.
 fn site_of(tables: &Tables, alloc: Global, gone: ObjId, number: ObjId) -> Result<NewSite, Refusal>
-    requires { IsSome (content.object_numbered (content_in tables.now) gone) }
+    requires { IsSome (live_object_in tables.now gone) }
     ensures object { IfOk result (λ fresh. fresh.object ≡ number) }
-    ensures site { IfOk result (λ fresh. IfSome (content.object_numbered (content_in tables.now) gone) (λ o. fresh.site ≡ record { name = o.object.name; service = true })) }
+    ensures site { IfOk result (λ fresh. IsServersSite fresh.site gone tables.now) }
     ensures err { IfErr result (λ r. r ≡ OutOfMemory) }
 {
     let Some(known) = tables.names().object(gone) else {
@@ -100,7 +93,7 @@ fn site_of(tables: &Tables, alloc: Global, gone: ObjId, number: ObjId) -> Result
 
 // Does nothing. Its contract is the law that the object of a number is what stands under it.
 fn is_known(tables: &Tables, object: ObjId)
-    ensures { option_map known_of (placed_at object tables.now.names) ≡ content.object_numbered (content_in tables.now) object }
+    ensures { IsKnownIn tables.now object }
 {
     let _known = tables.names().object(object);
 }
@@ -115,20 +108,13 @@ pub(crate) fn replacing(
     opening: Opening,
 ) -> Result<Opens, Refusal>
     requires content { IsContent (content_in tables.old) }
-    requires alive { IsSome (content.object_numbered (content_in tables.old) object) }
+    requires alive { IsSome (live_object_in tables.old object) }
     requires number { opening.number ≡ (content_in tables.old).next_handle }
     requires suits { suits opening.kind false true ≡ true }
     requires records { (content_in tables.old).records + 2 < 2 ^ 64 }
     requires objects { (content_in tables.old).next_object + 1 < 2 ^ 64 }
     ensures content { content_in tables.new ≡ content_in tables.old }
-    ensures moves { IfOk result (λ o. IfSome (content.object_numbered (content_in tables.old) object) (λ known. moves_of o tables.new
-        ≡ planning.AppendsRecord (planning.entry_of known.object Deleted None) ∷ planning.Creates (record {
-          number = (content_in tables.old).next_object;
-          directory = known.object.directory;
-          name = known.object.name;
-          nopersist = nopersist;
-          server = Some (content_in tables.old).next_handle;
-        }) ∷ planning.Opens (opened (content_in tables.old).next_object known.object.name opening) ∷ [])) }
+    ensures moves { IfOk result (λ o. TakesOver o object nopersist opening tables.old tables.new) }
     ensures ready { IfOk result (λ o. IsReady o tables.new) }
     ensures err { IfErr result (λ r. r ≡ OutOfMemory) }
 {

@@ -1,9 +1,8 @@
 //! Directories, made at their paths.
-ghost use Rattle.std.specs.Prelude.{◌≡◌, ◌⊎◌, Ok, Err, IfErr, OnOk, OnErr};
-ghost use Rattle.pps_types.specs.declared.refusal.Refusal.TheVariants.{OutOfMemory};
-ghost use Rattle.pps_types.specs.Restore as restoring;
+ghost use Rattle.std.specs.Prelude.{◌≡◌, IfErr, OnOk, OnErr};
 ghost use Rattle.pps_types.specs.WellFormed.{IsContent};
 ghost use Rattle.service_state.specs.Tables.{content_in};
+ghost use Rattle.path_requests.specs.Restored.{Yields, FailsAs, directory_restored};
 
 use pps_types::{Bytes, Refusal};
 use service_state::Tables;
@@ -15,8 +14,8 @@ use service_state::Tables;
 /// last number. Else OutOfMemory is the only error. After an error all is as it was.
 pub fn restore_directory(tables: &mut Tables, path: Vec<Bytes>) -> Result<(), Refusal>
     requires { IsContent (content_in tables.old) }
-    ensures done { OnOk result (restoring.restore_directory (content_in tables.old) path.items ≡ Ok (content_in tables.new)) }
-    ensures refused { IfErr result (λ r. (restoring.restore_directory (content_in tables.old) path.items ≡ Err r) ⊎ (r ≡ OutOfMemory)) }
+    ensures done { OnOk result (Yields (directory_restored tables.old path.items) tables.new) }
+    ensures refused { IfErr result (λ r. FailsAs (directory_restored tables.old path.items) r) }
     ensures kept { OnErr result (content_in tables.new ≡ content_in tables.old) }
 {
     tables.check_new_directory(&path)?;

@@ -1,25 +1,21 @@
 //! Lines, added to objects.
-ghost use Rattle.std.specs.Prelude.{◌≡◌, ◌⊎◌, ◌∷◌, [], Some, None, Ok, Err, IfOk, IfErr, IfSome, OnOk, OnErr, IsSome, fold, option_map};
-ghost use Rattle.std.specs.List.{list_any};
+ghost use Rattle.std.specs.Prelude.{◌≡◌, ◌∷◌, [], Ok, IfOk, IfErr, IfSome, OnOk, OnErr, IsSome};
 ghost use Rattle.pps_types.specs.declared.found.Found.TheVariants.{Object as FoundObject};
-ghost use Rattle.pps_types.specs.declared.line.Line.{Line as LineOf};
 ghost use Rattle.pps_types.specs.declared.record.Kind.TheVariants.{Change};
 ghost use Rattle.pps_types.specs.declared.refusal.Refusal.TheVariants.{OutOfMemory};
-ghost use Rattle.pps_types.specs.Bytes.{same};
-ghost use Rattle.pps_types.specs.Names as paths;
-ghost use Rattle.pps_types.specs.History as history;
-ghost use Rattle.pps_types.specs.Content as content;
-ghost use Rattle.pps_types.specs.Checks as checking;
-ghost use Rattle.pps_types.specs.Plan as planning;
 ghost use Rattle.pps_types.specs.Restore as restoring;
 ghost use Rattle.pps_types.specs.WellFormed.{IsContent};
-ghost use Rattle.name_table.specs.Standing.{known_of, placed_at};
+ghost use Rattle.name_table.specs.Standing.{AreReadyFor};
 ghost use Rattle.open_handles.specs.Whole.{HasRoom, IsShared};
 ghost use Rattle.service_state.specs.Lines.{HasLines};
+ghost use Rattle.service_state.specs.Refused.{IsKnownIn, live_object_in};
 ghost use Rattle.service_state.specs.Tables.{content_in};
+ghost use Rattle.path_requests.specs.FoundIn.{find_in};
+ghost use Rattle.path_requests.specs.Alive.{IsRecordOf, StaysWithinLimits, FailsAtLimits, has_attribute};
+ghost use Rattle.path_requests.specs.Restored.{Yields, FailsAs, RefusesEachLine, line_restored};
 
 use name_table::questions_are_told;
-use open_handles::Told;
+use open_handles::SharedRecord;
 use pps_filter::Name;
 use pps_types::{Bytes, Found, Kind, Line, Lines, ObjId, Refusal};
 use service_state::{Tables, record_of};
@@ -27,8 +23,8 @@ use std::alloc::{AllocError, Global};
 
 // The object at a path.
 fn object_at(tables: &Tables, path: &[Bytes]) -> Result<ObjId, Refusal>
-    ensures ok { IfOk result (λ object. paths.find_at (content.at (content_in tables.now)) path.now ≡ Ok (FoundObject object)) }
-    ensures err { IfErr result (λ r. (line : LineOf) → checking.first_refusal (restoring.line_checks (content_in tables.now) path.now line) ≡ Some r) }
+    ensures ok { IfOk result (λ object. find_in tables.now path.now ≡ Ok (FoundObject object)) }
+    ensures err { IfErr result (λ r. RefusesEachLine tables.now path.now r) }
 {
     questions_are_told();
     let found = match tables.names().find(path) {
@@ -52,7 +48,7 @@ fn name_of(line: &Line) -> Result<Name, AllocError>
 
 // Whether an object has an attribute of that name.
 fn has_attribute(tables: &Tables, object: ObjId, name: &Name) -> bool
-    ensures { IfSome (content.object_numbered (content_in tables.now) object) (λ o. result ≡ list_any (λ a. same a.name name.now) o.attributes) }
+    ensures { IfSome (live_object_in tables.now object) (λ o. result ≡ has_attribute name.now o) }
 {
     match tables.names().object(object) {
         None => false,
@@ -62,7 +58,7 @@ fn has_attribute(tables: &Tables, object: ObjId, name: &Name) -> bool
 
 // Does nothing. Its contract is the law that an object is found as it stands.
 fn objects_are_placed(tables: &Tables, object: ObjId)
-    ensures { option_map known_of (placed_at object tables.now.names) ≡ content.object_numbered (content_in tables.now) object }
+    ensures { IsKnownIn tables.now object }
 {
     let _known = tables.names().object(object);
 }
@@ -70,11 +66,11 @@ fn objects_are_placed(tables: &Tables, object: ObjId)
 // Takes the memory for lines of an object. It is TooLarge exactly where the object would pass its limits, and else
 // OutOfMemory is the only error.
 fn lines_ready(tables: &mut Tables, object: ObjId, lines: &[Line]) -> Result<(), Refusal>
-    requires { IsSome (content.object_numbered (content_in tables.old) object) }
+    requires { IsSome (live_object_in tables.old object) }
     ensures content { content_in tables.new ≡ content_in tables.old }
-    ensures passes { OnOk result (IfSome (content.object_numbered (content_in tables.old) object) (λ o. checking.first_refusal (checking.limit_checks (fold history.apply_line o.attributes lines.now)) ≡ None)) }
-    ensures ready { OnOk result (IfSome (placed_at object tables.new.names) (λ x. x.held.ready ≡ Some lines.now)) }
-    ensures err { IfErr result (λ r. IfSome (content.object_numbered (content_in tables.old) object) (λ o. checking.first_refusal (checking.limit_checks (fold history.apply_line o.attributes lines.now)) ≡ Some r) ⊎ (r ≡ OutOfMemory)) }
+    ensures passes { OnOk result (StaysWithinLimits object lines.now tables.old) }
+    ensures ready { OnOk result (AreReadyFor object lines.now tables.new.names) }
+    ensures err { IfErr result (λ r. FailsAtLimits object lines.now tables.old r) }
 {
     objects_are_placed(tables, object);
     tables.change_ready(object, lines)
@@ -86,11 +82,11 @@ fn change_told(
     alloc: Global,
     object: ObjId,
     lines: Vec<Line>,
-) -> Result<Told, Refusal>
-    requires alive { IsSome (content.object_numbered (content_in tables.old) object) }
-    requires lines { IfSome (placed_at object tables.old.names) (λ x. x.held.ready ≡ Some lines.items) }
+) -> Result<SharedRecord, Refusal>
+    requires alive { IsSome (live_object_in tables.old object) }
+    requires lines { AreReadyFor object lines.items tables.old.names }
     ensures content { content_in tables.new ≡ content_in tables.old }
-    ensures entry { IfOk result (λ told. IfSome (content.object_numbered (content_in tables.old) object) (λ o. told.entry ≡ planning.entry_of o.object (Change lines.items) None)) }
+    ensures entry { IfOk result (λ t. IsRecordOf t.entry object (Change lines.items) tables.old) }
     ensures lines { IfOk result (λ told. HasLines told.entry tables.new.names) }
     ensures room { IfOk result (λ told. HasRoom (told.entry ∷ []) tables.new.handles) }
     ensures shared { IfOk result (λ told. IsShared told.count told.entry tables.new.handles) }
@@ -115,8 +111,8 @@ pub fn restore_line(
     line: Line,
 ) -> Result<(), Refusal>
     requires { IsContent (content_in tables.old) }
-    ensures done { OnOk result (restoring.restore_line (content_in tables.old) path.now line ≡ Ok (content_in tables.new)) }
-    ensures refused { IfErr result (λ r. (restoring.restore_line (content_in tables.old) path.now line ≡ Err r) ⊎ (r ≡ OutOfMemory)) }
+    ensures done { OnOk result (Yields (line_restored tables.old path.now line) tables.new) }
+    ensures refused { IfErr result (λ r. FailsAs (line_restored tables.old path.now line) r) }
     ensures kept { OnErr result (content_in tables.new ≡ content_in tables.old) }
 {
     let name = name_of(&line)?;

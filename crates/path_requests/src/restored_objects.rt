@@ -1,14 +1,13 @@
 //! Objects, created at their paths.
-ghost use Rattle.std.specs.Prelude.{◌≡◌, ◌⊎◌, ◌+◌, ◌<◌, ◌^◌, ◌++◌, ◌∷◌, [], None, Ok, Err, IfOk, IfErr, OnOk, OnErr};
+ghost use Rattle.std.specs.Prelude.{◌≡◌, ◌+◌, ◌<◌, ◌^◌, None, IfOk, IfErr, OnOk, OnErr};
 ghost use Rattle.pps_types.specs.declared.refusal.Refusal.TheVariants.{OutOfMemory};
 ghost use Rattle.pps_types.specs.Names as paths;
 ghost use Rattle.pps_types.specs.Content as content;
-ghost use Rattle.pps_types.specs.Checks as checking;
-ghost use Rattle.pps_types.specs.Image.{restored_object};
-ghost use Rattle.pps_types.specs.Restore as restoring;
 ghost use Rattle.pps_types.specs.WellFormed.{IsContent};
-ghost use Rattle.service_state.specs.Objects.{new_object, CanCreate};
+ghost use Rattle.service_state.specs.Objects.{CanCreate};
+ghost use Rattle.service_state.specs.Refused.{IsCheckedBy};
 ghost use Rattle.service_state.specs.Tables.{content_in};
+ghost use Rattle.path_requests.specs.Restored.{Yields, FailsAs, IsRestored, new_object_checks, object_restored};
 
 use crate::checks::check_room;
 use crate::ways::directory_above;
@@ -20,7 +19,7 @@ use std::alloc::Global;
 
 // Whether one more object can stand at a path.
 fn check_new(tables: &Tables, path: &[Bytes]) -> Result<(), Refusal>
-    ensures { paths.refusal_of result ≡ checking.first_refusal (checking.refused (paths.new_refusal (content.at (content_in tables.now)) path.now) ++ checking.object_checks (content_in tables.now) path.now) }
+    ensures { IsCheckedBy result (new_object_checks tables.now path.now) }
 {
     tables.check_free(path)?;
     check_room(tables, path)
@@ -33,7 +32,7 @@ fn creating(tables: &mut Tables, alloc: Global, path: Vec<Bytes>) -> Result<NewO
     requires records { (content_in tables.old).records + 1 < 2 ^ 64 }
     requires objects { (content_in tables.old).next_object + 1 < 2 ^ 64 }
     ensures content { content_in tables.new ≡ content_in tables.old }
-    ensures is { IfOk result (λ o. new_object o tables.new ≡ restored_object (content_in tables.old) path.items) }
+    ensures is { IfOk result (λ o. IsRestored o path.items tables.old tables.new) }
     ensures ready { IfOk result (λ o. CanCreate o tables.new) }
     ensures err { IfErr result (λ r. r ≡ OutOfMemory) }
 {
@@ -64,8 +63,8 @@ fn creating(tables: &mut Tables, alloc: Global, path: Vec<Bytes>) -> Result<NewO
 /// would pass the last number. Else OutOfMemory is the only error. After an error all is as it was.
 pub fn restore_object(tables: &mut Tables, alloc: Global, path: Vec<Bytes>) -> Result<(), Refusal>
     requires { IsContent (content_in tables.old) }
-    ensures done { OnOk result (restoring.restore_object (content_in tables.old) path.items ≡ Ok (content_in tables.new)) }
-    ensures refused { IfErr result (λ r. (restoring.restore_object (content_in tables.old) path.items ≡ Err r) ⊎ (r ≡ OutOfMemory)) }
+    ensures done { OnOk result (Yields (object_restored tables.old path.items) tables.new) }
+    ensures refused { IfErr result (λ r. FailsAs (object_restored tables.old path.items) r) }
     ensures kept { OnErr result (content_in tables.new ≡ content_in tables.old) }
 {
     check_new(tables, &path)?;

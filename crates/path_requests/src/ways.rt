@@ -1,17 +1,15 @@
 //! How an open leaves what stands at its path.
-ghost use Rattle.std.specs.Prelude.{◌≡◌, ◌+◌, ◌<◌, ◌^◌, true, false, if◌then◌else◌, Some, None, Ok, OnOk};
+ghost use Rattle.std.specs.Prelude.{◌≡◌, true, false, Some, None, Ok, OnOk};
 ghost use Rattle.pps_types.specs.declared.found.Found.TheVariants.{Object as FoundObject, Directory as FoundDirectory};
 ghost use Rattle.pps_types.specs.Checks as checking;
-ghost use Rattle.pps_types.specs.Names as paths;
 ghost use Rattle.pps_types.specs.Names.{refusal_of};
-ghost use Rattle.pps_types.specs.Content as content;
 ghost use Rattle.pps_types.specs.WellFormed.{IsContent};
-ghost use Rattle.service_laws.specs.SettlingTargets.{last_number_passed};
 ghost use Rattle.service_state.specs.Tables.{content_in};
 ghost use Rattle.path_requests.specs.Asked.{IsAsked};
-ghost use Rattle.path_requests.specs.Ways.{IsWay, step_on, step_records, step_objects};
+ghost use Rattle.path_requests.specs.FoundIn.{IsAboveIn, place_in};
+ghost use Rattle.path_requests.specs.Ways.{IsWay, HasRecordsLeft, HasObjectsLeft, step_on, step_records, step_objects, step_refusal};
 
-use crate::checks::{Asked, Spot, is_served};
+use crate::checks::{NumberedSpot, Spot, is_served};
 use crate::new_handle::kind_opened;
 use name_table::{parent, questions_are_told};
 use open_options::OpenSpec;
@@ -41,8 +39,8 @@ pub(crate) struct Way {
 /// The directory above a path where nothing stands, and something can.
 pub fn directory_above(tables: &Tables, path: &[Bytes]) -> DirId
     requires content { IsContent (content_in tables.now) }
-    requires place { paths.place (content.at (content_in tables.now)) path.now ≡ Ok None }
-    ensures { paths.find_at (content.at (content_in tables.now)) (paths.parent path.now) ≡ Ok (FoundDirectory result) }
+    requires place { place_in tables.now path.now ≡ Ok None }
+    ensures { IsAboveIn tables.now result path.now }
 {
     questions_are_told();
     let Ok(above) = tables.names().find(parent(path)) else {
@@ -75,7 +73,7 @@ fn way_on(tables: &Tables, mode: Mode, spec: &OpenSpec, object: ObjId, number: H
     requires content { IsContent (content_in tables.now) }
     requires number { number ≡ (content_in tables.now).next_handle }
     requires all { spec.now.all ≡ false }
-    requires place { paths.place (content.at (content_in tables.now)) spec.now.names ≡ Ok (Some (FoundObject object)) }
+    requires place { place_in tables.now spec.now.names ≡ Ok (Some (FoundObject object)) }
     ensures { IsWay tables.now mode spec.now result }
 {
     tables.are_tied();
@@ -89,7 +87,7 @@ fn way_on(tables: &Tables, mode: Mode, spec: &OpenSpec, object: ObjId, number: H
 fn way_to_free(tables: &Tables, mode: Mode, spec: &OpenSpec) -> Way
     requires content { IsContent (content_in tables.now) }
     requires all { spec.now.all ≡ false }
-    requires place { paths.place (content.at (content_in tables.now)) spec.now.names ≡ Ok None }
+    requires place { place_in tables.now spec.now.names ≡ Ok None }
     ensures { IsWay tables.now mode spec.now result }
 {
     let kind = kind_opened(spec, false);
@@ -101,7 +99,7 @@ fn way_to_free(tables: &Tables, mode: Mode, spec: &OpenSpec) -> Way
 fn way_on_all(tables: &Tables, mode: Mode, spec: &OpenSpec, directory: DirId) -> Way
     requires fits { checking.mode_fits mode spec.now ≡ true }
     requires all { spec.now.all ≡ true }
-    requires place { paths.place (content.at (content_in tables.now)) spec.now.names ≡ Ok (Some (FoundDirectory directory)) }
+    requires place { place_in tables.now spec.now.names ≡ Ok (Some (FoundDirectory directory)) }
     ensures { IsWay tables.now mode spec.now result }
 {
     tables.are_tied();
@@ -111,12 +109,12 @@ fn way_on_all(tables: &Tables, mode: Mode, spec: &OpenSpec, directory: DirId) ->
 }
 
 /// How an open goes that no check refuses. It takes no memory.
-pub(crate) fn way_of(tables: &Tables, mode: Mode, spec: &OpenSpec, asked: Asked) -> Way
+pub(crate) fn way_of(tables: &Tables, mode: Mode, spec: &OpenSpec, asked: NumberedSpot) -> Way
     requires content { IsContent (content_in tables.now) }
     requires asked { IsAsked (content_in tables.now) mode spec.now asked }
     ensures { IsWay tables.now mode spec.now result }
 {
-    let Asked { number, spot } = asked;
+    let NumberedSpot { number, spot } = asked;
     match spot {
         Spot::All(directory) => way_on_all(tables, mode, spec, directory),
         Spot::Alive(object) => way_on(tables, mode, spec, object, number),
@@ -147,9 +145,9 @@ fn objects_of(step: &Step) -> u64
 
 /// It is TableFull where the last number of a record or an object would be passed.
 pub(crate) fn check_numbers(tables: &Tables, step: &Step) -> Result<(), Refusal>
-    ensures refusal { refusal_of result ≡ (if last_number_passed (content_in tables.now) (step_records step.now) (step_objects step.now) 0 then Some Refusal.TableFull else None) }
-    ensures records { OnOk result ((content_in tables.now).records + step_records step.now < 2 ^ 64) }
-    ensures objects { OnOk result ((content_in tables.now).next_object + step_objects step.now < 2 ^ 64) }
+    ensures refusal { refusal_of result ≡ step_refusal tables.now step.now }
+    ensures records { OnOk result (HasRecordsLeft tables.now step.now) }
+    ensures objects { OnOk result (HasObjectsLeft tables.now step.now) }
 {
     let _directories = tables.names().next_directory();
     if tables.records() > u64::MAX - records_of(step) {

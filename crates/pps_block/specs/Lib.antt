@@ -1,3 +1,4 @@
 pub mod Inside
 pub mod Matching
+pub mod Printed
 pub mod Queue

@@ -1,9 +1,10 @@
 //! Blocks, before they are printed and as they are printed.
-ghost use Rattle.std.specs.Prelude.{◌≡◌, ◌≤◌, ◌+◌, ◌++◌, ◌^◌, ◌∷◌, [], Some, true, length, vec_len, vec_capacity, filter as those, OnOk, IfSome, IfNone};
-ghost use Rattle.std.specs.Option.{option_copied, option_to_list, ForSome};
-ghost use Rattle.pps_types.specs.Filter as filters;
+ghost use Rattle.std.specs.Prelude.{◌≡◌, ◌≤◌, ◌+◌, ◌++◌, ◌^◌, ◌∷◌, [], Some, true, length, vec_len, vec_capacity, OnOk, IfSome, IfNone};
+ghost use Rattle.std.specs.Option.{option_to_list, ForSome};
 ghost use Rattle.pps_types.specs.Reading as reading;
 ghost use Rattle.pps_types.specs.Text as text;
+ghost use Rattle.pps_block.specs.Matching.{matching_in};
+ghost use Rattle.pps_block.specs.Printed.{header_for, printed_for};
 
 use crate::lines::{matching_len, push_matching, put_matching};
 use attr_text::{client_header_len, header_len, push_client_header, push_header};
@@ -78,7 +79,7 @@ impl<'a> Block<'a> {
 
     // The lines that match, of which there are some.
     pub(crate) fn matching(filter: Option<&'a Filter>, lines: &'a [Line]) -> Block<'a>
-        ensures { Some result ≡ reading.with_lines (those (filters.matches (option_copied filter.entry)) lines.now) }
+        ensures { Some result ≡ reading.with_lines (matching_in filter.entry lines.now) }
     {
         Block {
             mark: None,
@@ -89,8 +90,8 @@ impl<'a> Block<'a> {
     }
 
     fn header_len(&self, name: &[u8]) -> Option<usize>
-        ensures some { IfSome result (λ len. len ≡ length (text.print_header self.now.mark (name.now ++ self.now.suffix))) }
-        ensures none { IfNone result (2 ^ 64 ≤ length (text.print_header self.now.mark (name.now ++ self.now.suffix))) }
+        ensures some { IfSome result (λ len. len ≡ length (header_for name.now self.now)) }
+        ensures none { IfNone result (2 ^ 64 ≤ length (header_for name.now self.now)) }
     {
         match self.client {
             None => header_len(self.mark, name),
@@ -101,8 +102,8 @@ impl<'a> Block<'a> {
     /// How long it is, printed for an object of that name, where that is a length. It takes no memory, and asks the
     /// filter about each line at most once.
     pub fn print_len(&self, name: &[u8]) -> Option<usize>
-        ensures some { IfSome result (λ len. len ≡ length (reading.print_shown name.now (Some self.now))) }
-        ensures none { IfNone result (2 ^ 64 ≤ length (reading.print_shown name.now (Some self.now))) }
+        ensures some { IfSome result (λ len. len ≡ length (printed_for name.now self.now)) }
+        ensures none { IfNone result (2 ^ 64 ≤ length (printed_for name.now self.now)) }
     {
         let header = self.header_len(name)?;
         let lines = matching_len(self.filter, self.lines)?;
@@ -110,8 +111,8 @@ impl<'a> Block<'a> {
     }
 
     fn push_header(&self, out: &mut Vec<u8>, name: &[u8])
-        requires { vec_len out.old + length (text.print_header self.now.mark (name.now ++ self.now.suffix)) ≤ vec_capacity out.old }
-        ensures items { out.new.items ≡ out.old.items ++ text.print_header self.now.mark (name.now ++ self.now.suffix) }
+        requires { vec_len out.old + length (header_for name.now self.now) ≤ vec_capacity out.old }
+        ensures items { out.new.items ≡ out.old.items ++ header_for name.now self.now }
         ensures capacity { vec_capacity out.old ≤ vec_capacity out.new }
     {
         match self.client {
@@ -123,8 +124,8 @@ impl<'a> Block<'a> {
     /// Pushes its printing for an object of that name, for which there is room. It takes no memory, and asks the filter
     /// about each line at most once.
     pub fn push(&self, out: &mut Vec<u8>, name: &[u8])
-        requires { vec_len out.old + length (reading.print_shown name.now (Some self.now)) ≤ vec_capacity out.old }
-        ensures items { out.new.items ≡ out.old.items ++ reading.print_shown name.now (Some self.now) }
+        requires { vec_len out.old + length (printed_for name.now self.now) ≤ vec_capacity out.old }
+        ensures items { out.new.items ≡ out.old.items ++ printed_for name.now self.now }
         ensures capacity { vec_capacity out.old ≤ vec_capacity out.new }
     {
         self.push_header(out, name);
@@ -133,7 +134,7 @@ impl<'a> Block<'a> {
 
     // Puts its header.
     fn put_header(&self, out: &mut Vec<u8>, name: &[u8]) -> Result<(), AllocError>
-        ensures { OnOk result (out.new.items ≡ out.old.items ++ text.print_header self.now.mark (name.now ++ self.now.suffix)) }
+        ensures { OnOk result (out.new.items ≡ out.old.items ++ header_for name.now self.now) }
     {
         let Some(len) = self.header_len(name) else {
             return Err(AllocError);
@@ -146,7 +147,7 @@ impl<'a> Block<'a> {
     /// Puts its printing for an object of that name behind what stands there. It asks the filter about each line at
     /// most once, since it takes room as it goes and needs no length before. An error may leave a part of the printing.
     pub fn put(&self, out: &mut Vec<u8>, name: &[u8]) -> Result<(), AllocError>
-        ensures { OnOk result (out.new.items ≡ out.old.items ++ reading.print_shown name.now (Some self.now)) }
+        ensures { OnOk result (out.new.items ≡ out.old.items ++ printed_for name.now self.now) }
     {
         self.put_header(out, name)?;
         put_matching(out, self.filter, self.lines)

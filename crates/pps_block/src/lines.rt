@@ -1,10 +1,7 @@
 //! The lines of a block: those of a record that match.
-ghost use Rattle.std.specs.Prelude.{◌≡◌, ◌≤◌, ◌+◌, ◌++◌, ◌^◌, is_some, length, vec_len, vec_capacity, filter as those, OnOk, IfSome, IfNone};
-ghost use Rattle.std.specs.List.{list_any};
-ghost use Rattle.std.specs.Option.{option_copied};
-ghost use Rattle.pps_types.specs.Filter as filters;
+ghost use Rattle.std.specs.Prelude.{◌≡◌, ◌≤◌, ◌+◌, ◌++◌, ◌^◌, is_some, length, vec_len, vec_capacity, OnOk, IfSome, IfNone};
 ghost use Rattle.pps_types.specs.Text as text;
-ghost use Rattle.pps_block.specs.Matching.{print_matching};
+ghost use Rattle.pps_block.specs.Matching.{some_match, matching_text, HaveSameMatches};
 
 use attr_text::{line_len, push_line};
 use pps_filter::{Filter, matches};
@@ -13,8 +10,8 @@ use std::alloc::AllocError;
 
 /// The lines from the first that matches on, where one does. It asks about no line behind that one.
 pub(crate) fn from_first_match<'a>(filter: Option<&Filter>, lines: &'a [Line]) -> Option<&'a [Line]>
-    ensures matches { is_some result ≡ list_any (filters.matches (option_copied filter.entry)) lines.now }
-    ensures same { IfSome result (λ rest. those (filters.matches (option_copied filter.entry)) rest.now ≡ those (filters.matches (option_copied filter.entry)) lines.now) }
+    ensures matches { is_some result ≡ some_match filter.entry lines.now }
+    ensures same { IfSome result (λ rest. HaveSameMatches filter.entry rest.now lines.now) }
 {
     let mut rest = lines;
     'rest: while let [line, after @ ..] = rest {
@@ -28,8 +25,8 @@ pub(crate) fn from_first_match<'a>(filter: Option<&Filter>, lines: &'a [Line]) -
 
 /// How long the lines that match are, printed, where that is a length. It takes no memory.
 pub(crate) fn matching_len(filter: Option<&Filter>, lines: &[Line]) -> Option<usize>
-    ensures some { IfSome result (λ len. len ≡ length (print_matching (option_copied filter.entry) lines.now)) }
-    ensures none { IfNone result (2 ^ 64 ≤ length (print_matching (option_copied filter.entry) lines.now)) }
+    ensures some { IfSome result (λ len. len ≡ length (matching_text filter.entry lines.now)) }
+    ensures none { IfNone result (2 ^ 64 ≤ length (matching_text filter.entry lines.now)) }
 {
     let mut total: usize = 0;
     'lines: for line in lines {
@@ -44,8 +41,8 @@ pub(crate) fn matching_len(filter: Option<&Filter>, lines: &[Line]) -> Option<us
 
 /// Pushes the printing of the lines that match, for which there is room. It takes no memory.
 pub(crate) fn push_matching(out: &mut Vec<u8>, filter: Option<&Filter>, lines: &[Line])
-    requires { vec_len out.old + length (print_matching (option_copied filter) lines.now) ≤ vec_capacity out.old }
-    ensures items { out.new.items ≡ out.old.items ++ print_matching (option_copied filter.entry) lines.now }
+    requires { vec_len out.old + length (matching_text filter lines.now) ≤ vec_capacity out.old }
+    ensures items { out.new.items ≡ out.old.items ++ matching_text filter.entry lines.now }
     ensures capacity { vec_capacity out.old ≤ vec_capacity out.new }
 {
     'lines: for line in lines {
@@ -74,7 +71,7 @@ pub(crate) fn put_matching(
     filter: Option<&Filter>,
     lines: &[Line],
 ) -> Result<(), AllocError>
-    ensures { OnOk result (out.new.items ≡ out.old.items ++ print_matching (option_copied filter.entry) lines.now) }
+    ensures { OnOk result (out.new.items ≡ out.old.items ++ matching_text filter.entry lines.now) }
 {
     'lines: for line in lines {
         if !matches(filter, line) {

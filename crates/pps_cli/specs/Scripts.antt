@@ -1,6 +1,9 @@
 -- What the program does with a script.
 use Rattle.std.specs.Prelude.{◌≡◌, ℕ, List, Bool, false, Option, Result, Ok, Err}
 use Rattle.pps_types.specs.Content.{Content}
+use Rattle.pps_types.specs.Device.{device_inner, device_failed, device_reads, device_stalls}
+use Rattle.pps_types.specs.declared.exchange.Exchange.{Exchange}
+use Rattle.pps_types.specs.Exchange.{input_of, output_of}
 use Rattle.pps_script.specs.declared.manner.Manner.{Manner}
 use Rattle.pps_script.specs.Served.{AnswersAll, AnswersUntil, AnswersWhole, AnswersFirst, FaultsAre}
 use Rattle.pps_script.specs.declared.fault.ScriptFault.TheVariants.{ReadFault, WriteFault}
@@ -20,3 +23,22 @@ abbrev pub ScriptFaultsAre : {X : Type 0} → Result X Fault → (read_failed wr
 ScriptFaultsAre {X} (Err CannotReadInput) r w reads_old reads_new stalls_old stalls_new = FaultsAre {X = X} (Err ReadFault) r w reads_old reads_new stalls_old stalls_new
 ScriptFaultsAre {X} (Err CannotWriteOutput) r w reads_old reads_new stalls_old stalls_new = FaultsAre {X = X} (Err WriteFault) r w reads_old reads_new stalls_old stalls_new
 ScriptFaultsAre _ r w reads_old reads_new stalls_old stalls_new = (r ≡ false) × (w ≡ false)
+
+-- ---- over an exchange
+
+-- what became of a script that came in over it
+abbrev pub RunsScriptOver : {R W X : Type 0} → (R → Option (List ℕ)) → (W → Option (List ℕ)) → Manner
+    → (from to : Exchange R W) → Content → Content → Result X Fault → Type 0
+RunsScriptOver remaining contents how from to old new result =
+    RunsScript how
+    (remaining (device_inner (input_of from))) (remaining (device_inner (input_of to)))
+    (contents (device_inner (output_of from))) (contents (device_inner (output_of to)))
+    old new result
+
+-- a fault of the input or of the output is answered only where its devices had it
+abbrev pub AnswersScriptFault : {R W X : Type 0} → (from to : Exchange R W) → Result X Fault → Type 0
+AnswersScriptFault from to result =
+    ScriptFaultsAre result
+    (device_failed (input_of to)) (device_failed (output_of to))
+    (device_reads (input_of from)) (device_reads (input_of to))
+    (device_stalls (output_of from)) (device_stalls (output_of to))

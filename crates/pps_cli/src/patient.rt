@@ -33,7 +33,8 @@ impl<I: Read> Read for Patient<I> {
 
     fn read(&mut self, buf: &mut [u8]) -> io::Result<usize>
         ensures bound { ReadsAtMost result buf.new }
-        ensures bytes { ReadConsumes (I.remaining self.old.inner) (I.remaining self.new.inner) result buf.new }
+        ensures bytes { ReadConsumes
+            (I.remaining self.old.inner) (I.remaining self.new.inner) result buf.new }
         ensures retried { IfErr result (λ e. error_kind e ≢ ErrorKind.Interrupted) }
     {
         'reads: for _ in 0..self.reads_left {
@@ -52,7 +53,8 @@ impl<O: Write> Write for Patient<O> {
 
     fn write(&mut self, buf: &[u8]) -> io::Result<usize>
         ensures bound { WritesAtMost result buf.now }
-        ensures bytes { WriteAppends (O.contents self.old.inner) (O.contents self.new.inner) result buf.now }
+        ensures bytes { WriteAppends
+            (O.contents self.old.inner) (O.contents self.new.inner) result buf.now }
         ensures retried { IfErr result (λ e. error_kind e ≢ ErrorKind.Interrupted) }
     {
         'tries: for _ in 0..CALLS_MAX {

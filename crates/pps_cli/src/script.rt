@@ -1,8 +1,8 @@
 //! A script, run as it arrives.
 ghost use Rattle.std.specs.Prelude.{◌≡◌, [], false};
-ghost use Rattle.pps_types.specs.Device.{device_inner, device_failed, device_reads, device_stalls};
+ghost use Rattle.pps_types.specs.Device.{device_failed};
 ghost use Rattle.pps_types.specs.Exchange.{input_of, output_of, held_in};
-ghost use Rattle.pps_cli.specs.Scripts.{RunsScript, ScriptFaultsAre};
+ghost use Rattle.pps_cli.specs.Scripts.{RunsScriptOver, AnswersScriptFault};
 
 use crate::fault::Fault;
 use pps_engine::Engine;
@@ -43,12 +43,9 @@ pub(crate) fn run_exchange<I: Read, O: Write, B: BadLines>(
     requires input { device_failed (input_of exchange.old) ≡ false }
     requires output { device_failed (output_of exchange.old) ≡ false }
     requires held { held_in exchange.old ≡ [] }
-    ensures runs { RunsScript manner (I.remaining (device_inner (input_of exchange.old))) (I.remaining (device_inner (input_of exchange.new)))
-        (O.contents (device_inner (output_of exchange.old))) (O.contents (device_inner (output_of exchange.new)))
+    ensures runs { RunsScriptOver I.remaining O.contents manner exchange.old exchange.new
         engine.old.content engine.new.content result }
-    ensures fault { ScriptFaultsAre result (device_failed (input_of exchange.new)) (device_failed (output_of exchange.new))
-        (device_reads (input_of exchange.old)) (device_reads (input_of exchange.new))
-        (device_stalls (output_of exchange.old)) (device_stalls (output_of exchange.new)) }
+    ensures fault { AnswersScriptFault exchange.old exchange.new result }
 {
     match serve_script(alloc, engine, manner, exchange, bad_lines) {
         Ok(()) => Ok(()),

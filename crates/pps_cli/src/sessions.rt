@@ -1,7 +1,7 @@
 //! Script files, served as sessions by several threads.
 ghost use Rattle.std.specs.Prelude.{◌≡◌, All, IfOk, IfErr, OnErr, length, map, option_map};
 ghost use Rattle.pps_types.specs.Device.{device_inner, device_failed, device_stalls};
-ghost use Rattle.pps_types.specs.Writing.{Sends};
+ghost use Rattle.pps_types.specs.Writing.{SendsTo};
 ghost use Rattle.pps_dispatch.specs.History.{joined};
 ghost use Rattle.pps_cli.specs.Images.{SavesAs};
 ghost use Rattle.pps_cli.specs.Sessions.{AnswersFaultAre, IsOfFile, AreOfFiles, FailsSession, FailsSessions, TellsOfScripts, PrintsFiles, PrintsSomeFiles, Serves, scripts_of};
@@ -104,7 +104,7 @@ fn write_answers<'w, O: Write>(
 ) -> Result<(), Fault>
     requires files { length scripts.now ≡ length served.now.sessions.items }
     requires named { All (Names served.now.segments.items) served.now.sessions.items }
-    ensures bytes { Sends (O.contents (device_inner output.old)) (O.contents (device_inner output.new))
+    ensures bytes { SendsTo O.contents output.old output.new
         (sessions_text (map (λ file. file.now) scripts.now)
         (connections_of served.now.sessions.items) (joined served.now.segments.items)) result }
     ensures fault { AnswersFaultAre result (device_failed output.old) (device_failed output.new)

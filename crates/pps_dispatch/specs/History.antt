@@ -6,6 +6,7 @@ use Rattle.pps_types.specs.Content.{Content}
 use Rattle.pps_types.specs.Frame.{answer_frame}
 use Rattle.pps_types.specs.Merge.{entries_of, IsMerge}
 use Rattle.pps_types.specs.Runs.{Answered, events_of}
+use Rattle.pps_engine.specs.Serving.{Serving}
 use Rattle.pps_lock.specs.declared.book.Receipt.{Receipt}
 use Rattle.pps_lock.specs.Trace.{Piece, Replays, receipt}
 use Rattle.pps_dispatch.specs.Sessions.{Conversation, asked}
@@ -20,6 +21,10 @@ joined (p ∷ ps) = p.entries ++ joined ps
 abbrev pub Joins : ℕ → Content → List Piece → Content → Type 0
 Joins n c [] d = c ≡ d
 Joins n c (p ∷ ps) d = (p.number ≡ n) × (p.base ≡ c) × Replays p.base p.entries p.end × Joins (n + 1) p.end ps d
+
+-- from the one engine the segments' entries replay as one trace, and lead to the other
+abbrev pub ReplaysAll : Serving → List Piece → Serving → Type 0
+ReplaysAll first ps last = Replays first.content (joined ps) last.content
 
 -- ---- of one connection
 

@@ -31,3 +31,5 @@ connections_of sessions = map (λ s. s.connection) sessions
 -- the connection of each entry, one a line
 abbrev pub history_text : List Answered → List ℕ
 history_text history = flat_map (λ x. decimal x.event.conn ++ codes "\n") history
+
+-- ---- to a device over a writer

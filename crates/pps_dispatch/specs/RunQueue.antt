@@ -28,3 +28,7 @@ times_in x items views = times x items + weigh (times x) views
 pub record NoneTwice (count : ℕ) (items : List ℕ) (views : List (List ℕ)) : Type 0 where
   pub once : (x : ℕ) → times_in x items views ≤ 1
   pub sessions : (x : ℕ) → count ≤ x → times_in x items views ≡ 0
+
+-- where the queue and the views weigh together what the numbers below the count weigh, none of these is there twice
+abbrev pub EachIsHeldOnce : Type 0
+EachIsHeldOnce = (count : ℕ) (items : List ℕ) (views : List (List ℕ)) → HoldEach count items views → NoneTwice count items views

@@ -1,9 +1,10 @@
 -- What is found of the sessions, as the entries of the history are gone through.
-use Rattle.std.specs.Prelude.{◌≡◌, ℕ, ◌<◌, Bool, true, List, [], ◌++◌, length, slice_index_or, drop, Some, IsSome}
+use Rattle.std.specs.Prelude.{◌≡◌, ℕ, ◌+◌, ◌<◌, Bool, true, List, [], ◌∷◌, ◌++◌, length, slice_index_or, drop, Some, IsSome}
 use Rattle.std.specs.List.{list_all}
 use Rattle.std.specs.Ordering.{nat_cmp}
 use Rattle.std.specs.BTreeMap.{BTreeMap, get}
 use Rattle.pps_types.specs.declared.event.Event.{Event}
+use Rattle.pps_types.specs.Frame.{answer_frame}
 use Rattle.pps_types.specs.Runs.{Answered}
 use Rattle.pps_lock.specs.declared.book.Receipt.{Receipt}
 use Rattle.pps_lock.specs.Trace.{Piece}
@@ -19,6 +20,10 @@ pub record Knows (numbers : BTreeMap ℕ ℕ) (sessions : List Conversation) (co
   pub bound : (c k : ℕ) → get nat_cmp numbers c ≡ Some k → k < count
   pub own : (c k : ℕ) (d : Conversation) → get nat_cmp numbers c ≡ Some k → (slice_index_or sessions k d).connection ≡ c
   pub each : (k : ℕ) (d : Conversation) → k < count → IsSome (get nat_cmp numbers (slice_index_or sessions k d).connection)
+
+-- the session of that number has this connection
+abbrev pub HasConnectionAt : List Conversation → (number connection : ℕ) → Type 0
+HasConnectionAt sessions number connection = (d : Conversation) → (slice_index_or sessions number d).connection ≡ connection
 
 -- ---- of one session
 
@@ -42,6 +47,23 @@ left_of asked answered found = record {
   receipts = drop found.messages answered.receipts;
   replies = drop found.bytes answered.replies;
 }
+
+-- the bytes have this frame at that place
+abbrev pub HasAt : List ℕ → (place : ℕ) → (frame : List ℕ) → Type 0
+HasAt bytes place frame = drop place bytes ≡ frame ++ drop (place + length frame) bytes
+
+-- what the session asks next is the entry's event
+abbrev pub FindsEvent : Conversation → Found → Answered → Found → Type 0
+FindsEvent asked found entry next = drop found.messages asked.events ≡ entry.event ∷ drop next.messages asked.events
+
+-- its next answer has this name
+abbrev pub FindsReceipt : Conversation → Found → Receipt → Found → Type 0
+FindsReceipt answered found place next = drop found.messages answered.receipts ≡ place ∷ drop next.messages answered.receipts
+
+-- its next answer is the entry's
+abbrev pub FindsReply : Conversation → Found → Answered → Found → Type 0
+FindsReply answered found entry next =
+    drop found.bytes answered.replies ≡ answer_frame entry.event.conn entry.reply ++ drop next.bytes answered.replies
 
 -- between the one and the other these entries are found, the first of which is at that index of its segment
 pub record Finds (c number index : ℕ) (xs : List Answered) (before after : Left) : Type 0 where
@@ -71,6 +93,14 @@ pub record FindsEach (asked answered : List Conversation) (before after : List F
   pub known : are_known asked xs ≡ true
   pub each : (k : ℕ) (d : Conversation) (f : Found) → k < length asked
       → Finds (slice_index_or asked k d).connection number index xs (left_at asked answered before k d f) (left_at asked answered after k d f)
+
+-- one entry is found, which has this name
+abbrev pub FindsEntry : (asked answered : List Conversation) → (before after : List Found) → Receipt → Answered → Type 0
+FindsEntry asked answered before after place entry = FindsEach asked answered before after place.segment place.index (entry ∷ [])
+
+-- the entries of one segment are
+abbrev pub FindsSegment : (asked answered : List Conversation) → (before after : List Found) → Piece → Type 0
+FindsSegment asked answered before after p = FindsEach asked answered before after p.number 0 p.entries
 
 -- these segments are found
 pub record FindsSegments (asked answered : List Conversation) (before after : List Found) (ps : List Piece) : Type 0 where

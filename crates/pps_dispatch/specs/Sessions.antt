@@ -1,7 +1,9 @@
 -- Sessions, and the bytes that make them.
-use Rattle.std.specs.Prelude.{◌≡◌, ◌≢◌, ℕ, ◌==◌, Bool, false, List, [], All}
+use Rattle.std.specs.Prelude.{◌≡◌, ◌≢◌, ◌⊎◌, ℕ, ◌==◌, Bool, false, List, [], All}
 use Rattle.std.specs.List.{list_all, list_any}
 use Rattle.pps_types.specs.declared.event.Event.{Event}
+use Rattle.pps_types.specs.declared.refusal.Refusal.{Refusal}
+use Rattle.pps_types.specs.declared.refusal.Refusal.TheVariants.{OutOfMemory, BadFrame, BadArgument}
 use Rattle.pps_types.specs.Frame.{HasFrame, stream_of}
 use Rattle.pps_types.specs.Merge.{Session}
 use Rattle.pps_lock.specs.declared.book.Receipt.{Receipt}
@@ -45,3 +47,12 @@ pub record HasStranger (connection : ℕ) (bytes : List ℕ) : Type 0 where
 -- they are whole frames of no events at all
 abbrev pub AreNoFrames : List ℕ → Type 0
 AreNoFrames bytes = (events : List Event) → All HasFrame events → bytes ≢ stream_of events []
+
+-- why they are refused as frames
+abbrev pub RefusesFrames : List ℕ → Refusal → Type 0
+RefusesFrames bytes r = (r ≡ OutOfMemory) ⊎ ((r ≡ BadFrame) × AreNoFrames bytes)
+
+-- why they are refused as the frames of a session
+abbrev pub RefusesSession : ℕ → List ℕ → Refusal → Type 0
+RefusesSession connection bytes r =
+    (r ≡ OutOfMemory) ⊎ ((r ≡ BadFrame) × AreNoFrames bytes) ⊎ ((r ≡ BadArgument) × HasStranger connection bytes)

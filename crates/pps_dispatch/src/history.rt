@@ -1,12 +1,11 @@
 //! What `serve` looks for once all workers have ended: that what came back is one history of the sessions.
-ghost use Rattle.std.specs.Prelude.{◌≡◌, ◌≤◌, ◌+◌, ◌∷◌, ◌++◌, ℕ, List, [], true, length, map, drop, replicate, IsTrue, IfOk, OnOk};
+ghost use Rattle.std.specs.Prelude.{◌≡◌, ◌≤◌, ◌+◌, ℕ, List, true, length, map, replicate, IsTrue, IfOk, OnOk};
 ghost use Rattle.pps_types.specs.Content.{Content};
-ghost use Rattle.pps_types.specs.Frame.{answer_frame};
 ghost use Rattle.pps_types.specs.Merge.{are_distinct};
 ghost use Rattle.pps_types.specs.Outcome.{IsSendable};
 ghost use Rattle.pps_lock.specs.Trace.{Piece, Replays};
 ghost use Rattle.pps_dispatch.specs.History.{Joins, joined, AreAnswered, Merges};
-ghost use Rattle.pps_dispatch.specs.Search.{Knows, not_begun, FindsEach, FindsSegments, AreFound};
+ghost use Rattle.pps_dispatch.specs.Search.{Knows, not_begun, HasAt, FindsEvent, FindsReceipt, FindsReply, FindsEntry, FindsSegment, FindsSegments, AreFound};
 
 use crate::alike::is_same;
 use crate::fault::ServeError;
@@ -48,7 +47,7 @@ pub(crate) struct Found {
 // Whether these bytes stand at that place.
 fn stand_at(bytes: &[u8], place: usize, frame: &[u8]) -> bool
     ensures within { IsTrue result → place + length frame.now ≤ length bytes.now }
-    ensures parts { IsTrue result → drop place bytes.now ≡ frame.now ++ drop (place + length frame.now) bytes.now }
+    ensures parts { IsTrue result → HasAt bytes.now place frame.now }
 {
     if bytes.len() < place {
         return false;
@@ -67,10 +66,9 @@ fn found_next(
     found: Found,
 ) -> Result<Found, ServeError>
     requires { IsSendable entry.now.reply }
-    ensures events { IfOk result (λ next. drop found.messages asked.now.events ≡ entry.now.event ∷ drop next.messages asked.now.events) }
-    ensures receipts { IfOk result (λ next. drop found.messages answered.now.receipts ≡ place ∷ drop next.messages answered.now.receipts) }
-    ensures replies { IfOk result (λ next. drop found.bytes answered.now.replies
-        ≡ answer_frame entry.now.event.conn entry.now.reply ++ drop next.bytes answered.now.replies) }
+    ensures events { IfOk result (λ next. FindsEvent asked.now found entry.now next) }
+    ensures receipts { IfOk result (λ next. FindsReceipt answered.now found place next) }
+    ensures replies { IfOk result (λ next. FindsReply answered.now found entry.now next) }
 {
     let frame = encode_outcome(alloc, entry.event().conn, entry.reply())?;
     let Some(message) = asked.messages().get(found.messages) else {
@@ -106,7 +104,7 @@ fn find_entry(
     requires answered { length answered.now ≡ length asked.now }
     requires found { length found.old ≡ length asked.now }
     requires sends { IsSendable entry.now.reply }
-    ensures { OnOk result (FindsEach asked.now answered.now found.old found.new place.segment place.index (entry.now ∷ [])) }
+    ensures { OnOk result (FindsEntry asked.now answered.now found.old found.new place entry.now) }
 {
     let Some(number) = index.session_of(asked, entry.event().conn) else {
         return Err(ServeError::Mismatch);
@@ -136,7 +134,7 @@ fn find_segment(
     requires index { Knows index.now.numbers asked.now (length asked.now) }
     requires answered { length answered.now ≡ length asked.now }
     requires found { length found.old ≡ length asked.now }
-    ensures { OnOk result (FindsEach asked.now answered.now found.old found.new segment.now.number 0 segment.now.entries) }
+    ensures { OnOk result (FindsSegment asked.now answered.now found.old found.new segment.now) }
 {
     segment.replays();
     for (place, entry) in segment.entries().iter().enumerate() {

@@ -1,8 +1,8 @@
 //! The order in which messages were served.
 ghost use Rattle.std.specs.Prelude.{◌≡◌, ◌++◌, OnOk};
-ghost use Rattle.pps_types.specs.Device.{device_inner, device_failed, device_stalls};
+ghost use Rattle.pps_types.specs.Device.{device_failed, device_stalls};
 ghost use Rattle.pps_types.specs.Exchange.{AnswerFaultIs};
-ghost use Rattle.pps_types.specs.Writing.{Sends};
+ghost use Rattle.pps_types.specs.Writing.{SendsTo};
 ghost use Rattle.pps_dispatch.specs.History.{joined};
 ghost use Rattle.pps_dispatch.specs.Printed.{history_text};
 
@@ -32,7 +32,7 @@ pub fn write_history<W: Write>(
     segments: &[Segment],
     output: &mut Device<W>,
 ) -> Result<(), AnswerFault>
-    ensures bytes { Sends (W.contents (device_inner output.old)) (W.contents (device_inner output.new))
+    ensures bytes { SendsTo W.contents output.old output.new
         (history_text (joined segments.now)) result }
     ensures fault { AnswerFaultIs result (device_failed output.old) (device_failed output.new)
         (device_stalls output.old) (device_stalls output.new) }

@@ -1,10 +1,10 @@
 //! What is printed of sessions that were served.
 ghost use Rattle.std.specs.Prelude.{◌≡◌, ◌++◌, false, All, Some, IsSome, OnOk, IfOk};
 ghost use Rattle.std.specs.Prelude.{length, map, string_bytes};
-ghost use Rattle.pps_types.specs.Device.{device_inner, device_failed, device_stalls};
+ghost use Rattle.pps_types.specs.Device.{device_failed, device_stalls};
 ghost use Rattle.pps_types.specs.Exchange.{AnswerFaultIs};
 ghost use Rattle.pps_types.specs.Merge.{entries_of};
-ghost use Rattle.pps_types.specs.Writing.{Sends};
+ghost use Rattle.pps_types.specs.Writing.{SendsTo};
 ghost use Rattle.pps_dispatch.specs.History.{joined};
 ghost use Rattle.pps_script.specs.Script.{answers_of};
 ghost use Rattle.pps_dispatch.specs.Printed.{session_line, session_text};
@@ -86,7 +86,7 @@ pub fn write_sessions<W: Write>(
 ) -> Result<(), AnswerFault>
     requires files { length files.now ≡ length sessions.now }
     requires named { All (Names segments.now) sessions.now }
-    ensures bytes { Sends (W.contents (device_inner output.old)) (W.contents (device_inner output.new))
+    ensures bytes { SendsTo W.contents output.old output.new
         (sessions_text (map (λ file. file.now) files.now) (connections_of sessions.now)
         (joined segments.now)) result }
     ensures fault { AnswerFaultIs result (device_failed output.old) (device_failed output.new)

@@ -6,7 +6,7 @@
 //! another one, and holds nothing. Two passes are joined: one of them holds all that both did, the other nothing.
 ghost use Rattle.std.specs.Prelude.{◌≡◌, ◌≤◌, ◌<◌, ℕ, List, [], ◌∷◌, ◌++◌, IfOk, IfSome, IfNone};
 ghost use Rattle.crossbeam_queue.specs.Passes.{view, IsPassOf, IsSamePass, ruled_capacity};
-ghost use Rattle.pps_dispatch.specs.RunQueue.{numbers_from, HoldEach, NoneTwice};
+ghost use Rattle.pps_dispatch.specs.RunQueue.{numbers_from, EachIsHeldOnce};
 
 use crossbeam_queue::protocol::{Join, Lesson, Outcome, Protocol, Split};
 use crossbeam_queue::{Pass, RuledArrayQueue};
@@ -186,5 +186,5 @@ pub fn join_to<N: SessionCount>(queue: &RunQueue<N>, pass: &mut QueuePass, other
 /// Does nothing. Its contract is the law that where the rule holds no number stands twice, in the queue and in all views
 /// together, and only sessions' numbers stand there.
 pub fn none_stands_twice()
-    ensures { (count : ℕ) (items : List ℕ) (views : List (List ℕ)) → HoldEach count items views → NoneTwice count items views }
+    ensures { EachIsHeldOnce }
 {}

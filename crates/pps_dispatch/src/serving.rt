@@ -1,8 +1,7 @@
 //! Many sessions, served by several workers as one history.
 ghost use Rattle.std.specs.Prelude.{◌≡◌, ◌≤◌, true, length, map, vec_len, IfOk};
 ghost use Rattle.pps_types.specs.Merge.{are_distinct};
-ghost use Rattle.pps_lock.specs.Trace.{Replays};
-ghost use Rattle.pps_dispatch.specs.History.{Joins, joined, AreServed, HaveMessages, Merges};
+ghost use Rattle.pps_dispatch.specs.History.{Joins, ReplaysAll, AreServed, HaveMessages, Merges};
 
 use crate::fault::ServeError;
 use crate::gate::Gate;
@@ -49,7 +48,7 @@ pub fn serve<G: Gate + Sync, R: Threads + Wait + Sync>(
     requires limit { (1 ≤ trace_limit) × (trace_limit ≤ 65536) }
     requires distinct { are_distinct (map (λ s. s.connection) sessions.items) ≡ true }
     ensures joins { IfOk result (λ s. Joins 0 engine.content s.segments.items s.engine.content) }
-    ensures replays { IfOk result (λ s. Replays engine.content (joined s.segments.items) s.engine.content) }
+    ensures replays { IfOk result (λ s. ReplaysAll engine s.segments.items s.engine) }
     ensures merge { IfOk result (λ s. Merges sessions.items s.segments.items) }
     ensures served { IfOk result (λ s. AreServed s.segments.items sessions.items s.sessions.items) }
 {

@@ -1,9 +1,9 @@
 //! The messages of one connection, with what they were answered.
-ghost use Rattle.std.specs.Prelude.{◌≡◌, ◌⊎◌, ◌==◌, true, map, IfOk, IfErr};
+ghost use Rattle.std.specs.Prelude.{◌≡◌, ◌==◌, true, map, IfOk, IfErr};
 ghost use Rattle.std.specs.List.{list_any};
 ghost use Rattle.pps_types.specs.Merge.{are_distinct};
 ghost use Rattle.pps_dispatch.specs.History.{with_messages_of};
-ghost use Rattle.pps_dispatch.specs.Sessions.{unanswered, are_of, AreFrames, HasStranger, AreNoFrames};
+ghost use Rattle.pps_dispatch.specs.Sessions.{unanswered, are_of, AreFrames, RefusesFrames, RefusesSession};
 
 use crate::message::Message;
 use pps_frame::{Decoder, Fed};
@@ -68,7 +68,7 @@ fn shares_of(alloc: Global, messages: &[Message]) -> Result<Vec<Message>, AllocE
 #[tactic(auto, using(crate::proofs::Frames::whole_frames))]
 fn events_of(alloc: Global, bytes: &[u8]) -> Result<Vec<Event>, Refusal>
     ensures ok { IfOk result (λ events. AreFrames bytes.now events.items) }
-    ensures err { IfErr result (λ r. (r ≡ Refusal.OutOfMemory) ⊎ ((r ≡ Refusal.BadFrame) × AreNoFrames bytes.now)) }
+    ensures err { IfErr result (λ r. RefusesFrames bytes.now r) }
 {
     let mut decoder = Decoder::new(alloc);
     let Ok(Fed { events, bad }) = decoder.feed(alloc, bytes) else {
@@ -106,8 +106,7 @@ impl Session {
         ensures ok { IfOk result (λ s. s ≡ unanswered conn s.events) }
         ensures frames { IfOk result (λ s. AreFrames bytes.now s.events) }
         ensures own { IfOk result (λ s. are_of conn s.events ≡ true) }
-        ensures err { IfErr result (λ r. (r ≡ Refusal.OutOfMemory)
-            ⊎ ((r ≡ Refusal.BadFrame) × AreNoFrames bytes.now) ⊎ ((r ≡ Refusal.BadArgument) × HasStranger conn bytes.now)) }
+        ensures err { IfErr result (λ r. RefusesSession conn bytes.now r) }
     {
         let events = events_of(alloc, bytes)?;
         if !all_are_of(conn, &events) {

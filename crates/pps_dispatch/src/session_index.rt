@@ -1,7 +1,7 @@
 //! Sessions, found by their connections.
-ghost use Rattle.std.specs.Prelude.{◌≡◌, ◌<◌, ℕ, false, length, slice_index_or, IfOk, IfSome, IfNone};
-ghost use Rattle.pps_dispatch.specs.Sessions.{Conversation, is_known};
-ghost use Rattle.pps_dispatch.specs.Search.{Knows};
+ghost use Rattle.std.specs.Prelude.{◌≡◌, ◌<◌, false, length, IfOk, IfSome, IfNone};
+ghost use Rattle.pps_dispatch.specs.Sessions.{is_known};
+ghost use Rattle.pps_dispatch.specs.Search.{Knows, HasConnectionAt};
 
 use crate::session::Session;
 use pps_types::Conn;
@@ -30,7 +30,7 @@ impl SessionIndex {
     pub(crate) fn session_of(&self, sessions: &[Session], conn: Conn) -> Option<usize>
         requires { Knows self.now.numbers sessions.now (length sessions.now) }
         ensures bound { IfSome result (λ number. number < length sessions.now) }
-        ensures own { IfSome result (λ number. (d : Conversation) → (slice_index_or sessions.now number d).connection ≡ conn) }
+        ensures own { IfSome result (λ number. HasConnectionAt sessions.now number conn) }
         ensures none { IfNone result (is_known sessions.now conn ≡ false) }
     {
         self.numbers.get(&conn.number()).copied()

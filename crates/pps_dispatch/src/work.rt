@@ -162,7 +162,8 @@ pub fn fan_out<
         thread::scope_env(),
         rt,
         |scope| -> Result<Worked, ServeError>
-            requires { IsPassOf queue.now pass × (N.count ≤ ruled_capacity queue.now) × (length slots.now ≡ N.count) }
+            requires { IsPassOf queue.now pass × (N.count ≤ ruled_capacity queue.now)
+                × (length slots.now ≡ N.count) }
             ensures { IfOk result (λ worked. IsPassOf queue.entry.now worked.pass) }
         {
             let mut pass = pass;
@@ -176,7 +177,8 @@ pub fn fan_out<
                 let handle = scope.spawn_with(
                     promise,
                     move || -> Result<Worked, ServeError>
-                        requires { IsPassOf queue.now other × (N.count ≤ ruled_capacity queue.now) × (length slots.now ≡ N.count) }
+                        requires { IsPassOf queue.now other × (N.count ≤ ruled_capacity queue.now)
+                            × (length slots.now ≡ N.count) }
                         ensures { IfOk result (λ worked. IsPassOf queue.entry.now worked.pass) }
                     { worker(rt, alloc, book, slots, queue, other, gate) },
                 );

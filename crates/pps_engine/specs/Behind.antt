@@ -1,6 +1,7 @@
 -- What an event's records leave of the target of a handle, and what follows for the handle by that.
-use Rattle.std.specs.Prelude.{ℕ, List, [], ◌∷◌, Bool, not, ◌&&◌, ◌==◌, if◌then◌else◌, Option, Some, None, is_none, option_map, unwrap_or, fold, map}
-use Rattle.std.specs.Option.{option_map_or, option_or}
+use Rattle.std.specs.Prelude.{◌≡◌, ℕ, List, [], ◌∷◌, ◌++◌, Bool, not, ◌&&◌, ◌==◌, if◌then◌else◌, Option, Some, None, is_none, option_map, unwrap_or, fold, map, take, drop}
+use Rattle.std.specs.Borrow.{Bor}
+use Rattle.std.specs.Option.{option_map_or, option_or, option_copied}
 use Rattle.std.specs.List.{filter_map, list_any}
 use Rattle.pps_types.specs.declared.record.Kind.{Kind}
 use Rattle.pps_types.specs.declared.record.Kind.TheVariants.{Created, Deleted}
@@ -11,6 +12,7 @@ use Rattle.pps_types.specs.Rests.{Seen}
 use Rattle.pps_types.specs.Content.{Content, LiveObject, object_numbered, members, handle_numbered}
 use Rattle.pps_types.specs.Plan.{Move}
 use Rattle.service_laws.specs.SettlingReplies.{pulse_and_reply}
+use Rattle.name_table.specs.Standing.{Placed, known_of}
 use Rattle.pps_engine.specs.declared.settled_attributes.Attributes.{Attributes}
 use Rattle.pps_engine.specs.declared.settled_attributes.Attributes.TheVariants.{Lent, Made}
 
@@ -19,6 +21,18 @@ use Rattle.pps_engine.specs.declared.settled_attributes.Attributes.TheVariants.{
 abbrev pub attributes_in : Attributes → List Attribute
 attributes_in (Lent object) = object.now.attributes
 attributes_in (Made object) = object.attributes
+
+-- a record of that kind leaves the second of the first
+abbrev pub AreLeftBy : Kind → Attributes → Attributes → Type 0
+AreLeftBy kind old left = attributes_in left ≡ after_kind (attributes_in old) kind
+
+-- those of an object, if it is alive
+abbrev pub state_in : Option Attributes → Option (List Attribute)
+state_in state = option_map attributes_in state
+
+-- the same as the names of a service lend it
+abbrev pub state_known : Option (Bor Placed) → Option (List Attribute)
+state_known known = option_map (λ (o : LiveObject). o.attributes) (option_map known_of (option_copied known))
 
 -- the attributes that a record leaves of its object, if it is alive then
 abbrev pub state_left : Kind → Option (List Attribute) → Option (List Attribute)
@@ -68,6 +82,10 @@ row_by e r = if e.record_of.object == r.number then row_left e.record_of.kind r 
 -- one more, in its place by byte order of names
 abbrev pub with_row : Row → List Row → List Row
 with_row r rows = insert_by name_cmp (λ r. r.name) r rows
+
+-- one more, at that place
+abbrev pub with_row_at : ℕ → Row → List Row → List Row
+with_row_at place r rows = take place rows ++ r ∷ drop place rows
 
 -- what a record of that kind leaves of the members of a directory
 abbrev pub rows_left : Kind → ℕ → List Row → Entry → List Row

@@ -1,10 +1,11 @@
 -- What an image saves of directories and objects, as they are lent.
-use Rattle.std.specs.Prelude.{List, [], not, map, filter}
+use Rattle.std.specs.Prelude.{◌≡◌, List, [], not, map, filter}
 use Rattle.pps_types.specs.Bytes.{is_empty}
 use Rattle.pps_types.specs.History.{persistent}
-use Rattle.pps_types.specs.Content.{Directory}
-use Rattle.pps_types.specs.Image.{SavedLine, Saved, SavedDirectory, SavedObject, saved_line, is_kept}
-use Rattle.name_table.specs.Standing.{Placed, known_of}
+use Rattle.pps_types.specs.Content.{Content, Directory}
+use Rattle.pps_types.specs.Image.{SavedLine, Saved, SavedDirectory, SavedObject, saved, saved_line, is_kept}
+use Rattle.pps_types.specs.WellFormed.{IsContent}
+use Rattle.name_table.specs.Standing.{Named, Placed, known_of, standing_of, standing_in}
 use Rattle.pps_engine.specs.declared.saved_entry.Lent.{Lent}
 use Rattle.pps_engine.specs.declared.saved_entry.Lent.TheVariants.{Directory as LentDirectory, Object as LentObject}
 
@@ -28,3 +29,7 @@ saved_directories ds = map (λ d. SavedDirectory d.path) (filter (λ d. not (is_
 -- the objects that are kept
 abbrev pub saved_objects : List Placed → List Saved
 saved_objects xs = map saved_placed (filter (λ x. is_kept (known_of x)) xs)
+
+-- they are what an image saves of each service that has these names
+abbrev pub AreSavedOf : Named → List Saved → Type 0
+AreSavedOf names entries = (c : Content) → IsContent c → standing_in c ≡ standing_of names → entries ≡ saved c

@@ -12,6 +12,7 @@ use Rattle.service_state.specs.declared.beginning.Beginning.{Beginning}
 use Rattle.service_state.specs.declared.beginning.Beginning.TheVariants.{Closes as BeginningCloses, AppendsRecord}
 use Rattle.service_state.specs.Beginning.{entries_in}
 use Rattle.service_state.specs.Following.{CanFollowAll}
+use Rattle.service_state.specs.Tables.{Tabled, content_in}
 use Rattle.path_requests.specs.declared.planned_open.Opens.{Opens as OpensAs}
 use Rattle.path_requests.specs.declared.planned_open.Opens.TheVariants.{OnFound, Creating, Replacing}
 use Rattle.pps_engine.specs.declared.doing.Doing.{Doing}
@@ -70,3 +71,15 @@ takes_memory d = false
 pub record IsSettled (c : Content) (entries : List Entry) (closing : List ℕ) (following : List Following) : Type 0 where
   pub follows : (conn : ℕ) (request : Request) → IsToldBy c conn request entries closing → flat_map moves_of following ≡ settling c (apply_all_seen (effect c conn request).1 c)
   pub can : (conn : ℕ) (request : Request) → IsToldBy c conn request entries closing → CanFollowAll (apply_all_seen (effect c conn request).1 c) following
+
+-- this follows from the steps that an event begins with
+abbrev pub SettlesSteps : Tabled → List Beginning → List Following → Type 0
+SettlesSteps t beginning following = IsSettled (content_in t) (entries_in beginning) (closes_in beginning) following
+
+-- this follows from an open
+abbrev pub SettlesOpen : Tabled → OpensAs → List Following → Type 0
+SettlesOpen t opens following = IsSettled (content_in t) (entries_opened opens) (closes_opened opens) following
+
+-- this follows from whatever is done
+abbrev pub Settles : Tabled → Doing → List Following → Type 0
+Settles t d following = IsSettled (content_in t) (entries_of d) (closes_of d) following

@@ -16,6 +16,7 @@ use Rattle.service_state.specs.Following.{CanFollowAll}
 use Rattle.service_state.specs.Refused.{Fails, all_request_checks}
 use Rattle.pps_engine.specs.declared.done.Done.{Done}
 use Rattle.pps_engine.specs.declared.planned.Pending.{Pending}
+use Rattle.pps_engine.specs.declared.planned.Planned.{Planned}
 use Rattle.pps_engine.specs.Doing.{moves_in, CanDo}
 use Rattle.pps_engine.specs.EventTold.{takes_memory}
 
@@ -30,6 +31,10 @@ pub record IsDoneBy (checks : List Check) (effect : Outcome × List Move) (t : T
 abbrev pub is_attach : Request → Bool
 is_attach Attach = true
 is_attach request = false
+
+-- the event that a connection attaches
+abbrev pub attach_by : ℕ → Event
+attach_by conn = record { conn = conn; request = Attach }
 
 -- what an attached connection asks is done
 abbrev pub IsAsked : Content → ℕ → Request → Tabled → Done → Type 0
@@ -46,6 +51,14 @@ IsRefusedTo c conn request r = Fails (all_request_checks c conn request) r
 abbrev pub IsRefused : Content → Event → Refusal → Type 0
 IsRefused c e r = Fails (all_checks_of c e) r
 
+-- what an attached connection asks of these tables is done in those
+abbrev pub Serves : Tabled → ℕ → Request → Tabled → Done → Type 0
+Serves old conn request new = λ d. IsAsked (content_in old) conn request new d
+
+-- these tables refuse it
+abbrev pub IsRefusedIn : Tabled → ℕ → Request → Refusal → Type 0
+IsRefusedIn t conn request = λ r. IsRefusedTo (content_in t) conn request r
+
 -- ---- with what follows
 
 -- all moves of an event
@@ -60,6 +73,10 @@ pub record CanCarry (p : Pending) (t : Tabled) : Type 0 where
 -- the answer and what stands then are the event's
 abbrev pub Plans : Content → Event → Outcome → Pending → Tabled → Type 0
 Plans c e reply p t = StepsSeen c e (Ok reply) (apply_all_seen (moves_pending p t) c)
+
+-- the same of an event that is planned
+abbrev pub IsPlanned : Content → Event → Planned → Tabled → Type 0
+IsPlanned c e p t = Plans c e p.reply p.pending t
 
 -- the refusal is the event's, and nothing changes
 abbrev pub Refuses : Content → Event → Refusal → Type 0

@@ -1,4 +1,5 @@
 pub mod Behind
+pub mod WokenHandles
 pub mod SettlingTold
 pub mod Doing
 pub mod EventTold

@@ -1,8 +1,13 @@
 -- What callers know of an engine, whatever its body.
-use Rattle.std.specs.Prelude.{◌≡◌, ℕ, List, [], ◌∷◌, Bool, ◌&&◌, ◌==◌, if◌then◌else◌, Option, Some}
+use Rattle.std.specs.Prelude.{◌≡◌, ℕ, List, [], ◌∷◌, Bool, true, ◌&&◌, ◌==◌, if◌then◌else◌, Option, Some, Ok, length}
+use Rattle.pps_types.specs.declared.event.Event.{Event}
 use Rattle.pps_types.specs.declared.outcome.Outcome.{Outcome}
+use Rattle.pps_types.specs.Outcome.{Reply, has_bytes}
 use Rattle.pps_types.specs.History.{Entry}
 use Rattle.pps_types.specs.Content.{Content}
+use Rattle.pps_types.specs.Plan.{may_lack_memory}
+use Rattle.pps_types.specs.Runs.{answered}
+use Rattle.pps_types.specs.Stands.{StepsSeen, Runs, RunsSeen}
 use Rattle.pps_types.specs.Owed.{same_flag, longer, kept_records_seen}
 
 -- A list of records that the body holds for the delta and names handles of an object or a directory.
@@ -26,6 +31,30 @@ pub record Serving : Type 0 where
 -- The plan is ready, and it is the latest of the engine, which has not changed since.
 abbrev pub IsLatest : Upcoming → Serving → Type 0
 IsLatest plan engine = engine.next ≡ Some plan
+
+-- it is the plan of this event: of its answer, and of what there is then
+abbrev pub IsPlanOf : Content → Event → Upcoming → Type 0
+IsPlanOf c e plan = StepsSeen c e (Ok plan.reply) plan.content
+
+-- it answers bytes only where memory may lack for the event
+abbrev pub MarksBytes : Content → Event → Upcoming → Type 0
+MarksBytes c e plan = has_bytes plan.reply ≡ true → may_lack_memory c e ≡ true
+
+-- ---- a list of events
+
+-- there is an answer for each
+abbrev pub AnswersEach : List Event → List Reply → Type 0
+AnswersEach events replies = length replies ≡ length events
+
+-- the engine runs the events, with these answers
+abbrev pub RunsAnswered : Serving → List Event → List Reply → Serving → Type 0
+RunsAnswered old events replies new = Runs old.content (answered events replies) new.content
+
+-- the same of the contents alone
+abbrev pub RunsSeenAnswered : Serving → List Event → List Reply → Serving → Type 0
+RunsSeenAnswered old events replies new = RunsSeen old.content (answered events replies) new.content
+
+-- ---- what is held
 
 -- the longest list that is held for that directory or object
 abbrev pub held_records : Bool → ℕ → List Chained → List Entry

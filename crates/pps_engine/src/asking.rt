@@ -1,11 +1,10 @@
 //! What an event answers and does, where no check refuses it.
-ghost use Rattle.std.specs.Prelude.{◌≡◌, true, false, IfOk, IfErr};
-ghost use Rattle.pps_types.specs.declared.event.Request.TheVariants.{Attach};
+ghost use Rattle.std.specs.Prelude.{◌≡◌, false, IfOk, IfErr};
 ghost use Rattle.pps_types.specs.WellFormed.{IsContent};
 ghost use Rattle.pps_types.specs.Content as content;
 ghost use Rattle.service_laws.specs.Bounds.{IsBound};
 ghost use Rattle.service_state.specs.Tables.{content_in};
-ghost use Rattle.pps_engine.specs.Events.{is_attach, IsAsked, IsDone, IsRefusedTo, IsRefused};
+ghost use Rattle.pps_engine.specs.Events.{is_attach, attach_by, IsDone, IsRefused, Serves, IsRefusedIn};
 
 use crate::doing::Doing;
 use crate::done::{Done, boxed};
@@ -21,8 +20,8 @@ use std::alloc::Global;
 fn attach(tables: &mut Tables, alloc: Global, conn: Conn) -> Result<Done, Refusal>
     requires { IsContent (content_in tables.old) }
     ensures content { content_in tables.new ≡ content_in tables.old }
-    ensures ok { IfOk result (λ d. IsDone (content_in tables.old) (record { conn = conn; request = Attach }) tables.new d) }
-    ensures err { IfErr result (λ r. IsRefused (content_in tables.old) (record { conn = conn; request = Attach }) r) }
+    ensures ok { IfOk result (λ d. IsDone (content_in tables.old) (attach_by conn) tables.new d) }
+    ensures err { IfErr result (λ r. IsRefused (content_in tables.old) (attach_by conn) r) }
 {
     events_are_settled();
     numbers_are_within(tables);
@@ -40,8 +39,8 @@ fn ask(tables: &mut Tables, alloc: Global, conn: Conn, request: &Request) -> Res
     requires bound { IsBound (content_in tables.old) }
     requires other { is_attach request.now ≡ false }
     ensures content { content_in tables.new ≡ content_in tables.old }
-    ensures ok { IfOk result (λ d. IsAsked (content_in tables.old) conn request.now tables.new d) }
-    ensures err { IfErr result (λ r. IsRefusedTo (content_in tables.old) conn request.now r) }
+    ensures ok { IfOk result (Serves tables.old conn request.now tables.new) }
+    ensures err { IfErr result (IsRefusedIn tables.old conn request.now) }
 {
     match request {
         Request::Attach => unreachable!(),

@@ -1,14 +1,13 @@
 //! The engine: what stands, kept within its bounds.
-ghost use Rattle.std.specs.Prelude.{◌≡◌, ◌≤◌, ◌↔◌, true, Ok, Err, Some, None, IfOk, IfErr, IsTrue, OnErr, All, [], length, vec_capacity};
-ghost use Rattle.pps_types.specs.Outcome.{has_bytes, IsSendable};
+ghost use Rattle.std.specs.Prelude.{◌≡◌, ◌≤◌, ◌↔◌, Ok, Some, None, IfOk, IfErr, IsTrue, OnErr, All, [], length, vec_capacity};
+ghost use Rattle.pps_types.specs.Outcome.{IsSendable};
 ghost use Rattle.pps_types.specs.Machine.{start};
 ghost use Rattle.pps_types.specs.Owed.{kept_seen, owed_by_seen};
-ghost use Rattle.pps_types.specs.Plan.{may_lack_memory};
-ghost use Rattle.pps_types.specs.Stands.{Stands, Steps, StepsSeen, Runs, RunsSeen};
-ghost use Rattle.pps_engine.specs.Serving.{IsLatest, IsExact};
+ghost use Rattle.pps_types.specs.Stands.{Stands, Steps, StepsSeen};
+ghost use Rattle.pps_engine.specs.Events.{Refuses};
+ghost use Rattle.pps_engine.specs.Serving.{IsLatest, IsPlanOf, MarksBytes, AnswersEach, RunsAnswered, RunsSeenAnswered, IsExact};
 ghost use Rattle.service_state.specs.Tables.{content_in};
 ghost use Rattle.pps_engine.specs.Standing.{coming, HoldsJust, IsSound};
-ghost use Rattle.pps_types.specs.Runs.{answered};
 
 use crate::planned::{Pending, Planned, carry_out, plan};
 use name_table::questions_are_told;
@@ -184,11 +183,11 @@ impl Engine {
     /// of what stands. A plan before it is no longer ready.
     pub fn plan(&mut self, event: &Event) -> Result<Plan, Refusal>
         ensures kept { self.new.content ≡ self.old.content }
-        ensures plans { IfOk result (λ plan. StepsSeen self.old.content event.now (Ok plan.reply) plan.content) }
+        ensures plans { IfOk result (λ plan. IsPlanOf self.old.content event.now plan) }
         ensures latest { IfOk result (λ plan. IsLatest plan self.new) }
-        ensures refuses { IfErr result (λ r. StepsSeen self.old.content event.now (Err r) self.old.content) }
+        ensures refuses { IfErr result (λ r. Refuses self.old.content event.now r) }
         ensures ends { OnErr result (self.new.next ≡ None) }
-        ensures marks { IfOk result (λ plan. has_bytes plan.reply ≡ true → may_lack_memory self.old.content event.now ≡ true) }
+        ensures marks { IfOk result (λ plan. MarksBytes self.old.content event.now plan) }
         ensures sends { IfOk result (λ plan. IsSendable (Ok plan.reply)) }
         ensures cut { IsExact self.new }
     {
@@ -241,9 +240,9 @@ impl Engine {
     pub fn run_reserved(&mut self, events: &[Event], replies: &mut Vec<Result<Outcome, Refusal>>)
         requires empty { replies.old.items ≡ [] }
         requires room { length events.now ≤ vec_capacity replies.old }
-        ensures runs { Runs self.old.content (answered events.now replies.new.items) self.new.content }
-        ensures seen { RunsSeen self.old.content (answered events.now replies.new.items) self.new.content }
-        ensures count { length replies.new.items ≡ length events.now }
+        ensures runs { RunsAnswered self.old events.now replies.new.items self.new }
+        ensures seen { RunsSeenAnswered self.old events.now replies.new.items self.new }
+        ensures count { AnswersEach events.now replies.new.items }
         ensures sends { All IsSendable replies.new.items }
         ensures cut { IsExact self.new }
     {
@@ -259,9 +258,9 @@ impl Engine {
     /// It is OutOfMemory itself, and takes no event, only where the list of answers can't be reserved; it is then run by
     /// `run_reserved`.
     pub fn run_list(&mut self, events: &[Event]) -> Result<Vec<Result<Outcome, Refusal>>, Refusal>
-        ensures runs { IfOk result (λ replies. Runs self.old.content (answered events.now replies.items) self.new.content) }
-        ensures seen { IfOk result (λ replies. RunsSeen self.old.content (answered events.now replies.items) self.new.content) }
-        ensures count { IfOk result (λ replies. length replies.items ≡ length events.now) }
+        ensures runs { IfOk result (λ r. RunsAnswered self.old events.now r.items self.new) }
+        ensures seen { IfOk result (λ r. RunsSeenAnswered self.old events.now r.items self.new) }
+        ensures count { IfOk result (λ r. AnswersEach events.now r.items) }
         ensures sends { IfOk result (λ replies. All IsSendable replies.items) }
         ensures wants { IfErr result (λ r. r ≡ Refusal.OutOfMemory) }
         ensures kept { OnErr result (self.new.content ≡ self.old.content) }

@@ -1,10 +1,9 @@
 //! All that an image saves.
-ghost use Rattle.std.specs.Prelude.{◌≡◌, ◌++◌, IfOk, OnOk};
-ghost use Rattle.pps_types.specs.Content.{Content};
+ghost use Rattle.std.specs.Prelude.{◌≡◌, IfOk, OnOk};
 ghost use Rattle.pps_types.specs.Image as image;
-ghost use Rattle.pps_types.specs.WellFormed.{IsContent};
-ghost use Rattle.name_table.specs.Standing.{known_of, standing_of, standing_in};
-ghost use Rattle.pps_engine.specs.Entries.{saved_directories, saved_objects};
+ghost use Rattle.name_table.specs.Standing.{known_of};
+ghost use Rattle.whole_texts.specs.Lengths.{Gains};
+ghost use Rattle.pps_engine.specs.Entries.{saved_directories, saved_objects, AreSavedOf};
 
 use crate::order::path_order;
 use crate::saved_entry::SavedEntry;
@@ -17,7 +16,7 @@ fn push_directories<'a>(
     entries: &mut Vec<SavedEntry<'a>>,
     directories: Iter<'a, NamedDirectory>,
 ) -> Result<(), AllocError>
-    ensures { OnOk result (entries.new.items ≡ entries.old.items ++ saved_directories directories.entry) }
+    ensures { OnOk result (Gains entries.old entries.new (saved_directories directories.entry)) }
 {
     for directory in directories {
         if !directory.path().is_empty() {
@@ -39,7 +38,7 @@ fn push_objects<'a>(
     entries: &mut Vec<SavedEntry<'a>>,
     objects: Iter<'a, NamedObject>,
 ) -> Result<(), AllocError>
-    ensures { OnOk result (entries.new.items ≡ entries.old.items ++ saved_objects objects.entry) }
+    ensures { OnOk result (Gains entries.old entries.new (saved_objects objects.entry)) }
 {
     for object in objects {
         if is_kept(object) {
@@ -54,7 +53,7 @@ fn push_objects<'a>(
 ///
 /// It costs n log n for n entries, and takes the memory of one list of them.
 pub fn saved_entries(alloc: Global, names: &Names) -> Result<Vec<SavedEntry<'_>>, AllocError>
-    ensures { IfOk result (λ entries. (c : Content) → IsContent c → standing_in c ≡ standing_of names.now → entries.items ≡ image.saved c) }
+    ensures { IfOk result (λ entries. AreSavedOf names.now entries.items) }
 {
     let mut entries = Vec::new(alloc);
     push_directories(&mut entries, names.directories())?;

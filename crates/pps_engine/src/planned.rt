@@ -4,7 +4,7 @@ ghost use Rattle.pps_types.specs.WellFormed.{IsContent};
 ghost use Rattle.service_laws.specs.Bounds.{IsBound};
 ghost use Rattle.service_state.specs.Tables.{content_in};
 ghost use Rattle.service_state.specs.Tied.{Moves};
-ghost use Rattle.pps_engine.specs.Events.{moves_pending, CanCarry, Plans, Refuses};
+ghost use Rattle.pps_engine.specs.Events.{moves_pending, CanCarry, IsPlanned, Refuses};
 
 use crate::asking::answer;
 use crate::doing::{self, Doing};
@@ -36,7 +36,7 @@ pub fn plan(tables: &mut Tables, alloc: Global, event: &Event) -> Result<Planned
     requires content { IsContent (content_in tables.old) }
     requires bound { IsBound (content_in tables.old) }
     ensures content { content_in tables.new ≡ content_in tables.old }
-    ensures plans { IfOk result (λ p. Plans (content_in tables.old) event.now p.reply p.pending tables.new) }
+    ensures plans { IfOk result (λ p. IsPlanned (content_in tables.old) event.now p tables.new) }
     ensures ready { IfOk result (λ p. CanCarry p.pending tables.new) }
     ensures refuses { IfErr result (λ r. Refuses (content_in tables.old) event.now r) }
 {

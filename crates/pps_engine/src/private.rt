@@ -1,8 +1,7 @@
 //! Private traffic: what others' clients and their servers do between themselves, a connection can't tell.
-ghost use Rattle.std.specs.Prelude.{◌≡◌, IfOk, IfErr, length};
-ghost use Rattle.pps_types.specs.Stands.{Runs};
-ghost use Rattle.pps_types.specs.Runs.{answered};
-ghost use Rattle.pps_engine.specs.Private.{KeepsPrivate};
+ghost use Rattle.std.specs.Prelude.{◌≡◌, IfOk, IfErr};
+ghost use Rattle.pps_engine.specs.Serving.{AnswersEach, RunsAnswered};
+ghost use Rattle.pps_engine.specs.Private.{ArePrivate};
 
 use crate::engine::Engine;
 use pps_types::{Event, Outcome, Refusal};
@@ -22,11 +21,13 @@ pub fn run_both(
     second: &mut Engine,
     second_events: &[Event],
 ) -> Result<BothAnswers, Refusal>
-    ensures private { IfOk result (λ answers. KeepsPrivate first.old.content second.old.content (answered first_events.now answers.first.items) (answered second_events.now answers.second.items)) }
-    ensures first_runs { IfOk result (λ answers. Runs first.old.content (answered first_events.now answers.first.items) first.new.content) }
-    ensures second_runs { IfOk result (λ answers. Runs second.old.content (answered second_events.now answers.second.items) second.new.content) }
-    ensures first_count { IfOk result (λ answers. length answers.first.items ≡ length first_events.now) }
-    ensures second_count { IfOk result (λ answers. length answers.second.items ≡ length second_events.now) }
+    ensures private { ArePrivate first.old first_events.now second.old second_events.now result }
+    ensures first_runs { IfOk result (λ answers.
+        RunsAnswered first.old first_events.now answers.first.items first.new) }
+    ensures second_runs { IfOk result (λ answers.
+        RunsAnswered second.old second_events.now answers.second.items second.new) }
+    ensures first_count { IfOk result (λ a. AnswersEach first_events.now a.first.items) }
+    ensures second_count { IfOk result (λ a. AnswersEach second_events.now a.second.items) }
     ensures wants { IfErr result (λ r. r ≡ Refusal.OutOfMemory) }
 {
     let first_answers = first.run_list(first_events)?;

@@ -5,7 +5,7 @@ ghost use Rattle.pps_types.specs.WellFormed.{IsContent};
 ghost use Rattle.service_laws.specs.Bounds.{IsBound};
 ghost use Rattle.service_state.specs.Tables.{content_in};
 ghost use Rattle.handle_requests.specs.Notices.{notify_of};
-ghost use Rattle.pps_engine.specs.Events.{IsAsked, IsRefusedTo};
+ghost use Rattle.pps_engine.specs.Events.{Serves, IsRefusedIn};
 ghost use Rattle.pps_engine.specs.EventTold.{number_opened};
 
 use crate::doing::Doing;
@@ -22,8 +22,8 @@ use std::alloc::Global;
 pub(crate) fn detach(tables: &mut Tables, alloc: Global, conn: Conn) -> Result<Done, Refusal>
     requires { IsContent (content_in tables.old) }
     ensures content { content_in tables.new ≡ content_in tables.old }
-    ensures ok { IfOk result (λ d. IsAsked (content_in tables.old) conn Detach tables.new d) }
-    ensures err { IfErr result (λ r. IsRefusedTo (content_in tables.old) conn Detach r) }
+    ensures ok { IfOk result (Serves tables.old conn Detach tables.new) }
+    ensures err { IfErr result (IsRefusedIn tables.old conn Detach) }
 {
     let beginning = handle_requests::detach(tables, alloc, conn)?;
     Ok(Done {
@@ -41,8 +41,8 @@ pub(crate) fn close(
 ) -> Result<Done, Refusal>
     requires { IsContent (content_in tables.old) }
     ensures content { content_in tables.new ≡ content_in tables.old }
-    ensures ok { IfOk result (λ d. IsAsked (content_in tables.old) conn (Close handle) tables.new d) }
-    ensures err { IfErr result (λ r. IsRefusedTo (content_in tables.old) conn (Close handle) r) }
+    ensures ok { IfOk result (Serves tables.old conn (Close handle) tables.new) }
+    ensures err { IfErr result (IsRefusedIn tables.old conn (Close handle)) }
 {
     let doing = match handle_requests::close(tables, alloc, conn, handle)? {
         Closing::Alone { is_parked } => Doing::Closes {
@@ -79,8 +79,8 @@ pub(crate) fn open(
 ) -> Result<Done, Refusal>
     requires { IsContent (content_in tables.old) }
     ensures content { content_in tables.new ≡ content_in tables.old }
-    ensures ok { IfOk result (λ d. IsAsked (content_in tables.old) conn (Open mode text.now) tables.new d) }
-    ensures err { IfErr result (λ r. IsRefusedTo (content_in tables.old) conn (Open mode text.now) r) }
+    ensures ok { IfOk result (Serves tables.old conn (Open mode text.now) tables.new) }
+    ensures err { IfErr result (IsRefusedIn tables.old conn (Open mode text.now)) }
 {
     let opens = path_requests::open(tables, alloc, conn, mode, text)?;
     let reply = Outcome::Opened(handle_opened(&opens));
@@ -101,8 +101,8 @@ pub(crate) fn read(
     requires content { IsContent (content_in tables.old) }
     requires bound { IsBound (content_in tables.old) }
     ensures content { content_in tables.new ≡ content_in tables.old }
-    ensures ok { IfOk result (λ d. IsAsked (content_in tables.old) conn (Read handle size) tables.new d) }
-    ensures err { IfErr result (λ r. IsRefusedTo (content_in tables.old) conn (Read handle size) r) }
+    ensures ok { IfOk result (Serves tables.old conn (Read handle size) tables.new) }
+    ensures err { IfErr result (IsRefusedIn tables.old conn (Read handle size)) }
 {
     events_are_settled();
     numbers_are_within(tables);
@@ -128,8 +128,8 @@ pub(crate) fn write(
     requires content { IsContent (content_in tables.old) }
     requires bound { IsBound (content_in tables.old) }
     ensures content { content_in tables.new ≡ content_in tables.old }
-    ensures ok { IfOk result (λ d. IsAsked (content_in tables.old) conn (Write handle bytes.now) tables.new d) }
-    ensures err { IfErr result (λ r. IsRefusedTo (content_in tables.old) conn (Write handle bytes.now) r) }
+    ensures ok { IfOk result (Serves tables.old conn (Write handle bytes.now) tables.new) }
+    ensures err { IfErr result (IsRefusedIn tables.old conn (Write handle bytes.now)) }
 {
     let written = handle_requests::write(tables, alloc, conn, handle, bytes)?;
     Ok(Done {
@@ -147,8 +147,8 @@ pub(crate) fn unlink(
 ) -> Result<Done, Refusal>
     requires { IsContent (content_in tables.old) }
     ensures content { content_in tables.new ≡ content_in tables.old }
-    ensures ok { IfOk result (λ d. IsAsked (content_in tables.old) conn (Unlink path.now) tables.new d) }
-    ensures err { IfErr result (λ r. IsRefusedTo (content_in tables.old) conn (Unlink path.now) r) }
+    ensures ok { IfOk result (Serves tables.old conn (Unlink path.now) tables.new) }
+    ensures err { IfErr result (IsRefusedIn tables.old conn (Unlink path.now)) }
 {
     let doing = match path_requests::unlink(tables, alloc, conn, path)? {
         Unlinked::Object(beginning) => Doing::Begins(beginning),
@@ -169,8 +169,8 @@ pub(crate) fn make_directory(
 ) -> Result<Done, Refusal>
     requires { IsContent (content_in tables.old) }
     ensures content { content_in tables.new ≡ content_in tables.old }
-    ensures ok { IfOk result (λ d. IsAsked (content_in tables.old) conn (Mkdir path.now) tables.new d) }
-    ensures err { IfErr result (λ r. IsRefusedTo (content_in tables.old) conn (Mkdir path.now) r) }
+    ensures ok { IfOk result (Serves tables.old conn (Mkdir path.now) tables.new) }
+    ensures err { IfErr result (IsRefusedIn tables.old conn (Mkdir path.now)) }
 {
     let names = path_requests::make_directory(tables, alloc, conn, path)?;
     Ok(Done {
@@ -187,8 +187,8 @@ pub(crate) fn list(
     path: &Bytes,
 ) -> Result<Done, Refusal>
     requires { IsContent (content_in tables.now) }
-    ensures ok { IfOk result (λ d. IsAsked (content_in tables.now) conn (ListRequest path.now) tables.now d) }
-    ensures err { IfErr result (λ r. IsRefusedTo (content_in tables.now) conn (ListRequest path.now) r) }
+    ensures ok { IfOk result (Serves tables.now conn (ListRequest path.now) tables.now) }
+    ensures err { IfErr result (IsRefusedIn tables.now conn (ListRequest path.now)) }
 {
     events_are_settled();
     numbers_are_within(tables);
@@ -209,8 +209,8 @@ pub(crate) fn notify(
 ) -> Result<Done, Refusal>
     requires { IsContent (content_in tables.old) }
     ensures content { content_in tables.new ≡ content_in tables.old }
-    ensures ok { IfOk result (λ d. IsAsked (content_in tables.old) conn (notify_of handle action pulse) tables.new d) }
-    ensures err { IfErr result (λ r. IsRefusedTo (content_in tables.old) conn (notify_of handle action pulse) r) }
+    ensures ok { IfOk result (Serves tables.old conn (notify_of handle action pulse) tables.new) }
+    ensures err { IfErr result (IsRefusedIn tables.old conn (notify_of handle action pulse)) }
 {
     events_are_settled();
     numbers_are_within(tables);
@@ -227,8 +227,8 @@ pub(crate) fn notify(
 
 /// What is queued first for a connection is received.
 pub(crate) fn receive(tables: &Tables, conn: Conn) -> Result<Done, Refusal>
-    ensures ok { IfOk result (λ d. IsAsked (content_in tables.now) conn Receive tables.now d) }
-    ensures err { IfErr result (λ r. IsRefusedTo (content_in tables.now) conn Receive r) }
+    ensures ok { IfOk result (Serves tables.now conn Receive tables.now) }
+    ensures err { IfErr result (IsRefusedIn tables.now conn Receive) }
 {
     events_are_settled();
     numbers_are_within(tables);

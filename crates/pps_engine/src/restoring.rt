@@ -1,10 +1,9 @@
 //! The calls that restore an image.
-ghost use Rattle.std.specs.Prelude.{◌≡◌, ◌⊎◌, [], Ok, Err, None, IfErr, OnOk, OnErr};
-ghost use Rattle.pps_types.specs.declared.refusal.Refusal.TheVariants.{OutOfMemory};
-ghost use Rattle.pps_types.specs.Restore as restoring;
+ghost use Rattle.std.specs.Prelude.{◌≡◌, [], Ok, None, IfErr, OnOk, OnErr};
 ghost use Rattle.image_laws.specs.Images.{IsSavedPath, IsImageLine};
 ghost use Rattle.image_laws.specs.Restored.{with_directory, with_object, with_line};
-ghost use Rattle.pps_engine.specs.Restored.{LeadsTo};
+ghost use Rattle.path_requests.specs.Restored.{FailsAs};
+ghost use Rattle.pps_engine.specs.Restored.{directory_restored, object_restored, line_restored, LeadsTo};
 ghost use Rattle.pps_engine.specs.Serving.{IsExact};
 
 use crate::engine::{Engine, are_cut, forget};
@@ -24,9 +23,9 @@ impl Engine {
     pub fn restore_directory(&mut self, path: Vec<Bytes>) -> Result<(), Refusal>
         requires unused { self.old.content.handles ≡ [] }
         requires path { IsSavedPath path.items }
-        ensures done { OnOk result (restoring.restore_directory self.old.content path.items ≡ Ok self.new.content) }
+        ensures done { OnOk result (directory_restored self.old path.items ≡ Ok self.new.content) }
         ensures stands { LeadsTo (with_directory path.items) self.old result self.new }
-        ensures refused { IfErr result (λ r. (restoring.restore_directory self.old.content path.items ≡ Err r) ⊎ (r ≡ OutOfMemory)) }
+        ensures refused { IfErr result (λ r. FailsAs (directory_restored self.old path.items) r) }
         ensures kept { OnErr result (self.new.content ≡ self.old.content) }
         ensures ready { self.new.next ≡ None }
         ensures unused { self.new.content.handles ≡ [] }
@@ -52,9 +51,9 @@ impl Engine {
     pub fn restore_object(&mut self, path: Vec<Bytes>) -> Result<(), Refusal>
         requires unused { self.old.content.handles ≡ [] }
         requires path { IsSavedPath path.items }
-        ensures done { OnOk result (restoring.restore_object self.old.content path.items ≡ Ok self.new.content) }
+        ensures done { OnOk result (object_restored self.old path.items ≡ Ok self.new.content) }
         ensures stands { LeadsTo (with_object path.items) self.old result self.new }
-        ensures refused { IfErr result (λ r. (restoring.restore_object self.old.content path.items ≡ Err r) ⊎ (r ≡ OutOfMemory)) }
+        ensures refused { IfErr result (λ r. FailsAs (object_restored self.old path.items) r) }
         ensures kept { OnErr result (self.new.content ≡ self.old.content) }
         ensures ready { self.new.next ≡ None }
         ensures unused { self.new.content.handles ≡ [] }
@@ -81,9 +80,9 @@ impl Engine {
     pub fn restore_line(&mut self, path: &[Bytes], line: Line) -> Result<(), Refusal>
         requires unused { self.old.content.handles ≡ [] }
         requires line { IsImageLine line }
-        ensures done { OnOk result (restoring.restore_line self.old.content path.now line ≡ Ok self.new.content) }
+        ensures done { OnOk result (line_restored self.old path.now line ≡ Ok self.new.content) }
         ensures stands { LeadsTo (with_line path.now line) self.old result self.new }
-        ensures refused { IfErr result (λ r. (restoring.restore_line self.old.content path.now line ≡ Err r) ⊎ (r ≡ OutOfMemory)) }
+        ensures refused { IfErr result (λ r. FailsAs (line_restored self.old path.now line) r) }
         ensures kept { OnErr result (self.new.content ≡ self.old.content) }
         ensures ready { self.new.next ≡ None }
         ensures unused { self.new.content.handles ≡ [] }

@@ -1,9 +1,8 @@
 //! The attributes of an object that an image saves.
-ghost use Rattle.std.specs.Prelude.{◌≡◌, ◌∷◌, [], MatchOption, drop, length};
+ghost use Rattle.std.specs.Prelude.{◌≡◌, length};
 ghost use Rattle.std.specs.Iterator.{YieldsFirstBy, item_count};
 ghost use Rattle.pps_types.specs.History.{persistent};
-ghost use Rattle.object_state.specs.Lent.{lent};
-ghost use Rattle.pps_engine.specs.Attributes.{as_saved};
+ghost use Rattle.pps_engine.specs.Attributes.{as_saved, IsFirstPersistent};
 
 use object_state::{AttributeRef, Object};
 use std::marker::Model;
@@ -25,7 +24,7 @@ struct Next<'a> {
 
 // The first persistent attribute from a place on.
 fn first_persistent(object: &Object, place: usize) -> Option<Next<'_>>
-    ensures { MatchOption result (persistent (drop place object.now.attributes) ≡ []) (λ next. persistent (drop place object.now.attributes) ≡ lent next.attribute ∷ persistent (drop next.behind object.now.attributes)) }
+    ensures { IsFirstPersistent object.now place result }
 {
     for index in place..object.len() {
         let Some(attribute) = object.attribute(index) else {

@@ -1,9 +1,8 @@
 //! What follows from what an event does, by the records that it tells and the handles that it closes.
 ghost use Rattle.std.specs.Prelude.{◌≡◌, true, IfOk, OnErr};
 ghost use Rattle.pps_types.specs.WellFormed.{IsContent};
-ghost use Rattle.service_state.specs.Beginning.{entries_in};
 ghost use Rattle.service_state.specs.Tables.{content_in};
-ghost use Rattle.pps_engine.specs.EventTold.{closes_in, entries_opened, closes_opened, entries_of, closes_of, takes_memory, IsSettled};
+ghost use Rattle.pps_engine.specs.EventTold.{closes_in, takes_memory, SettlesSteps, SettlesOpen, Settles};
 
 use crate::doing::Doing;
 use crate::settling::settle;
@@ -35,7 +34,7 @@ fn settled_begun(
     beginning: &[Beginning],
 ) -> Result<Vec<Following>, AllocError>
     requires { IsContent (content_in tables.now) }
-    ensures { IfOk result (λ following. IsSettled (content_in tables.now) (entries_in beginning.now) (closes_in beginning.now) following.items) }
+    ensures { IfOk result (λ following. SettlesSteps tables.now beginning.now following.items) }
 {
     if let [Beginning::AppendsRecord(told)] = beginning {
         return settle(tables, alloc, std::slice::from_ref(told.entry()), &[]);
@@ -52,7 +51,7 @@ fn settled_opens(
     opens: &Opens,
 ) -> Result<Vec<Following>, AllocError>
     requires { IsContent (content_in tables.now) }
-    ensures { IfOk result (λ following. IsSettled (content_in tables.now) (entries_opened opens.now) (closes_opened opens.now) following.items) }
+    ensures { IfOk result (λ following. SettlesOpen tables.now opens.now following.items) }
 {
     match opens {
         Opens::OnFound { beginning, .. } => settled_begun(tables, alloc, beginning),
@@ -78,7 +77,7 @@ pub(crate) fn settled(
     doing: &Doing,
 ) -> Result<Vec<Following>, AllocError>
     requires { IsContent (content_in tables.now) }
-    ensures ok { IfOk result (λ following. IsSettled (content_in tables.now) (entries_of doing.now) (closes_of doing.now) following.items) }
+    ensures ok { IfOk result (λ following. Settles tables.now doing.now following.items) }
     ensures lacking { OnErr result (takes_memory doing.now ≡ true) }
 {
     events_are_settled();

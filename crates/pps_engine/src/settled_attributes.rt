@@ -1,7 +1,6 @@
 //! The attributes of an object, as records leave them.
 ghost use Rattle.std.specs.Prelude.{◌≡◌, IfOk};
-ghost use Rattle.pps_types.specs.History.{after_kind};
-ghost use Rattle.pps_engine.specs.Behind.{attributes_in};
+ghost use Rattle.pps_engine.specs.Behind.{attributes_in, AreLeftBy};
 
 use object_state::Object;
 use pps_types::{Kind, Refusal};
@@ -35,7 +34,7 @@ pub(crate) fn after<'a>(
     attributes: Attributes<'a>,
     kind: &Kind,
 ) -> Result<Attributes<'a>, Refusal>
-    ensures { IfOk result (λ left. attributes_in left ≡ after_kind (attributes_in attributes.entry) kind.now) }
+    ensures { IfOk result (λ left. AreLeftBy kind.now attributes.entry left) }
 {
     match kind {
         Kind::Opened(_) => Ok(attributes),

@@ -1,8 +1,8 @@
 //! The members of a directory, as records leave them.
-ghost use Rattle.std.specs.Prelude.{◌≡◌, ◌≤◌, ◌++◌, ◌∷◌, IfOk, OnOk, length, map, option_map, take, drop};
+ghost use Rattle.std.specs.Prelude.{◌≡◌, ◌≤◌, IfOk, OnOk, length, map};
 ghost use Rattle.std.specs.List.{filter_map};
-ghost use Rattle.name_table.specs.Standing.{known_of, content_of, standing_of};
-ghost use Rattle.pps_engine.specs.Behind.{row_of, row_member, row_created, row_by, row_left, with_row, rows_left, rows_by, rows_behind};
+ghost use Rattle.name_table.specs.Standing.{known_of, named_content};
+ghost use Rattle.pps_engine.specs.Behind.{row_of, row_member, row_created, row_by, row_left, with_row, with_row_at, rows_by, rows_behind};
 
 use crate::settled_attributes::{Attributes, after};
 use name_table::{NamedObject, Names, Objects};
@@ -109,7 +109,7 @@ fn rows_of<'a>(alloc: Global, objects: &Objects<'a>) -> Result<Vec<Row<'a>>, All
 /// Where a row goes among others by byte order of names.
 fn place_for(rows: &[Row<'_>], row: &Row<'_>) -> usize
     ensures within { result ≤ length rows.now }
-    ensures place { with_row row.now rows.now ≡ take result rows.now ++ row.now ∷ drop result rows.now }
+    ensures place { with_row row.now rows.now ≡ with_row_at result row.now rows.now }
 {
     let mut place = 0;
     'places: for other in rows {
@@ -177,7 +177,8 @@ pub(crate) fn rows_behind<'a>(
     entries: &'a [Entry],
     directory: DirId,
 ) -> Result<Vec<Row<'a>>, Refusal>
-    ensures { IfOk result (λ rows. rows.items ≡ rows_behind (content_of (standing_of names.now)) entries.now directory) }
+    ensures { IfOk result (λ rows.
+        rows.items ≡ rows_behind (named_content names.now) entries.now directory) }
 {
     let objects = names.lent_objects(directory);
     let mut rows = rows_of(alloc, &objects)?;

@@ -1,9 +1,7 @@
 //! An object, as records leave it.
-ghost use Rattle.std.specs.Prelude.{◌≡◌, IfOk, option_map};
-ghost use Rattle.std.specs.Option.{option_copied};
-ghost use Rattle.pps_types.specs.Content as content;
-ghost use Rattle.name_table.specs.Standing.{known_of, content_of, standing_of};
-ghost use Rattle.pps_engine.specs.Behind.{attributes_in, state_left, state_by, state_behind};
+ghost use Rattle.std.specs.Prelude.{◌≡◌, IfOk};
+ghost use Rattle.name_table.specs.Standing.{named_content};
+ghost use Rattle.pps_engine.specs.Behind.{state_in, state_known, state_left, state_by, state_behind};
 
 use crate::settled_attributes::{Attributes, after};
 use name_table::{NamedObject, Names};
@@ -14,7 +12,7 @@ use std::alloc::Global;
 
 /// The attributes of an object as they stand, if it is alive.
 fn state_of<'a>(known: Option<&'a NamedObject>) -> Option<Attributes<'a>>
-    ensures { option_map attributes_in result ≡ option_map (λ (o : content.LiveObject). o.attributes) (option_map known_of (option_copied known.entry)) }
+    ensures { state_in result ≡ state_known known.entry }
 {
     match known {
         None => None,
@@ -24,7 +22,7 @@ fn state_of<'a>(known: Option<&'a NamedObject>) -> Option<Attributes<'a>>
 
 /// The attributes of an object that was not alive, behind a record of it.
 fn state_made<'a>(alloc: Global, kind: &Kind) -> Option<Attributes<'a>>
-    ensures { option_map attributes_in result ≡ state_left kind.now None }
+    ensures { state_in result ≡ state_left kind.now None }
 {
     match kind {
         Kind::Created => Some(Attributes::Made(Object::new(alloc))),
@@ -38,7 +36,7 @@ fn state_after<'a>(
     state: Option<Attributes<'a>>,
     kind: &Kind,
 ) -> Result<Option<Attributes<'a>>, Refusal>
-    ensures { IfOk result (λ left. option_map attributes_in left ≡ state_left kind.now (option_map attributes_in state.entry)) }
+    ensures { IfOk result (λ s. state_in s ≡ state_left kind.now (state_in state.entry)) }
 {
     let Some(attributes) = state else {
         return Ok(state_made(alloc, kind));
@@ -57,7 +55,7 @@ fn state_behind_one<'a>(
     object: ObjId,
     entry: &Entry,
 ) -> Result<Option<Attributes<'a>>, Refusal>
-    ensures { IfOk result (λ left. option_map attributes_in left ≡ state_by object (option_map attributes_in state.entry) entry.now) }
+    ensures { IfOk result (λ s. state_in s ≡ state_by object (state_in state.entry) entry.now) }
 {
     let record = entry.record();
     if record.object != object {
@@ -75,7 +73,8 @@ pub(crate) fn state_behind<'a>(
     entries: &[Entry],
     object: ObjId,
 ) -> Result<Option<Attributes<'a>>, Refusal>
-    ensures { IfOk result (λ state. option_map attributes_in state ≡ state_behind (content_of (standing_of names.now)) entries.now object) }
+    ensures { IfOk result (λ state.
+        state_in state ≡ state_behind (named_content names.now) entries.now object) }
 {
     let mut state = state_of(names.object(object));
     'entries: for entry in entries {

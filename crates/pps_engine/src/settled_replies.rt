@@ -1,14 +1,10 @@
 //! What follows from records for a handle that they wake, by what its late reply has to be told.
-ghost use Rattle.std.specs.Prelude.{◌≡◌, ◌++◌, ◌&&◌, [], false, true, List, Bool, is_some, map, option_map, unwrap_or, OnOk};
-ghost use Rattle.std.specs.List.{flat_map};
+ghost use Rattle.std.specs.Prelude.{◌≡◌, [], map, unwrap_or, OnOk};
 ghost use Rattle.pps_types.specs.History.{line_of};
-ghost use Rattle.pps_types.specs.Reading as reading;
-ghost use Rattle.pps_types.specs.Rests as rests;
-ghost use Rattle.service_laws.specs.SettlingReplies as replies;
-ghost use Rattle.name_table.specs.Standing.{content_of, standing_of};
-ghost use Rattle.whole_texts.specs.Followed.{moves_of};
-ghost use Rattle.whole_texts.specs.Woken.{IsOpened, IsWoken};
-ghost use Rattle.pps_engine.specs.Behind.{attributes_in, follows_behind};
+ghost use Rattle.whole_texts.specs.Followed.{Adds};
+ghost use Rattle.whole_texts.specs.Woken.{ForOpened};
+ghost use Rattle.pps_engine.specs.Behind.{state_in};
+ghost use Rattle.pps_engine.specs.WokenHandles.{needs_everything, follows_by, AddsByRecords, ForWokenObject, ForWokenDirectory};
 
 use crate::settled_attributes::Attributes;
 use crate::settled_members::{members_of, rows_behind};
@@ -18,7 +14,7 @@ use name_table::Names;
 use pps_types::{DirId, ObjId, Refusal};
 use server_queue::Entry;
 use std::alloc::Global;
-use whole_texts::{Following, Member, Told, Woken, follow, gives_everything};
+use whole_texts::{Following, Member, TargetAfter, Woken, follow, gives_everything};
 
 /// Whether a late reply gives everything of the target.
 pub(crate) fn needs_target(
@@ -27,7 +23,7 @@ pub(crate) fn needs_target(
     parked: Option<u32>,
     entries: &[Entry],
 ) -> bool
-    ensures { (h : reading.Open rests.Seen) → IsOpened target opening.now h → result ≡ (is_some parked && replies.gives_everything h entries.now) }
+    ensures { ForOpened target opening.now (λ h. result ≡ needs_everything parked h entries.now) }
 {
     parked.is_some() && gives_everything(target, opening, entries)
 }
@@ -35,7 +31,7 @@ pub(crate) fn needs_target(
 /// An object of that name as its own one member: a dead one has no attributes.
 fn member_of<'a>(name: &'a [u8], state: &'a Option<Attributes<'_>>) -> Member<'a>
     ensures name { result.name ≡ name.now }
-    ensures lines { result.lines ≡ map line_of (unwrap_or (option_map attributes_in state.now) []) }
+    ensures lines { result.lines ≡ map line_of (unwrap_or (state_in state.now) []) }
 {
     match state {
         None => Member::dead(name),
@@ -50,10 +46,9 @@ pub(crate) fn follow_records(
     woken: &Woken<'_>,
     following: &mut Vec<Following>,
 ) -> Result<(), Refusal>
-    ensures { (h : reading.Open rests.Seen) (dead : Bool) (members : List reading.Member) → IsWoken woken.now h → (is_some h.parked && replies.gives_everything h entries.now) ≡ false
-        → OnOk result (flat_map moves_of following.new.items ≡ flat_map moves_of following.old.items ++ replies.pulse_and_reply h entries.now dead members) }
+    ensures { AddsByRecords woken.now entries.now following.old following.new result }
 {
-    let told = Told::new(entries, true, &[]);
+    let told = TargetAfter::new(entries, true, &[]);
     follow(alloc, following, woken, &told)
 }
 
@@ -67,12 +62,12 @@ pub(crate) fn follow_object(
     woken: &Woken<'_>,
     following: &mut Vec<Following>,
 ) -> Result<(), Refusal>
-    ensures { (h : reading.Open rests.Seen) → IsWoken woken.now h → h.target ≡ object → h.name ≡ name.now → reading.is_directory_kind h.kind ≡ false
-        → OnOk result (flat_map moves_of following.new.items ≡ flat_map moves_of following.old.items ++ follows_behind (content_of (standing_of names.now)) entries.now h) }
+    ensures { ForWokenObject woken.now object name.now (λ h. OnOk result
+        (Adds following.old following.new (follows_by names.now entries.now h))) }
 {
     let state = state_behind(alloc, names, entries, object)?;
     let members = [member_of(name, &state)];
-    let told = Told::new(entries, state.is_some(), &members);
+    let told = TargetAfter::new(entries, state.is_some(), &members);
     follow(alloc, following, woken, &told)
 }
 
@@ -85,11 +80,11 @@ pub(crate) fn follow_directory(
     woken: &Woken<'_>,
     following: &mut Vec<Following>,
 ) -> Result<(), Refusal>
-    ensures { (h : reading.Open rests.Seen) → IsWoken woken.now h → h.target ≡ directory → reading.is_directory_kind h.kind ≡ true
-        → OnOk result (flat_map moves_of following.new.items ≡ flat_map moves_of following.old.items ++ follows_behind (content_of (standing_of names.now)) entries.now h) }
+    ensures { ForWokenDirectory woken.now directory (λ h. OnOk result
+        (Adds following.old following.new (follows_by names.now entries.now h))) }
 {
     let rows = rows_behind(alloc, names, entries, directory)?;
     let members = members_of(alloc, &rows)?;
-    let told = Told::new(entries, true, &members);
+    let told = TargetAfter::new(entries, true, &members);
     follow(alloc, following, woken, &told)
 }

@@ -1,14 +1,9 @@
 //! What follows from an event.
-ghost use Rattle.std.specs.Prelude.{◌≡◌, ◌≢◌, ℕ, [], IfOk, OnErr};
-ghost use Rattle.std.specs.List.{flat_map};
-ghost use Rattle.pps_types.specs.declared.event.Request.{Request};
+ghost use Rattle.std.specs.Prelude.{◌≢◌, [], IfOk, OnErr};
 ghost use Rattle.pps_types.specs.WellFormed.{IsContent};
-ghost use Rattle.pps_types.specs.Plan as planning;
-ghost use Rattle.whole_texts.specs.Followed.{moves_of};
-ghost use Rattle.service_state.specs.Following.{CanFollowAll};
 ghost use Rattle.service_state.specs.Tables.{content_in};
-ghost use Rattle.pps_engine.specs.Behind.{follows_numbered};
-ghost use Rattle.pps_engine.specs.SettlingTold.{IsToldBy};
+ghost use Rattle.pps_engine.specs.WokenHandles.{FollowsEach};
+ghost use Rattle.pps_engine.specs.SettlingTold.{FollowsFrom, CanFollowFrom};
 
 use crate::woken::{follow_handle, is_closing};
 use pps_types::{Handle, Refusal};
@@ -26,7 +21,7 @@ fn follow_woken(
     closing: &[Handle],
     woken: &[Handle],
 ) -> Result<Vec<Following>, Refusal>
-    ensures { IfOk result (λ following. flat_map moves_of following.items ≡ flat_map (follows_numbered (content_in tables.now) entries.now closing.now) woken.now) }
+    ensures { IfOk result (λ f. FollowsEach tables.now entries.now closing.now woken.now f.items) }
 {
     let names = tables.names();
     let handles = tables.handles();
@@ -54,10 +49,8 @@ pub fn settle(
     closing: &[Handle],
 ) -> Result<Vec<Following>, AllocError>
     requires { IsContent (content_in tables.now) }
-    ensures follows { IfOk result (λ following. (conn : ℕ) (request : Request) → IsToldBy (content_in tables.now) conn request entries.now closing.now
-        → flat_map moves_of following.items ≡ planning.settling (content_in tables.now) (planning.apply_all_seen (planning.effect (content_in tables.now) conn request).1 (content_in tables.now))) }
-    ensures can { IfOk result (λ following. (conn : ℕ) (request : Request) → IsToldBy (content_in tables.now) conn request entries.now closing.now
-        → CanFollowAll (planning.apply_all_seen (planning.effect (content_in tables.now) conn request).1 (content_in tables.now)) following.items) }
+    ensures follows { IfOk result (λ f. FollowsFrom tables.now entries.now closing.now f.items) }
+    ensures can { IfOk result (λ f. CanFollowFrom tables.now entries.now closing.now f.items) }
     ensures lacking { OnErr result (entries.now ≢ []) }
 {
     events_are_settled();

@@ -1,12 +1,8 @@
 //! What follows from records for a handle that they wake.
-ghost use Rattle.std.specs.Prelude.{◌≡◌, ◌++◌, ◌==◌, [], OnOk};
-ghost use Rattle.std.specs.Option.{option_map_or};
-ghost use Rattle.std.specs.List.{flat_map, list_any};
-ghost use Rattle.name_table.specs.Standing.{content_of, standing_of};
-ghost use Rattle.engine_targets.specs.Opened as opened_as;
-ghost use Rattle.whole_texts.specs.Followed.{moves_of};
-ghost use Rattle.open_handles.specs.Whole.{handles_in};
-ghost use Rattle.pps_engine.specs.Behind.{follows_behind};
+ghost use Rattle.std.specs.Prelude.{◌≡◌, ◌==◌, OnOk};
+ghost use Rattle.std.specs.List.{list_any};
+ghost use Rattle.whole_texts.specs.Followed.{Adds};
+ghost use Rattle.pps_engine.specs.WokenHandles.{follows_at};
 
 use crate::settled_replies::{follow_directory, follow_object, follow_records, needs_target};
 use engine_targets::{is_directory_kind, number_of};
@@ -36,8 +32,8 @@ pub(crate) fn follow_handle(
     handle: Handle,
     following: &mut Vec<Following>,
 ) -> Result<(), Refusal>
-    ensures { OnOk result (flat_map moves_of following.new.items
-        ≡ flat_map moves_of following.old.items ++ option_map_or (follows_behind (content_of (standing_of names.now)) entries.now) (opened_as.handle_at handle (handles_in handles.now)) []) }
+    ensures { OnOk result
+        (Adds following.old following.new (follows_at names.now entries.now handle handles.now)) }
 {
     let Some(opened) = handles.opening(handle) else {
         return Ok(());

@@ -1,9 +1,9 @@
 //! Filters, and which lines they match.
-ghost use Rattle.std.specs.Prelude.{◌≡◌, ◌↔◌, List, [], false, IfOk, IsTrue, IsOkUnless};
-ghost use Rattle.std.specs.List.{list_any};
+ghost use Rattle.std.specs.Prelude.{◌≡◌, ◌↔◌, List, IfOk, IsTrue, IsOkUnless};
 ghost use Rattle.std.specs.Option.{option_copied};
 ghost use Rattle.pps_types.specs.Filter as meant;
-ghost use Rattle.pps_filter.specs.Seen.{condition_seen, part_seen};
+ghost use Rattle.pps_types.specs.Filter.{part_matches};
+ghost use Rattle.pps_filter.specs.Seen.{condition_seen, part_seen, line_setting, some_part_matches};
 
 use crate::name::Name;
 use crate::number::whole_number;
@@ -70,13 +70,13 @@ impl Part {
     }
 
     fn matches_removal(&self, name: &[u8]) -> bool
-        ensures { result ≡ meant.part_matches (Line.Del name.now) (part_seen self.now) }
+        ensures { result ≡ part_matches (Line.Del name.now) (part_seen self.now) }
     {
         name == self.name.as_slice()
     }
 
     fn matches_set(&self, name: &[u8], value: &[u8]) -> bool
-        ensures { result ≡ meant.part_matches (Line.Set name.now [] value.now false) (part_seen self.now) }
+        ensures { result ≡ part_matches (line_setting name.now value.now) (part_seen self.now) }
     {
         name == self.name.as_slice() && self.condition.is_met_by(value)
     }
@@ -92,13 +92,13 @@ impl Part {
 }
 
 fn any_matches_removal(parts: &[Part], name: &[u8]) -> bool
-    ensures { result ≡ list_any (λ part. meant.part_matches (Line.Del name.now) (part_seen part)) parts.now }
+    ensures { result ≡ some_part_matches (Line.Del name.now) parts.now }
 {
     parts.iter().any(|part| part.matches_removal(name))
 }
 
 fn any_matches_set(parts: &[Part], name: &[u8], value: &[u8]) -> bool
-    ensures { result ≡ list_any (λ part. meant.part_matches (Line.Set name.now [] value.now false) (part_seen part)) parts.now }
+    ensures { result ≡ some_part_matches (line_setting name.now value.now) parts.now }
 {
     parts.iter().any(|part| part.matches_set(name, value))
 }

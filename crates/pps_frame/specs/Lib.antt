@@ -1,3 +1,4 @@
+pub mod Encoded
 pub mod Front
 pub mod Faults
 pub mod Served

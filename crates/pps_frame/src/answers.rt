@@ -1,9 +1,8 @@
 //! Answers as frames.
-ghost use Rattle.std.specs.Prelude.{◌≡◌, ℕ, ◌++◌, ◌∷◌, [], Ok, length, max, vec_capacity, IfOk, OnOk, IfErr};
+ghost use Rattle.std.specs.Prelude.{◌≡◌, ℕ, ◌++◌, [], length, max, vec_capacity, IfOk, OnOk, IfErr};
 ghost use Rattle.pps_types.specs.Frame as frames;
-ghost use Rattle.pps_types.specs.declared.outcome.Outcome.TheVariants.{Item as AnItem};
-ghost use Rattle.pps_types.specs.declared.outcome.Item.TheVariants.{ReadDone};
 ghost use Rattle.pps_types.specs.Outcome.{IsSendable};
+ghost use Rattle.pps_frame.specs.Encoded.{late_answer, tagged_fields};
 
 use crate::requests::push_handle;
 use pps_types::{Conn, Handle, Item, Outcome, Refusal, SharedBytes};
@@ -11,7 +10,7 @@ use std::alloc::{AllocError, Global};
 
 // How many bytes a late reply has behind its tag.
 fn late_len(late: &Result<SharedBytes, Refusal>) -> usize
-    ensures { (handle : ℕ) → result ≡ length (frames.answer_fields (Ok (AnItem (ReadDone handle late.now)))) }
+    ensures { (handle : ℕ) → result ≡ length (frames.answer_fields (late_answer handle late.now)) }
 {
     match late {
         Ok(bytes) => 4 + bytes.as_slice().len(),
@@ -47,7 +46,7 @@ fn push_late(
     late: &Result<SharedBytes, Refusal>,
 ) -> Result<(), AllocError>
     ensures { OnOk result (out.new.items ≡ out.old.items
-        ++ frames.answer_tag (Ok (AnItem (ReadDone handle late.now))) ∷ frames.answer_fields (Ok (AnItem (ReadDone handle late.now)))) }
+        ++ tagged_fields (late_answer handle late.now)) }
 {
     match late {
         Ok(bytes) => {
@@ -65,7 +64,7 @@ fn push_late(
 
 // Pushes an answer's tag and its fields.
 fn push_answer(out: &mut Vec<u8>, answer: &Result<Outcome, Refusal>) -> Result<(), AllocError>
-    ensures { OnOk result (out.new.items ≡ out.old.items ++ frames.answer_tag answer.now ∷ frames.answer_fields answer.now) }
+    ensures { OnOk result (out.new.items ≡ out.old.items ++ tagged_fields answer.now) }
 {
     match answer {
         Err(refusal) => {

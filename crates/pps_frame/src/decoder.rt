@@ -1,8 +1,8 @@
 //! A stream of requests that comes in pieces.
-ghost use Rattle.std.specs.Prelude.{◌≡◌, ◌≤◌, ◌++◌, ◌↔◌, List, ℕ, Option, min, take, drop, [], true, false, length, IfOk, OnErr, IsErrOf};
+ghost use Rattle.std.specs.Prelude.{◌≡◌, ◌≤◌, ◌↔◌, List, ℕ, Option, take, drop, [], true, false, length, IfOk, OnErr, IsErrOf};
 ghost use Rattle.std.specs.Io.KnownBytes.{IsAtEnd};
-ghost use Rattle.pps_types.specs.Frame.{Feeds, IsPartial};
-ghost use Rattle.pps_frame.specs.Front.{IsFirst, Takes, lacks, IsGathered};
+ghost use Rattle.pps_types.specs.Frame.{IsPartial};
+ghost use Rattle.pps_frame.specs.Front.{IsFirst, Takes, lacks, AddsLacking, IsGathered, FeedsPiece, FeedsBytes};
 ghost use Rattle.pps_frame.specs.Served.{IsTail};
 
 use crate::ends::Ended;
@@ -106,7 +106,7 @@ fn lacking(held: &[u8]) -> usize
 
 // Adds what is lacking, as far as it is there. Gives how many bytes that are.
 fn extend(held: &mut Vec<u8>, piece: &[u8]) -> Result<usize, AllocError>
-    ensures ok { IfOk result (λ cut. (cut ≡ min (lacks held.old.items) (length piece.now)) × (held.new.items ≡ held.old.items ++ take cut piece.now)) }
+    ensures ok { IfOk result (λ cut. AddsLacking held.old.items piece.now cut held.new.items) }
     ensures err { OnErr result (held.new.items ≡ held.old.items) }
 {
     let cut = lacking(held).min(piece.len());
@@ -142,7 +142,7 @@ fn drop_front(bytes: &mut Vec<u8>, count: usize)
 // than before.
 fn take_piece(alloc: Global, held: &mut Vec<u8>, piece: &[u8]) -> Result<Fed, AllocError>
     requires { IsPartial held.old.items }
-    ensures ok { IfOk result (λ fed. Feeds (held.old.items ++ piece.now) fed.events.items fed.bad record { rest = held.new.items; failed = fed.bad }) }
+    ensures ok { IfOk result (λ fed. FeedsBytes held.old.items piece.now fed held.new.items) }
     ensures err { OnErr result (take (length held.old.items) held.new.items ≡ held.old.items) }
 {
     let mut events = Vec::new(alloc);
@@ -198,7 +198,7 @@ impl Decoder {
     /// From a malformed frame on each call answers Failed. Else OutOfMemory is the only error, and the decoder is as it
     /// was.
     pub fn feed(&mut self, alloc: Global, piece: &[u8]) -> Result<Fed, FeedFault>
-        ensures fed { IfOk result (λ fed. Feeds (self.old.rest ++ piece.now) fed.events.items fed.bad self.new) }
+        ensures fed { IfOk result (λ fed. FeedsPiece self.old.rest piece.now fed self.new) }
         ensures failed { IsErrOf result FeedFault.Failed ↔ (self.old.failed ≡ true) }
         ensures err { OnErr result (self.new ≡ self.old) }
     {

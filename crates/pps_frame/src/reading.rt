@@ -1,7 +1,8 @@
 //! Requests, read from the bodies of frames.
 ghost use Rattle.std.specs.Prelude.{◌≡◌, IfOk, Some};
 ghost use Rattle.pps_types.specs.Frame as frames;
-ghost use Rattle.pps_frame.specs.Front.{IsAdded, IsPushed};
+ghost use Rattle.pps_types.specs.Frame.{without_fields};
+ghost use Rattle.pps_frame.specs.Front.{IsAdded, Pushes};
 
 use pps_types::{Action, Bytes, Conn, Event, Handle, Mode, Request};
 use std::alloc::{AllocError, Global};
@@ -33,7 +34,7 @@ fn action(byte: u8) -> Option<Action>
 
 // Adds the request of a connection.
 fn push(events: &mut Vec<Event>, conn: Conn, request: Request) -> Result<bool, AllocError>
-    ensures { IfOk result (IsPushed conn (Some request) events.old.items events.new.items) }
+    ensures { IfOk result (Pushes conn (Some request) events.old events.new) }
 {
     events.push(Event { conn, request })?;
     Ok(true)
@@ -46,7 +47,7 @@ fn without_fields(
     request: Request,
     bytes: &[u8],
 ) -> Result<bool, AllocError>
-    ensures { IfOk result (IsPushed conn (frames.without_fields request bytes.now) events.old.items events.new.items) }
+    ensures { IfOk result (Pushes conn (without_fields request bytes.now) events.old events.new) }
 {
     match bytes {
         [] => push(events, conn, request),
@@ -60,7 +61,7 @@ fn open(
     conn: Conn,
     bytes: &[u8],
 ) -> Result<bool, AllocError>
-    ensures { IfOk result (IsPushed conn (frames.open_request bytes.now) events.old.items events.new.items) }
+    ensures { IfOk result (Pushes conn (frames.open_request bytes.now) events.old events.new) }
 {
     let [letters, text @ ..] = bytes else {
         return Ok(false);
@@ -73,7 +74,7 @@ fn open(
 }
 
 fn read(events: &mut Vec<Event>, conn: Conn, bytes: &[u8]) -> Result<bool, AllocError>
-    ensures { IfOk result (IsPushed conn (frames.read_request bytes.now) events.old.items events.new.items) }
+    ensures { IfOk result (Pushes conn (frames.read_request bytes.now) events.old events.new) }
 {
     let [a, b, c, d, e, f, g, h] = bytes else {
         return Ok(false);
@@ -89,7 +90,7 @@ fn write(
     conn: Conn,
     bytes: &[u8],
 ) -> Result<bool, AllocError>
-    ensures { IfOk result (IsPushed conn (frames.write_request bytes.now) events.old.items events.new.items) }
+    ensures { IfOk result (Pushes conn (frames.write_request bytes.now) events.old events.new) }
 {
     let [a, b, c, d, text @ ..] = bytes else {
         return Ok(false);
@@ -100,7 +101,7 @@ fn write(
 }
 
 fn close(events: &mut Vec<Event>, conn: Conn, bytes: &[u8]) -> Result<bool, AllocError>
-    ensures { IfOk result (IsPushed conn (frames.close_request bytes.now) events.old.items events.new.items) }
+    ensures { IfOk result (Pushes conn (frames.close_request bytes.now) events.old events.new) }
 {
     let [a, b, c, d] = bytes else {
         return Ok(false);
@@ -110,7 +111,7 @@ fn close(events: &mut Vec<Event>, conn: Conn, bytes: &[u8]) -> Result<bool, Allo
 }
 
 fn notify(events: &mut Vec<Event>, conn: Conn, bytes: &[u8]) -> Result<bool, AllocError>
-    ensures { IfOk result (IsPushed conn (frames.notify_request bytes.now) events.old.items events.new.items) }
+    ensures { IfOk result (Pushes conn (frames.notify_request bytes.now) events.old events.new) }
 {
     let [a, b, c, d, wanted, code, e, f, g, h] = bytes else {
         return Ok(false);
@@ -141,7 +142,7 @@ fn push_request(
     kind: u8,
     bytes: &[u8],
 ) -> Result<bool, AllocError>
-    ensures { IfOk result (IsPushed conn (frames.request_of kind bytes.now) events.old.items events.new.items) }
+    ensures { IfOk result (Pushes conn (frames.request_of kind bytes.now) events.old events.new) }
 {
     match kind {
         1 => without_fields(events, conn, Request::Attach, bytes),

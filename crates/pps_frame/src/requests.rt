@@ -1,7 +1,8 @@
 //! Requests as frames.
-ghost use Rattle.std.specs.Prelude.{◌≡◌, ◌<◌, ◌++◌, ◌⊎◌, ◌↔◌, length, IfOk, OnOk, IfErr, IsErrOf};
+ghost use Rattle.std.specs.Prelude.{◌≡◌, ◌++◌, ◌⊎◌, ◌↔◌, length, IfOk, OnOk, IfErr, IsErrOf};
 ghost use Rattle.std.specs.Int.{w32, to_be_bytes};
 ghost use Rattle.pps_types.specs.Frame as frames;
+ghost use Rattle.pps_frame.specs.Encoded.{IsTooLong};
 
 use pps_types::{Action, Event, Handle, Mode, Refusal, Request};
 use std::alloc::{AllocError, Global};
@@ -114,7 +115,7 @@ fn push_fields(out: &mut Vec<u8>, request: &Request) -> Result<(), AllocError>
 /// It is TooLarge where the body is longer than 131,072 bytes. Else OutOfMemory is the only error.
 pub fn encode_request(alloc: Global, event: &Event) -> Result<Vec<u8>, Refusal>
     ensures ok { IfOk result (λ frame. frame.items ≡ frames.frame event.now) }
-    ensures too_large { IsErrOf result Refusal.TooLarge ↔ frames.longest_body < length (frames.event_body event.now) }
+    ensures too_large { IsErrOf result Refusal.TooLarge ↔ IsTooLong event.now }
     ensures err { IfErr result (λ r. (r ≡ Refusal.TooLarge) ⊎ (r ≡ Refusal.OutOfMemory)) }
 {
     let len = fields_len(&event.request);

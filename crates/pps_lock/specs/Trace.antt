@@ -1,10 +1,12 @@
 -- A trace of events with their answers, and what it tells of what stood before it and what stands after it.
-use Rattle.std.specs.Prelude.{◌≡◌, ◌≤◌, ℕ, List, [], All, Some, length, slice_get}
+use Rattle.std.specs.Prelude.{◌≡◌, ◌≤◌, ◌⊎◌, ℕ, ◌+◌, ◌-◌, ◌^◌, List, [], ◌∷◌, ◌++◌, All, Some, length, slice_get}
 use Rattle.pps_types.specs.declared.event.Event.{Event}
+use Rattle.pps_types.specs.declared.refusal.Refusal.{Refusal}
+use Rattle.pps_types.specs.declared.refusal.Refusal.TheVariants.{OutOfMemory, TableFull}
 use Rattle.pps_types.specs.Outcome.{Reply, IsSendable}
 use Rattle.pps_types.specs.Content.{Content}
 use Rattle.pps_types.specs.Runs.{Answered}
-use Rattle.pps_types.specs.Stands.{RunsSeen}
+use Rattle.pps_types.specs.Stands.{Steps, StepsSeen, RunsSeen}
 use Rattle.pps_lock.specs.declared.book.Receipt.{Receipt}
 
 -- one entry
@@ -50,6 +52,44 @@ emptied c number limit = record { engine = c; base = c; trace = []; number = num
 -- the segment that a book's trace makes
 abbrev pub numbered : Log → Piece
 numbered b = record { number = b.number; base = b.base; entries = b.trace; end = b.engine }
+
+-- ---- a step of a book
+
+-- the name of the entry that comes next
+abbrev pub next_receipt : Log → Receipt
+next_receipt b = receipt b.number (length b.trace)
+
+-- the trace has this entry more
+abbrev pub AddsEntry : (old new : Log) → Event → Reply → Type 0
+AddsEntry old new event reply = new.trace ≡ old.trace ++ answer_to event reply ∷ []
+
+-- the engine made this step
+abbrev pub StepsLog : Log → Event → Reply → Log → Type 0
+StepsLog old event reply new = Steps old.engine event reply new.engine
+
+-- the same of contents
+abbrev pub StepsLogSeen : Log → Event → Reply → Log → Type 0
+StepsLogSeen old event reply new = StepsSeen old.engine event reply new.engine
+
+-- the segment that its trace will be is the same: what was there before its first entry, its number, and its most entries
+abbrev pub KeepsSegment : (old new : Log) → Type 0
+KeepsSegment old new = (new.base ≡ old.base) × (new.number ≡ old.number) × (new.limit ≡ old.limit)
+
+-- the trace has no room for an entry more: what was given comes back, and nothing is changed
+abbrev pub FindsNoRoom : {E : Type 0} → (old new : Log) → (given back : E) → Type 0
+FindsNoRoom old new given back = (back ≡ given) × (new ≡ old) × (length old.trace ≡ old.limit)
+
+-- ---- a cut
+
+-- the book after it, with the next number
+abbrev pub next_book : Log → Log
+next_book b = emptied b.engine (b.number + 1) b.limit
+
+-- why it is refused
+abbrev pub RefusesCut : Log → Refusal → Type 0
+RefusesCut b r = (r ≡ OutOfMemory) ⊎ ((r ≡ TableFull) × (b.number ≡ 2 ^ 64 - 1))
+
+-- ---- receipts
 
 -- At the place that the receipt names, a segment that replays has the event with this answer as its entry.
 pub record IsRecorded (event : Event) (reply : Reply) (place : Receipt) : Type 0 where

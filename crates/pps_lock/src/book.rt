@@ -1,9 +1,9 @@
 //! The engine with its trace.
-ghost use Rattle.std.specs.Prelude.{◌≡◌, ◌<◌, ◌≤◌, ◌+◌, ◌-◌, ◌^◌, ◌⊎◌, [], ◌∷◌, ◌++◌, All, length, Err, IfOk, IfErr, OnOk, OnErr, IsErrOf};
+ghost use Rattle.std.specs.Prelude.{◌≡◌, ◌<◌, ◌≤◌, ◌-◌, ◌^◌, All, length, Err, IfOk, IfErr, OnOk, OnErr, IsErrOf};
 ghost use Rattle.std.specs.Arc.{arc_value};
 ghost use Rattle.pps_types.specs.Outcome.{IsSendable};
-ghost use Rattle.pps_types.specs.Stands.{Steps, StepsSeen, Runs, RunsSeen};
-ghost use Rattle.pps_lock.specs.Trace.{answer_to, receipt, numbered, emptied};
+ghost use Rattle.pps_types.specs.Stands.{StepsSeen, Runs, RunsSeen};
+ghost use Rattle.pps_lock.specs.Trace.{numbered, emptied, next_receipt, AddsEntry, StepsLog, StepsLogSeen, KeepsSegment, FindsNoRoom, next_book, RefusesCut};
 
 use crate::entry::Entry;
 use crate::segment::Segment;
@@ -130,15 +130,15 @@ impl Book {
     /// The entry shares the answer's bytes. Where there is no memory for the share, nothing is changed, and OutOfMemory is
     /// the answer, with an entry as any other.
     pub fn step(&mut self, event: Arc<Event>) -> Result<Stepped, TraceFull>
-        ensures added { IfOk result (λ s. self.new.trace ≡ self.old.trace ++ answer_to (arc_value event) s.reply ∷ []) }
-        ensures named { IfOk result (λ s. s.receipt ≡ receipt self.old.number (length self.old.trace)) }
-        ensures steps { IfOk result (λ s. Steps self.old.engine (arc_value event) s.reply self.new.engine) }
-        ensures seen { IfOk result (λ s. StepsSeen self.old.engine (arc_value event) s.reply self.new.engine) }
+        ensures added { IfOk result (λ s. AddsEntry self.old self.new (arc_value event) s.reply) }
+        ensures named { IfOk result (λ s. s.receipt ≡ next_receipt self.old) }
+        ensures steps { IfOk result (λ s. StepsLog self.old (arc_value event) s.reply self.new) }
+        ensures seen { IfOk result (λ s. StepsLogSeen self.old (arc_value event) s.reply self.new) }
         ensures kept { IfOk result (λ s. OnErr s.reply (self.new.engine ≡ self.old.engine)) }
         ensures sends { IfOk result (λ s. IsSendable s.reply) }
-        ensures same { OnOk result ((self.new.base ≡ self.old.base) × (self.new.number ≡ self.old.number) × (self.new.limit ≡ self.old.limit)) }
+        ensures same { OnOk result (KeepsSegment self.old self.new) }
         ensures room { OnOk result (length self.old.trace < self.old.limit) }
-        ensures full { IfErr result (λ f. (f.event ≡ event) × (self.new ≡ self.old) × (length self.old.trace ≡ self.old.limit)) }
+        ensures full { IfErr result (λ f. FindsNoRoom self.old self.new event f.event) }
     {
         if self.trace.len() >= self.limit {
             return Err(TraceFull { event });
@@ -159,9 +159,9 @@ impl Book {
     /// trace begins with.
     pub fn cut(&mut self) -> Result<Segment, Refusal>
         ensures ok { IfOk result (λ segment. segment ≡ numbered self.old) }
-        ensures begins { OnOk result (self.new ≡ emptied self.old.engine (self.old.number + 1) self.old.limit) }
+        ensures begins { OnOk result (self.new ≡ next_book self.old) }
         ensures kept { OnErr result (self.new ≡ self.old) }
-        ensures err { IfErr result (λ r. (r ≡ Refusal.OutOfMemory) ⊎ ((r ≡ Refusal.TableFull) × (self.old.number ≡ 2 ^ 64 - 1))) }
+        ensures err { IfErr result (λ r. RefusesCut self.old r) }
         ensures last { self.old.number ≡ 2 ^ 64 - 1 → IsErrOf result Refusal.TableFull }
     {
         if self.number == u64::MAX {

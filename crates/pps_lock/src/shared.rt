@@ -42,7 +42,7 @@ impl Shared {
 
     /// `Book::cut` of the book that is found: a segment that replays, or TableFull or OutOfMemory. It waits for the lock.
     pub fn cut<R: Wait>(&self, rt: &R) -> Result<Segment, Refusal>
-        ensures replays { IfOk result (λ segment. Replays segment.base segment.entries segment.end) }
+        ensures replays { IfOk result (λ piece. Replays piece.base piece.entries piece.end) }
         ensures err { IfErr result (λ r. (r ≡ Refusal.OutOfMemory) ⊎ (r ≡ Refusal.TableFull)) }
     {
         let segment = self.book.lock(rt).cut()?;

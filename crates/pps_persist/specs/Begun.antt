@@ -49,6 +49,10 @@ GoesOn bytes (Err OutOfMemory) = Unit {0}
 GoesOn bytes (Err (BadImage line)) = (more : List ℕ) → read_image (bytes ++ more) ≡ Err line
 GoesOn bytes (Err ReadFault) = ⊥
 
+-- whatever was taken, these bytes are taken after it
+abbrev pub TakesBytes : Reading → List ℕ → Result Reading LoadError → Type 0
+TakesBytes s bytes result = (taken : List ℕ) → IsReading taken s → GoesOn (taken ++ bytes) result
+
 -- some bytes at the front of a piece were taken
 pub record IsSplit (old : Reading) (piece : List ℕ) (new : Reading) (rest : List ℕ) : Type 0 where
   pub front : List ℕ

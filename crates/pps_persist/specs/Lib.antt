@@ -1,4 +1,5 @@
 pub mod Lines
+pub mod Printed
 pub mod Judged
 pub mod Held
 pub mod Begun

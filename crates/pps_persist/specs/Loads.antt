@@ -1,7 +1,8 @@
 -- What loading an image reads, and when it answers an error.
 use Rattle.std.specs.Prelude.{◌≡◌, ◌⊎◌, ◌≤◌, ◌+◌, ℕ, min, Bool, true, false, List, ◌++◌, length, Option, Result, Ok, Err}
 use Rattle.std.specs.Io.KnownBytes.{Consumes, IsAtEnd}
-use Rattle.pps_types.specs.Device.{last_count}
+use Rattle.pps_types.specs.declared.device.Device.{Device}
+use Rattle.pps_types.specs.Device.{last_count, device_inner, device_failed, device_reads}
 use Rattle.pps_types.specs.Content.{Content}
 use Rattle.pps_types.specs.Image.{image, read_image}
 use Rattle.image_laws.specs.Restored.{AreSavedAlike}
@@ -54,6 +55,18 @@ ReadFaultIs (Ok x) failed old new = failed ≡ false
 ReadFaultIs (Err OutOfMemory) failed old new = failed ≡ false
 ReadFaultIs (Err (BadImage line)) failed old new = failed ≡ false
 ReadFaultIs (Err ReadFault) failed old new = (failed ≡ true) ⊎ (new ≡ reads_from old most_reads)
+
+-- ---- from a device
+
+-- the same of what a device over a reader gives
+abbrev pub LoadsFrom : {R : Type 0} → (R → Option (List ℕ)) → (old new : Device R) → Result Serving LoadError → Type 0
+LoadsFrom remaining old new result = Loads (remaining (device_inner old)) (remaining (device_inner new)) result
+
+-- it answers ReadFault only where the device failed, or after the last read
+abbrev pub AnswersReadFault : {R X : Type 0} → (old new : Device R) → Result X LoadError → Type 0
+AnswersReadFault old new result = ReadFaultIs result (device_failed new) (device_reads old) (device_reads new)
+
+-- ---- within
 
 -- so far: these bytes were read, at most so many
 pub record Gone (from to : Option (List ℕ)) (s : Reading) (most : ℕ) : Type 0 where

@@ -1,7 +1,10 @@
 -- What is written of a text, and when it is told that a writer failed.
 use Rattle.std.specs.Prelude.{◌≡◌, ◌⊎◌, ◌≤◌, ◌+◌, ℕ, Bool, true, false, List, [], ◌++◌, length, take, Option, Result, Ok, Err}
 use Rattle.std.specs.Io.KnownBytes.{Appends}
-use Rattle.pps_types.specs.Device.{counted_once_more}
+use Rattle.pps_types.specs.declared.device.Device.{Device}
+use Rattle.pps_types.specs.Device.{counted_once_more, device_inner, device_failed, device_stalls}
+use Rattle.pps_types.specs.Content.{Content}
+use Rattle.pps_types.specs.Image.{Saved, print_saved, image_text, image}
 use Rattle.pps_persist.specs.declared.errors.SaveError.{SaveError}
 use Rattle.pps_persist.specs.declared.errors.SaveError.TheVariants.{OutOfMemory, WriteFault}
 use Rattle.pps_persist.specs.declared.output.Output.{Output}
@@ -67,3 +70,36 @@ PrintsOn before after text o (Err error) = SendsPart before after text (sent_of 
 abbrev pub Saves : Option (List ℕ) → Option (List ℕ) → List ℕ → Result ℕ SaveError → Type 0
 Saves before after text (Ok count) = (count ≡ length text) × Appends before after text
 Saves before after text (Err error) = SendsPart before after text (sent_of error)
+
+-- ---- to a device over a writer
+
+-- all of these bytes were written, or a part of them
+abbrev pub SendsTo : {W X : Type 0} → (W → Option (List ℕ)) → (old new : Device W) → List ℕ → Result X ℕ → Type 0
+SendsTo contents old new bytes result = Sends (contents (device_inner old)) (contents (device_inner new)) bytes result
+
+-- what was printed was written, or a part of it
+abbrev pub FlushesTo : {W X : Type 0} → (W → Option (List ℕ)) → (old new : Device W) → (from to : Output) → Result X SaveError → Type 0
+FlushesTo contents old new from to result = Flushes (contents (device_inner old)) (contents (device_inner new)) from to result
+
+-- whatever text was printed so far, it is printed with this entry more
+abbrev pub Adds : {W X : Type 0} → (W → Option (List ℕ)) → (old new : Device W) → (from to : Output) → Saved → Result X SaveError → Type 0
+Adds contents old new from to entry result =
+    (before : Option (List ℕ)) (text : List ℕ) → Prints before (contents (device_inner old)) text from
+    → PrintsOn before (contents (device_inner new)) (text ++ print_saved entry) to result
+
+-- all of the image of these entries was written, or just its first bytes
+abbrev pub SavesEntries : {W : Type 0} → (W → Option (List ℕ)) → (old new : Device W) → ℕ → List Saved → Result ℕ SaveError → Type 0
+SavesEntries contents old new default_limit entries result =
+    Saves (contents (device_inner old)) (contents (device_inner new)) (image_text default_limit entries) result
+
+-- the same of the image of a machine in this state
+abbrev pub SavesImage : {W : Type 0} → (W → Option (List ℕ)) → (old new : Device W) → Content → Result ℕ SaveError → Type 0
+SavesImage contents old new c result = Saves (contents (device_inner old)) (contents (device_inner new)) (image c) result
+
+-- an error is answered only where the device failed, or took none of some bytes
+abbrev pub AnswersSendFault : {W X : Type 0} → (old new : Device W) → Result X ℕ → Type 0
+AnswersSendFault old new result = SendFaultIs result (device_failed new) (device_stalls old) (device_stalls new)
+
+-- WriteFault is answered only where the device failed, or took none of some bytes
+abbrev pub AnswersWriteFault : {W X : Type 0} → (old new : Device W) → Result X SaveError → Type 0
+AnswersWriteFault old new result = WriteFaultIs result (device_failed new) (device_stalls old) (device_stalls new)

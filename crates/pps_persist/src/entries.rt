@@ -1,8 +1,6 @@
 //! Entries of images, restored.
-ghost use Rattle.std.specs.Prelude.{◌≡◌, ◌<◌, true, length, IfOk};
-ghost use Rattle.std.specs.List.{list_all};
-ghost use Rattle.image_laws.specs.Images.{is_plain};
-ghost use Rattle.pps_persist.specs.Lines.{IsReadPath};
+ghost use Rattle.std.specs.Prelude.{◌≡◌, ◌<◌, length, IfOk};
+ghost use Rattle.pps_persist.specs.Lines.{IsPlain, IsReadPath};
 ghost use Rattle.pps_persist.specs.Held.{IsLoaded, IsLoadedObject, AddsDirectory, AddsObject, AddsLine};
 ghost use Rattle.pps_persist.specs.Judged.{judged};
 
@@ -94,7 +92,7 @@ pub(crate) fn take_attribute(
     line: &[u8],
 ) -> Result<(Loaded, Object), Fault>
     requires loaded { IsLoadedObject loaded object }
-    requires plain { list_all is_plain line.now ≡ true }
+    requires plain { IsPlain line.now }
     requires short { length line.now < 65536 }
     ensures { AddsLine loaded object line.now result }
 {

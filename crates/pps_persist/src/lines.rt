@@ -1,8 +1,7 @@
 //! Lines of images, taken one after the other.
-ghost use Rattle.std.specs.Prelude.{◌≡◌, ◌<◌, List, ℕ, true, length};
-ghost use Rattle.std.specs.List.{list_all};
-ghost use Rattle.image_laws.specs.Images.{is_plain};
+ghost use Rattle.std.specs.Prelude.{◌<◌, List, ℕ, length};
 ghost use Rattle.pps_persist.specs.declared.place.Place.TheVariants as places;
+ghost use Rattle.pps_persist.specs.Lines.{IsPlain};
 ghost use Rattle.pps_persist.specs.Held.{IsAt, IsPlace, IsWithin, Takes};
 
 use crate::entries::{take_attribute, take_directory, take_object};
@@ -68,7 +67,7 @@ fn take_entry(alloc: Global, loaded: Loaded, line: &[u8]) -> Result<Place, Fault
 // Takes a line within an object.
 fn take_within(alloc: Global, loaded: Loaded, object: Object, line: &[u8]) -> Result<Place, Fault>
     requires place { IsPlace (places.Within loaded object) }
-    requires plain { list_all is_plain line.now ≡ true }
+    requires plain { IsPlain line.now }
     requires short { length line.now < 65536 }
     ensures { Takes (places.Within loaded object) line.now result }
 {
@@ -79,7 +78,7 @@ fn take_within(alloc: Global, loaded: Loaded, object: Object, line: &[u8]) -> Re
 /// Takes a line, without its line feed. It is refused exactly where no image has such a line there.
 pub(crate) fn take_line(alloc: Global, place: Place, line: &[u8]) -> Result<Place, Fault>
     requires place { IsPlace place }
-    requires plain { list_all is_plain line.now ≡ true }
+    requires plain { IsPlain line.now }
     requires short { length line.now < 65536 }
     ensures { Takes place line.now result }
 {

@@ -1,7 +1,7 @@
 //! Images, loaded.
 ghost use Rattle.std.specs.Prelude.{◌≡◌, false};
-ghost use Rattle.pps_types.specs.Device.{device_inner, device_failed, device_reads};
-ghost use Rattle.pps_persist.specs.Loads.{Loads, ReadFaultIs};
+ghost use Rattle.pps_types.specs.Device.{device_failed};
+ghost use Rattle.pps_persist.specs.Loads.{LoadsFrom, AnswersReadFault};
 
 use crate::errors::LoadError;
 use crate::pieces::Reading;
@@ -25,8 +25,8 @@ const READS_MAX: u32 = 4_294_967_295;
 /// in place of any other answer.
 pub fn load<R: Read>(alloc: Global, device: &mut Device<R>) -> Result<Engine, LoadError>
     requires { device_failed device.old ≡ false }
-    ensures loads { Loads (R.remaining (device_inner device.old)) (R.remaining (device_inner device.new)) result }
-    ensures fault { ReadFaultIs result (device_failed device.new) (device_reads device.old) (device_reads device.new) }
+    ensures loads { LoadsFrom R.remaining device.old device.new result }
+    ensures fault { AnswersReadFault device.old device.new result }
 {
     let mut buffer = Vec::new(alloc);
     buffer.resize(PIECE, 0u8)?;

@@ -1,7 +1,7 @@
 //! Text, written in pieces.
 ghost use Rattle.std.specs.Prelude.{◌≡◌, false, []};
-ghost use Rattle.pps_types.specs.Device.{device_inner, device_failed, device_stalls};
-ghost use Rattle.pps_persist.specs.Sent.{Sends, Flushes, SendFaultIs, WriteFaultIs};
+ghost use Rattle.pps_types.specs.Device.{device_failed};
+ghost use Rattle.pps_persist.specs.Sent.{SendsTo, FlushesTo, AnswersSendFault, AnswersWriteFault};
 
 use crate::errors::SaveError;
 use pps_types::Device;
@@ -11,8 +11,8 @@ use std::io::Write;
 // Writes all of the bytes. An error tells how many were written before the writer failed, or took none of the rest.
 fn send<W: Write>(device: &mut Device<W>, bytes: &[u8]) -> Result<(), usize>
     requires { device_failed device.old ≡ false }
-    ensures sent { Sends (W.contents (device_inner device.old)) (W.contents (device_inner device.new)) bytes.now result }
-    ensures fault { SendFaultIs result (device_failed device.new) (device_stalls device.old) (device_stalls device.new) }
+    ensures sent { SendsTo W.contents device.old device.new bytes.now result }
+    ensures fault { AnswersSendFault device.old device.new result }
 {
     let mut at = 0;
     'parts: while at < bytes.len() {
@@ -48,8 +48,8 @@ impl Output {
     /// Writes all that was printed. OutOfMemory comes where so many bytes can't be counted.
     pub(crate) fn flush<W: Write>(&mut self, device: &mut Device<W>) -> Result<(), SaveError>
         requires { device_failed device.old ≡ false }
-        ensures flushed { Flushes (W.contents (device_inner device.old)) (W.contents (device_inner device.new)) self.old self.new result }
-        ensures fault { WriteFaultIs result (device_failed device.new) (device_stalls device.old) (device_stalls device.new) }
+        ensures flushed { FlushesTo W.contents device.old device.new self.old self.new result }
+        ensures fault { AnswersWriteFault device.old device.new result }
     {
         let sent = self.sent;
         let Some(whole) = sent.checked_add(self.buffer.len() as u64) else {

@@ -1,8 +1,7 @@
 //! Lines of images, read from pieces.
-ghost use Rattle.std.specs.Prelude.{◌≡◌, ◌<◌, ◌+◌, ◌^◌, ◌++◌, ◌∷◌, [], List, ℕ, true, length, IfOk};
-ghost use Rattle.std.specs.List.{list_all};
-ghost use Rattle.image_laws.specs.Images.{is_plain};
-ghost use Rattle.pps_persist.specs.Begun.{has_room, IsReading, IsBegun, GoesOn, Finishes};
+ghost use Rattle.std.specs.Prelude.{◌≡◌, ◌<◌, ◌+◌, ◌^◌, ◌∷◌, [], List, ℕ, length, IfOk};
+ghost use Rattle.pps_persist.specs.Lines.{IsPlain};
+ghost use Rattle.pps_persist.specs.Begun.{has_room, IsReading, IsBegun, TakesBytes, Finishes};
 
 use crate::errors::{Fault, LoadError};
 use crate::lines::take_line;
@@ -49,8 +48,8 @@ impl Reading {
 
     // Takes bytes without a line feed.
     fn extend(mut self, bytes: &[u8]) -> Result<Reading, LoadError>
-        requires { list_all is_plain bytes.now ≡ true }
-        ensures goes { (taken : List ℕ) → IsReading taken self → GoesOn (taken ++ bytes.now) result }
+        requires { IsPlain bytes.now }
+        ensures goes { TakesBytes self bytes.now result }
         ensures number { IfOk result (λ new. new.number ≡ self.number) }
     {
         if bytes.is_empty() {
@@ -67,7 +66,7 @@ impl Reading {
     fn end_line(self, alloc: Global) -> Result<Reading, LoadError>
         requires begun { IsBegun self }
         requires number { self.number + 1 < 2 ^ 64 }
-        ensures goes { (taken : List ℕ) → IsReading taken self → GoesOn (taken ++ 10 ∷ []) result }
+        ensures goes { TakesBytes self (10 ∷ []) result }
         ensures number { IfOk result (λ new. new.number ≡ self.number + 1) }
     {
         let Reading {
@@ -93,7 +92,7 @@ impl Reading {
     pub(crate) fn take_piece(self, alloc: Global, piece: &[u8]) -> Result<Reading, LoadError>
         requires begun { IsBegun self }
         requires number { self.number + length piece.now < 2 ^ 64 }
-        ensures { (taken : List ℕ) → IsReading taken self → GoesOn (taken ++ piece.now) result }
+        ensures { TakesBytes self piece.now result }
     {
         let mut reading = self;
         let mut rest = piece;

@@ -1,7 +1,7 @@
 //! Lines of images, printed.
-ghost use Rattle.std.specs.Prelude.{◌≡◌, ◌++◌, false, codes, decimal, OnOk};
+ghost use Rattle.std.specs.Prelude.{◌≡◌, ◌++◌, decimal, OnOk};
 ghost use Rattle.pps_types.specs.Image as image;
-ghost use Rattle.pps_types.specs.Text.{print_line};
+ghost use Rattle.pps_persist.specs.Printed.{print_beginning, print_directory, print_object, print_set, print_end};
 
 use attr_text::{push_set, set_len};
 use itoa::Buffer;
@@ -29,7 +29,7 @@ fn push_path(out: &mut Vec<u8>, path: &[Bytes]) -> Result<(), AllocError>
 /// Pushes the first line of an image of version 2, with the default limit.
 #[tactic(auto, using(crate::proofs::Regroup::regroup))]
 pub fn push_beginning(out: &mut Vec<u8>, default_limit: u32) -> Result<(), AllocError>
-    ensures { OnOk result (out.new.items ≡ out.old.items ++ image.text_line (codes "PPSIMAGE 2 " ++ decimal default_limit)) }
+    ensures { OnOk result (out.new.items ≡ out.old.items ++ print_beginning default_limit) }
 {
     out.extend_from_slice(b"PPSIMAGE 2 ")?;
     push_number(out, u64::from(default_limit))?;
@@ -39,7 +39,7 @@ pub fn push_beginning(out: &mut Vec<u8>, default_limit: u32) -> Result<(), Alloc
 /// Pushes the line of a directory.
 #[tactic(auto, using(crate::proofs::Regroup::regroup))]
 pub fn push_directory(out: &mut Vec<u8>, path: &[Bytes]) -> Result<(), AllocError>
-    ensures { OnOk result (out.new.items ≡ out.old.items ++ image.text_line (codes "D " ++ image.print_path path.now)) }
+    ensures { OnOk result (out.new.items ≡ out.old.items ++ print_directory path.now) }
 {
     out.extend_from_slice(b"D ")?;
     push_path(out, path)?;
@@ -49,7 +49,7 @@ pub fn push_directory(out: &mut Vec<u8>, path: &[Bytes]) -> Result<(), AllocErro
 /// Pushes the line of an object of which so many attributes follow.
 #[tactic(auto, using(crate::proofs::Regroup::regroup))]
 pub fn push_object(out: &mut Vec<u8>, path: &[Bytes], count: usize) -> Result<(), AllocError>
-    ensures { OnOk result (out.new.items ≡ out.old.items ++ image.text_line (codes "O " ++ image.print_path path.now ++ codes " " ++ decimal count)) }
+    ensures { OnOk result (out.new.items ≡ out.old.items ++ print_object path.now count) }
 {
     out.extend_from_slice(b"O ")?;
     push_path(out, path)?;
@@ -65,7 +65,7 @@ pub fn push_attribute(
     enc: &[u8],
     value: &[u8],
 ) -> Result<(), AllocError>
-    ensures { OnOk result (out.new.items ≡ out.old.items ++ print_line (image.as_line (record { name = name.now; enc = enc.now; value = value.now }))) }
+    ensures { OnOk result (out.new.items ≡ out.old.items ++ print_set name.now enc.now value.now) }
 {
     let Some(len) = set_len(name, enc, value, false) else {
         return Err(AllocError);
@@ -78,7 +78,7 @@ pub fn push_attribute(
 /// Pushes the last line, of an image of so many entries.
 #[tactic(auto, using(crate::proofs::Regroup::regroup))]
 pub fn push_end(out: &mut Vec<u8>, count: u64) -> Result<(), AllocError>
-    ensures { OnOk result (out.new.items ≡ out.old.items ++ image.text_line (codes "E " ++ decimal count)) }
+    ensures { OnOk result (out.new.items ≡ out.old.items ++ print_end count) }
 {
     out.extend_from_slice(b"E ")?;
     push_number(out, count)?;

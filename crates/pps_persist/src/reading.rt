@@ -1,12 +1,9 @@
 //! Lines of images, read.
-ghost use Rattle.std.specs.Prelude.{◌≡◌, ◌<◌, ◌≤◌, ◌^◌, ℕ, true, length, option_map, option_and_then, IfOk, IfSome};
-ghost use Rattle.std.specs.List.{list_all};
-ghost use Rattle.pps_types.specs.declared.line.Mark.TheVariants.{Keep};
+ghost use Rattle.std.specs.Prelude.{◌≡◌, ◌≤◌, IfOk, IfSome};
 ghost use Rattle.pps_types.specs.Image as image;
 ghost use Rattle.pps_types.specs.OpenText as meant;
-ghost use Rattle.pps_types.specs.Text as text;
-ghost use Rattle.image_laws.specs.Images.{is_plain, IsImageLine};
-ghost use Rattle.pps_persist.specs.Lines.{position_after, IsReadPath, NamesReadPath};
+ghost use Rattle.image_laws.specs.Images.{IsImageLine};
+ghost use Rattle.pps_persist.specs.Lines.{IsPlain, begun_by, attribute_in, ReadsAs, ReadsAfterFew, IsReadPath, NamesReadPath};
 
 use crate::number::read_number;
 use attr_text::read_set;
@@ -28,7 +25,7 @@ pub struct Beginning {
 ///
 /// Objects of version 1 have at most 32,768 bytes of text, and its default limit is 256; objects of version 2 have 65,536.
 pub fn read_beginning(line: &[u8]) -> Option<Beginning>
-    ensures position { option_map (λ b. image.loaded_with b.longest b.default_limit) result ≡ image.first_line line.now }
+    ensures position { begun_by result ≡ image.first_line line.now }
     ensures least { IfSome result (λ b. 1 ≤ b.default_limit) }
     ensures most { IfSome result (λ b. b.default_limit ≤ 65535) }
 {
@@ -69,7 +66,7 @@ fn path_of(alloc: Global, text: &[u8]) -> Result<Option<Path>, AllocError>
 
 // Reads what stands behind `D `.
 fn directory_line(alloc: Global, text: &[u8]) -> Result<Option<EntryLine>, AllocError>
-    ensures position { IfOk result (λ read. (r : image.Loaded) → image.directory_line r text.now ≡ option_and_then (position_after r) read) }
+    ensures position { IfOk result (λ read. ReadsAs image.directory_line text.now read) }
     ensures path { IfOk result (λ read. IfSome read NamesReadPath) }
 {
     let Some(path) = path_of(alloc, text)? else {
@@ -80,7 +77,7 @@ fn directory_line(alloc: Global, text: &[u8]) -> Result<Option<EntryLine>, Alloc
 
 // Reads what stands behind `O `: a path, and how many attributes follow.
 fn object_line(alloc: Global, text: &[u8]) -> Result<Option<EntryLine>, AllocError>
-    ensures position { IfOk result (λ read. (r : image.Loaded) → image.object_line r text.now ≡ option_and_then (position_after r) read) }
+    ensures position { IfOk result (λ read. ReadsAs image.object_line text.now read) }
     ensures path { IfOk result (λ read. IfSome read NamesReadPath) }
 {
     let Some((path, count)) = split_at_first(b' ', text) else {
@@ -97,7 +94,7 @@ fn object_line(alloc: Global, text: &[u8]) -> Result<Option<EntryLine>, AllocErr
 
 // Reads what stands behind `E `: how many entries there were.
 fn end_line(text: &[u8]) -> Option<EntryLine>
-    ensures position { (r : image.Loaded) → length r.entries < 2 ^ 32 → image.end_line r text.now ≡ option_and_then (position_after r) result }
+    ensures position { ReadsAfterFew image.end_line text.now result }
     ensures path { IfSome result NamesReadPath }
 {
     let count = read_number(text)?;
@@ -108,7 +105,7 @@ fn end_line(text: &[u8]) -> Option<EntryLine>
 ///
 /// Whether the entry may follow those before it, and whether their number is right, is not looked at.
 pub fn read_entry_line(alloc: Global, line: &[u8]) -> Result<Option<EntryLine>, AllocError>
-    ensures position { IfOk result (λ read. (r : image.Loaded) → length r.entries < 2 ^ 32 → image.entry_line r line.now ≡ option_and_then (position_after r) read) }
+    ensures position { IfOk result (λ read. ReadsAfterFew image.entry_line line.now read) }
     ensures path { IfOk result (λ read. IfSome read NamesReadPath) }
 {
     match line {
@@ -122,8 +119,8 @@ pub fn read_entry_line(alloc: Global, line: &[u8]) -> Result<Option<EntryLine>, 
 /// Reads a line of an object's attributes, without its line feed: `name:encoding:value`. `None` says that it is no such
 /// line; one with a bracket is none. If it has no line feed, what it sets is an attribute that an image may have.
 pub fn read_attribute(alloc: Global, line: &[u8]) -> Result<Option<Line>, AllocError>
-    ensures read { IfOk result (λ read. read ≡ option_map image.as_line (option_and_then image.set_of (text.set_line Keep line.now))) }
-    ensures line { list_all is_plain line.now ≡ true → IfOk result (λ read. IfSome read IsImageLine) }
+    ensures read { IfOk result (λ read. read ≡ attribute_in line.now) }
+    ensures line { IsPlain line.now → IfOk result (λ read. IfSome read IsImageLine) }
 {
     match read_set(alloc, Mark::Keep, line)? {
         Some(

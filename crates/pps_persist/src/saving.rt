@@ -1,8 +1,8 @@
 //! Images, saved.
-ghost use Rattle.std.specs.Prelude.{◌≡◌, ◌++◌, List, ℕ, Option, false, OnOk};
-ghost use Rattle.pps_types.specs.Device.{device_inner, device_failed, device_stalls};
+ghost use Rattle.std.specs.Prelude.{◌≡◌, ◌++◌, false, OnOk};
+ghost use Rattle.pps_types.specs.Device.{device_failed};
 ghost use Rattle.pps_types.specs.Image as image;
-ghost use Rattle.pps_persist.specs.Sent.{Prints, PrintsOn, Saves, WriteFaultIs};
+ghost use Rattle.pps_persist.specs.Sent.{Adds, SavesEntries, SavesImage, AnswersWriteFault};
 
 use crate::errors::SaveError;
 use crate::output::Output;
@@ -36,9 +36,8 @@ fn add_entry<W: Write>(
     entry: &SavedEntry<'_>,
 ) -> Result<(), SaveError>
     requires { device_failed device.old ≡ false }
-    ensures prints { (before : Option (List ℕ)) (text : List ℕ) → Prints before (W.contents (device_inner device.old)) text output.old
-        → PrintsOn before (W.contents (device_inner device.new)) (text ++ image.print_saved entry.now) output.new result }
-    ensures fault { WriteFaultIs result (device_failed device.new) (device_stalls device.old) (device_stalls device.new) }
+    ensures prints { Adds W.contents device.old device.new output.old output.new entry.now result }
+    ensures fault { AnswersWriteFault device.old device.new result }
 {
     if push_entry(&mut output.buffer, entry).is_err() {
         return Err(SaveError::OutOfMemory { sent: output.sent });
@@ -57,8 +56,8 @@ fn save_entries<W: Write>(
     device: &mut Device<W>,
 ) -> Result<u64, SaveError>
     requires { device_failed device.old ≡ false }
-    ensures saves { Saves (W.contents (device_inner device.old)) (W.contents (device_inner device.new)) (image.image_text default_limit entries.now) result }
-    ensures fault { WriteFaultIs result (device_failed device.new) (device_stalls device.old) (device_stalls device.new) }
+    ensures saves { SavesEntries W.contents device.old device.new default_limit entries.now result }
+    ensures fault { AnswersWriteFault device.old device.new result }
 {
     let mut output = Output::new(alloc);
     if push_beginning(&mut output.buffer, default_limit).is_err() {
@@ -85,8 +84,8 @@ pub fn save<W: Write>(
     device: &mut Device<W>,
 ) -> Result<u64, SaveError>
     requires { device_failed device.old ≡ false }
-    ensures saves { Saves (W.contents (device_inner device.old)) (W.contents (device_inner device.new)) (image.image engine.now.content) result }
-    ensures fault { WriteFaultIs result (device_failed device.new) (device_stalls device.old) (device_stalls device.new) }
+    ensures saves { SavesImage W.contents device.old device.new engine.now.content result }
+    ensures fault { AnswersWriteFault device.old device.new result }
 {
     match engine.entries() {
         Err(_) => Err(SaveError::OutOfMemory { sent: 0 }),

@@ -13,6 +13,10 @@ use Rattle.pps_types.specs.Outcome.{Reply}
 use Rattle.pps_types.specs.Refusal.{number_of, name_of, argument_of}
 use Rattle.pps_script.specs.Escapes.{escaped}
 
+-- what parts the words of an answer
+abbrev pub space : List ℕ
+space = codes " "
+
 -- how many bytes there are, and the bytes, if there are any
 abbrev pub counted_words : List ℕ → List ℕ
 counted_words bytes = decimal (length bytes) ++ (if is_empty bytes then [] else codes " " ++ escaped bytes)
@@ -39,6 +43,10 @@ read_words (Err refusal) = refusal_words refusal
 abbrev pub item_words : Item → List ℕ
 item_words (Pulse code value) = codes "pulse " ++ decimal code ++ codes " " ++ decimal value
 item_words (ReadDone handle read) = codes "done " ++ decimal handle ++ codes " " ++ read_words read
+
+-- a pulse
+abbrev pub pulse_words : ℕ → ℕ → List ℕ
+pulse_words code value = item_words (Pulse code value)
 
 abbrev pub flag_word : Bool → List ℕ
 flag_word flag = if flag then codes "1" else codes "0"

@@ -1,6 +1,6 @@
 -- What the parts of serving a script do.
 use Rattle.std.specs.Prelude.{◌≡◌, ◌≢◌, ◌⊎◌, ℕ, ◌+◌, min, length, Bool, true, false, List, [], ◌∷◌, ◌++◌, Option, Some, None, Result, Ok, Err}
-use Rattle.std.specs.Io.KnownBytes.{Appends, Consumes, IsAtEnd}
+use Rattle.std.specs.Io.KnownBytes.{Consumes, IsAtEnd}
 use Rattle.std.specs.Result.{MatchResult}
 use Rattle.pps_types.specs.declared.event.Event.{Event}
 use Rattle.pps_types.specs.Outcome.{Reply}
@@ -13,6 +13,7 @@ use Rattle.pps_types.specs.declared.exchange.Exchange.{Exchange}
 use Rattle.pps_types.specs.Exchange.{input_of, output_of, held_in}
 use Rattle.pps_types.specs.Runs.{Answered, events_of}
 use Rattle.pps_types.specs.Stands.{StepsSeen, RunsSeen}
+use Rattle.pps_engine.specs.Serving.{Serving}
 use Rattle.pps_script.specs.declared.manner.Manner.{Manner}
 use Rattle.pps_script.specs.declared.script_line.ScriptLine.{ScriptLine}
 use Rattle.pps_script.specs.declared.script_line.ScriptLine.TheVariants.{Nothing, Command}
@@ -21,6 +22,7 @@ use Rattle.pps_script.specs.declared.fault.ScriptFault.TheVariants.{BadLine, Out
 use Rattle.pps_script.specs.declared.line.LineFault.{LineFault}
 use Rattle.pps_script.specs.declared.line.LineFault.TheVariants as lacks
 use Rattle.pps_script.specs.declared.session.Session.{Session}
+use Rattle.pps_script.specs.ScriptLines.{line_of}
 use Rattle.pps_script.specs.Script.{script, whole_lines, printed, answers_of}
 use Rattle.pps_script.specs.Served.{most_reads, reads_from}
 
@@ -41,6 +43,14 @@ Unanswered old said new = new ≡ old
 abbrev pub FailsLine : Content → Option ScriptLine → Content → LineFault → Type 0
 FailsLine old said new lacks.BadLine = (said ≡ None) × (new ≡ old)
 FailsLine old said new lacks.OutOfMemory = Unanswered old said new
+
+-- the line that has these bytes is served, and this text is printed
+abbrev pub ServesBytes : Bool → (old new : Serving) → (line text : List ℕ) → Type 0
+ServesBytes show old new line text = ServesLine show old.content (line_of line) text new.content
+
+-- or it is not, and this is why
+abbrev pub FailsBytes : (old new : Serving) → List ℕ → LineFault → Type 0
+FailsBytes old new line fault = FailsLine old.content (line_of line) new.content fault
 
 -- ---- lines, and the answers to them behind those that were held
 
@@ -129,6 +139,12 @@ abbrev pub LineFaultIs : {X : Type 0} → Result X ScriptFault → (failed_old f
 LineFaultIs (Ok x) failed_old failed_new old new = (failed_new ≡ failed_old) × (new ≡ old)
 LineFaultIs (Err WriteFault) failed_old failed_new old new = (failed_new ≡ true) ⊎ (new ≡ counted_once_more old)
 LineFaultIs (Err fault) failed_old failed_new old new = (failed_new ≡ failed_old) × (new ≡ old)
+
+-- WriteFault is answered only where the output of an exchange had it
+abbrev pub AnswersLineFault : {R W X : Type 0} → (old new : Exchange R W) → Result X ScriptFault → Type 0
+AnswersLineFault old new result =
+    LineFaultIs result (device_failed (output_of old)) (device_failed (output_of new))
+    (device_stalls (output_of old)) (device_stalls (output_of new))
 
 -- the same of an exchange, and of a session that counts the lines
 abbrev pub ServesTextOn : {R W : Type 0} → (W → Option (List ℕ)) → Session → Session → Exchange R W → Exchange R W → Content → Content → (text part : List ℕ) → Type 0

@@ -3,13 +3,15 @@ use Rattle.std.specs.Prelude.{◌≡◌, ◌⊎◌, ℕ, ◌+◌, min, Bool, tru
 use Rattle.std.specs.Io.KnownBytes.{Appends, Consumes, IsAtEnd}
 use Rattle.pps_types.specs.declared.event.Event.{Event}
 use Rattle.pps_types.specs.Content.{Content}
-use Rattle.pps_types.specs.Device.{counted_once_more, last_count}
+use Rattle.pps_types.specs.Device.{device_inner, device_failed, device_reads, device_stalls, counted_once_more, last_count}
+use Rattle.pps_types.specs.declared.exchange.Exchange.{Exchange}
+use Rattle.pps_types.specs.Exchange.{input_of, output_of}
 use Rattle.pps_types.specs.Runs.{Answered, events_of}
 use Rattle.pps_types.specs.Stands.{Runs, RunsSeen}
 use Rattle.pps_script.specs.declared.manner.Manner.{Manner}
 use Rattle.pps_script.specs.declared.fault.ScriptFault.{ScriptFault}
 use Rattle.pps_script.specs.declared.fault.ScriptFault.TheVariants.{BadLine, OutOfMemory, ReadFault, WriteFault}
-use Rattle.pps_script.specs.Script.{Script, script, script_of, whole_lines, answers_of}
+use Rattle.pps_script.specs.Script.{script, script_of, whole_lines, answers_of}
 
 -- This text was read, and these events were served: the answers are those of every machine that the service was.
 pub record Serves (from to : Option (List ℕ)) (old new : Content) (text : List ℕ) (answered : List Answered) : Type 0 where
@@ -77,3 +79,18 @@ FaultsAre (Err (BadLine line)) r w reads_old reads_new stalls_old stalls_new = (
 FaultsAre (Err OutOfMemory) r w reads_old reads_new stalls_old stalls_new = (r ≡ false) × (w ≡ false)
 FaultsAre (Err ReadFault) r w reads_old reads_new stalls_old stalls_new = ((r ≡ true) ⊎ (reads_new ≡ reads_from reads_old most_reads)) × (w ≡ false)
 FaultsAre (Err WriteFault) r w reads_old reads_new stalls_old stalls_new = (r ≡ false) × ((w ≡ true) ⊎ (stalls_new ≡ counted_once_more stalls_old))
+
+-- ---- over an exchange
+
+-- what became of a script that came in over it
+abbrev pub RanOver : {R W X : Type 0} → (R → Option (List ℕ)) → (W → Option (List ℕ)) → Manner → (from to : Exchange R W)
+    → Content → Content → Result X ScriptFault → Type 0
+RanOver remaining contents how from to old new result =
+    Ran how (remaining (device_inner (input_of from))) (remaining (device_inner (input_of to)))
+    (contents (device_inner (output_of from))) (contents (device_inner (output_of to))) old new result
+
+-- a fault of a device is answered only where its devices had it
+abbrev pub AnswersFault : {R W X : Type 0} → (from to : Exchange R W) → Result X ScriptFault → Type 0
+AnswersFault from to result =
+    FaultsAre result (device_failed (input_of to)) (device_failed (output_of to))
+    (device_reads (input_of from)) (device_reads (input_of to)) (device_stalls (output_of from)) (device_stalls (output_of to))

@@ -1,6 +1,6 @@
 //! Answers, as lines.
-ghost use Rattle.std.specs.Prelude.{◌≡◌, ◌++◌, OnOk, codes, decimal};
-ghost use Rattle.pps_script.specs.Answer as script;
+ghost use Rattle.std.specs.Prelude.{◌≡◌, ◌++◌, OnOk, decimal};
+ghost use Rattle.pps_script.specs.Answer.{space, counted_words, data_words, argument_word, refusal_words, read_words, pulse_words, item_words, outcome_words, answer_words, answer_line};
 
 use crate::escapes::push_escaped;
 use itoa::Buffer;
@@ -21,7 +21,7 @@ fn push_number(out: &mut Vec<u8>, number: u64) -> Result<(), AllocError>
 /// Pushes how many bytes there are, and the bytes, if there are any.
 #[tactic(auto, using(crate::proofs::Regroup::regroup))]
 pub(crate) fn push_counted(out: &mut Vec<u8>, bytes: &[u8]) -> Result<(), AllocError>
-    ensures { OnOk result (out.new.items ≡ out.old.items ++ script.counted_words bytes.now) }
+    ensures { OnOk result (out.new.items ≡ out.old.items ++ counted_words bytes.now) }
 {
     push_number(out, bytes.len() as u64)?;
     if bytes.is_empty() {
@@ -34,7 +34,7 @@ pub(crate) fn push_counted(out: &mut Vec<u8>, bytes: &[u8]) -> Result<(), AllocE
 // Pushes a space, and bytes that were read.
 #[tactic(auto, using(crate::proofs::Regroup::regroup))]
 fn push_data(out: &mut Vec<u8>, bytes: &[u8]) -> Result<(), AllocError>
-    ensures { OnOk result (out.new.items ≡ out.old.items ++ codes " " ++ script.data_words bytes.now) }
+    ensures { OnOk result (out.new.items ≡ out.old.items ++ space ++ data_words bytes.now) }
 {
     out.extend_from_slice(b" data ")?;
     push_counted(out, bytes)
@@ -43,7 +43,7 @@ fn push_data(out: &mut Vec<u8>, bytes: &[u8]) -> Result<(), AllocError>
 // Pushes what a refusal carries, if it carries anything.
 #[tactic(auto, using(crate::proofs::Regroup::regroup))]
 fn push_argument(out: &mut Vec<u8>, refusal: Refusal) -> Result<(), AllocError>
-    ensures { OnOk result (out.new.items ≡ out.old.items ++ script.argument_word refusal) }
+    ensures { OnOk result (out.new.items ≡ out.old.items ++ argument_word refusal) }
 {
     match refusal {
         Refusal::BadText { .. }
@@ -60,7 +60,7 @@ fn push_argument(out: &mut Vec<u8>, refusal: Refusal) -> Result<(), AllocError>
 // Pushes a space, and a refusal.
 #[tactic(auto, using(crate::proofs::Regroup::regroup))]
 fn push_refusal(out: &mut Vec<u8>, refusal: Refusal) -> Result<(), AllocError>
-    ensures { OnOk result (out.new.items ≡ out.old.items ++ codes " " ++ script.refusal_words refusal) }
+    ensures { OnOk result (out.new.items ≡ out.old.items ++ space ++ refusal_words refusal) }
 {
     out.extend_from_slice(b" refused ")?;
     push_number(out, u64::from(refusal.number()))?;
@@ -71,7 +71,7 @@ fn push_refusal(out: &mut Vec<u8>, refusal: Refusal) -> Result<(), AllocError>
 
 // Pushes a space, and the bytes of a read, or why it is refused.
 fn push_read(out: &mut Vec<u8>, read: &Result<SharedBytes, Refusal>) -> Result<(), AllocError>
-    ensures { OnOk result (out.new.items ≡ out.old.items ++ codes " " ++ script.read_words read.now) }
+    ensures { OnOk result (out.new.items ≡ out.old.items ++ space ++ read_words read.now) }
 {
     match read {
         Ok(bytes) => push_data(out, bytes.as_slice()),
@@ -82,7 +82,7 @@ fn push_read(out: &mut Vec<u8>, read: &Result<SharedBytes, Refusal>) -> Result<(
 // Pushes a space, and a pulse.
 #[tactic(auto, using(crate::proofs::Regroup::regroup))]
 fn push_pulse(out: &mut Vec<u8>, code: u8, value: u32) -> Result<(), AllocError>
-    ensures { OnOk result (out.new.items ≡ out.old.items ++ codes " " ++ script.item_words (Item.Pulse code value)) }
+    ensures { OnOk result (out.new.items ≡ out.old.items ++ space ++ pulse_words code value) }
 {
     out.extend_from_slice(b" pulse ")?;
     push_number(out, u64::from(code))?;
@@ -93,7 +93,7 @@ fn push_pulse(out: &mut Vec<u8>, code: u8, value: u32) -> Result<(), AllocError>
 // Pushes a space, and what a Receive took.
 #[tactic(auto, using(crate::proofs::Regroup::regroup))]
 fn push_item(out: &mut Vec<u8>, item: &Item) -> Result<(), AllocError>
-    ensures { OnOk result (out.new.items ≡ out.old.items ++ codes " " ++ script.item_words item.now) }
+    ensures { OnOk result (out.new.items ≡ out.old.items ++ space ++ item_words item.now) }
 {
     match item {
         Item::Pulse { code, value } => push_pulse(out, *code, *value),
@@ -108,7 +108,7 @@ fn push_item(out: &mut Vec<u8>, item: &Item) -> Result<(), AllocError>
 // Pushes a space, and what was done.
 #[tactic(auto, using(crate::proofs::Regroup::regroup))]
 fn push_outcome(out: &mut Vec<u8>, outcome: &Outcome) -> Result<(), AllocError>
-    ensures { OnOk result (out.new.items ≡ out.old.items ++ codes " " ++ script.outcome_words outcome.now) }
+    ensures { OnOk result (out.new.items ≡ out.old.items ++ space ++ outcome_words outcome.now) }
 {
     match outcome {
         Outcome::Done => out.extend_from_slice(b" ok"),
@@ -131,7 +131,7 @@ fn push_outcome(out: &mut Vec<u8>, outcome: &Outcome) -> Result<(), AllocError>
 
 // Pushes a space, and an answer.
 fn push_answer(out: &mut Vec<u8>, answer: &Result<Outcome, Refusal>) -> Result<(), AllocError>
-    ensures { OnOk result (out.new.items ≡ out.old.items ++ codes " " ++ script.answer_words answer.now) }
+    ensures { OnOk result (out.new.items ≡ out.old.items ++ space ++ answer_words answer.now) }
 {
     match answer {
         Ok(outcome) => push_outcome(out, outcome),
@@ -149,7 +149,7 @@ pub fn print_answer(
     conn: Conn,
     answer: &Result<Outcome, Refusal>,
 ) -> Result<(), AllocError>
-    ensures { OnOk result (out.new.items ≡ out.old.items ++ script.answer_line conn answer.now) }
+    ensures { OnOk result (out.new.items ≡ out.old.items ++ answer_line conn answer.now) }
 {
     push_number(out, u64::from(conn.number()))?;
     push_answer(out, answer)?;

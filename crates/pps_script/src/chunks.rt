@@ -3,6 +3,7 @@ ghost use Rattle.std.specs.Prelude.{◌≡◌, ◌+◌, ◌*◌, ◌<◌, ◌≤
 ghost use Rattle.std.specs.Simd.Lanes.{mask_l};
 ghost use lib.Count.{count_trailing_zeros};
 ghost use Rattle.pps_script.specs.Escapes as escapes;
+ghost use Rattle.pps_script.specs.Escapes.{escaped, escaped_byte};
 
 use std::simd::prelude::*;
 
@@ -58,7 +59,7 @@ fn before_bits(bits: u64) -> usize
 fn plain_front(bytes: &[u8]) -> usize
     requires { 16 ≤ length bytes.now }
     ensures within { result ≤ 16 }
-    ensures plain { escapes.escaped (take result bytes.now) ≡ take result bytes.now }
+    ensures plain { escaped (take result bytes.now) ≡ take result bytes.now }
 {
     let chunk = u8x16::from_slice(bytes);
     let low = before_bits(low_bits(chunk));
@@ -117,7 +118,7 @@ fn is_plain(byte: u8) -> bool
 fn put_shown(text: &mut [u8], at: usize, byte: u8) -> usize
     requires { at + 4 ≤ length text.old }
     ensures within { result ≤ at + 4 }
-    ensures text { take result text.new ≡ take at text.old ++ escapes.escaped_byte byte }
+    ensures text { take result text.new ≡ take at text.old ++ escaped_byte byte }
 {
     if is_plain(byte) {
         return put(text, at, byte);
@@ -144,7 +145,7 @@ fn write_chunk(text: &mut [u8], at: usize, bytes: &[u8]) -> (usize, usize)
     ensures taken { result.0 ≤ length bytes.now }
     ensures within { result.1 ≤ at + 20 }
     ensures short { result.1 ≤ at + 4 * result.0 }
-    ensures text { take result.1 text.new ≡ take at text.old ++ escapes.escaped (take result.0 bytes.now) }
+    ensures text { take result.1 text.new ≡ take at text.old ++ escaped (take result.0 bytes.now) }
 {
     let plain = plain_front(bytes);
     let end = put_front(text, at, bytes, plain);
@@ -160,7 +161,7 @@ fn write_chunks(text: &mut [u8; ROOM], bytes: &[u8]) -> (usize, usize)
     ensures some { 0 < result.0 }
     ensures taken { result.0 ≤ length bytes.now }
     ensures within { result.1 ≤ 256 }
-    ensures text { take result.1 text.new ≡ escapes.escaped (take result.0 bytes.now) }
+    ensures text { take result.1 text.new ≡ escaped (take result.0 bytes.now) }
 {
     let (mut taken, mut end) = write_chunk(text, 0, bytes);
     'chunks: while CHUNK <= bytes.len() - taken && end <= ROOM - STEP_MAX {
@@ -177,7 +178,7 @@ fn put_few(text: &mut [u8], at: usize, bytes: &[u8]) -> usize
     requires few { length bytes.now < 16 }
     requires room { at + 76 ≤ length text.old }
     ensures within { result ≤ at + 76 }
-    ensures text { take result text.new ≡ take at text.old ++ escapes.escaped bytes.now }
+    ensures text { take result text.new ≡ take at text.old ++ escaped bytes.now }
 {
     let mut padded = [b' '; 2 * CHUNK];
     padded[..bytes.len()].copy_from_slice(bytes);
@@ -198,7 +199,7 @@ pub(crate) fn write_piece(text: &mut [u8; ROOM], bytes: &[u8]) -> (usize, usize)
     ensures some { 0 < result.0 }
     ensures taken { result.0 ≤ length bytes.now }
     ensures within { result.1 ≤ 256 }
-    ensures text { take result.1 text.new ≡ escapes.escaped (take result.0 bytes.now) }
+    ensures text { take result.1 text.new ≡ escaped (take result.0 bytes.now) }
 {
     if bytes.len() < CHUNK {
         return (bytes.len(), put_few(text, 0, bytes));

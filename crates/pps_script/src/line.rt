@@ -1,8 +1,7 @@
 //! One line of a script, served.
 ghost use Rattle.std.specs.Prelude.{◌≡◌, ◌++◌, IfErr, OnOk};
-ghost use Rattle.pps_script.specs.ScriptLines.{line_of};
 ghost use Rattle.pps_script.specs.Script.{shown_for, printed};
-ghost use Rattle.pps_script.specs.Lines.{ServesLine, FailsLine};
+ghost use Rattle.pps_script.specs.Lines.{ServesBytes, FailsBytes};
 ghost use Rattle.pps_script.specs.declared.line.LineFault.TheVariants.{OutOfMemory};
 
 use crate::answer::print_answer;
@@ -72,8 +71,8 @@ pub(crate) fn serve_line(
     line: &[u8],
     text: &mut Vec<u8>,
 ) -> Result<(), LineFault>
-    ensures served { OnOk result (ServesLine show engine.old.content (line_of line.now) text.new.items engine.new.content) }
-    ensures fault { IfErr result (λ fault. FailsLine engine.old.content (line_of line.now) engine.new.content fault) }
+    ensures served { OnOk result (ServesBytes show engine.old engine.new line.now text.new.items) }
+    ensures fault { IfErr result (λ fault. FailsBytes engine.old engine.new line.now fault) }
 {
     text.clear();
     match read_line(alloc, line)? {

@@ -1,8 +1,8 @@
 //! A script, served from its first byte to its last.
 ghost use Rattle.std.specs.Prelude.{◌≡◌, ◌<◌, [], false, length};
-ghost use Rattle.pps_types.specs.Device.{device_inner, device_failed, device_reads, device_stalls};
+ghost use Rattle.pps_types.specs.Device.{device_failed};
 ghost use Rattle.pps_types.specs.Exchange.{input_of, output_of, held_in};
-ghost use Rattle.pps_script.specs.Served.{Ran, FaultsAre};
+ghost use Rattle.pps_script.specs.Served.{RanOver, AnswersFault};
 ghost use Rattle.pps_script.specs.Lines.{RunsPieces, PieceFaultsAre, count_of, ends_cut_off};
 
 use crate::fault::ScriptFault;
@@ -76,12 +76,9 @@ pub fn serve_script<R: Read, W: Write, B: BadLines>(
     requires input { device_failed (input_of exchange.old) ≡ false }
     requires output { device_failed (output_of exchange.old) ≡ false }
     requires held { held_in exchange.old ≡ [] }
-    ensures ran { Ran manner (R.remaining (device_inner (input_of exchange.old))) (R.remaining (device_inner (input_of exchange.new)))
-        (W.contents (device_inner (output_of exchange.old))) (W.contents (device_inner (output_of exchange.new)))
+    ensures ran { RanOver R.remaining W.contents manner exchange.old exchange.new
         engine.old.content engine.new.content result }
-    ensures fault { FaultsAre result (device_failed (input_of exchange.new)) (device_failed (output_of exchange.new))
-        (device_reads (input_of exchange.old)) (device_reads (input_of exchange.new))
-        (device_stalls (output_of exchange.old)) (device_stalls (output_of exchange.new)) }
+    ensures fault { AnswersFault exchange.old exchange.new result }
 {
     let mut buffer = Vec::new(alloc);
     buffer.resize(PIECE, 0u8)?;

@@ -1,8 +1,8 @@
 //! The lines of a script, as they come.
-ghost use Rattle.std.specs.Prelude.{◌≡◌, ◌++◌, ◌∷◌, [], IfOk, IfErr, OnOk};
-ghost use Rattle.pps_types.specs.Device.{device_failed, device_stalls, counted_once_more};
-ghost use Rattle.pps_types.specs.Exchange.{input_of, output_of};
-ghost use Rattle.pps_script.specs.Lines.{RunsLine, ServesTextOn, EndsTextOn, RunsText, RunsRest, LineFaultIs, IsPart, count_of};
+ghost use Rattle.std.specs.Prelude.{◌≡◌, ◌++◌, [], IfOk, IfErr, OnOk};
+ghost use Rattle.pps_types.specs.Device.{counted_once_more};
+ghost use Rattle.pps_types.specs.Exchange.{input_of};
+ghost use Rattle.pps_script.specs.Lines.{RunsLine, ServesTextOn, EndsTextOn, RunsText, RunsRest, AnswersLineFault, IsPart, count_of};
 
 use crate::fault::ScriptFault;
 use crate::line::{LineFault, serve_line};
@@ -49,8 +49,7 @@ impl Session {
         ensures count { count_of self.new ≡ counted_once_more (count_of self.old) }
         ensures runs { RunsLine W.contents self.old exchange.old exchange.new
             engine.old.content engine.new.content line.now result }
-        ensures fault { LineFaultIs result (device_failed (output_of exchange.old)) (device_failed (output_of exchange.new))
-            (device_stalls (output_of exchange.old)) (device_stalls (output_of exchange.new)) }
+        ensures fault { AnswersLineFault exchange.old exchange.new result }
         ensures input { input_of exchange.new ≡ input_of exchange.old }
     {
         self.lines = self.lines.saturating_add(1);
@@ -79,12 +78,11 @@ impl Session {
     ) -> Result<&'t [u8], ScriptFault>
         ensures manner { self.new.manner ≡ self.old.manner }
         ensures part { IfOk result (λ part. IsPart part.now) }
-        ensures serves { IfOk result (λ part. ServesTextOn W.contents self.old self.new exchange.old exchange.new
-            engine.old.content engine.new.content text.now part.now) }
-        ensures ends { IfErr result (λ fault. EndsTextOn W.contents self.old exchange.old exchange.new
-            engine.old.content engine.new.content text.now fault) }
-        ensures fault { LineFaultIs result (device_failed (output_of exchange.old)) (device_failed (output_of exchange.new))
-            (device_stalls (output_of exchange.old)) (device_stalls (output_of exchange.new)) }
+        ensures serves { IfOk result (λ part. ServesTextOn W.contents self.old self.new
+            exchange.old exchange.new engine.old.content engine.new.content text.now part.now) }
+        ensures ends { IfErr result (λ fault. EndsTextOn W.contents self.old
+            exchange.old exchange.new engine.old.content engine.new.content text.now fault) }
+        ensures fault { AnswersLineFault exchange.old exchange.new result }
         ensures input { input_of exchange.new ≡ input_of exchange.old }
     {
         let mut rest = text;
@@ -109,8 +107,7 @@ impl Session {
         ensures part { OnOk result (IsPart part.new.items) }
         ensures runs { RunsText W.contents self.old self.new exchange.old exchange.new
             engine.old.content engine.new.content piece.now part.new.items result }
-        ensures fault { LineFaultIs result (device_failed (output_of exchange.old)) (device_failed (output_of exchange.new))
-            (device_stalls (output_of exchange.old)) (device_stalls (output_of exchange.new)) }
+        ensures fault { AnswersLineFault exchange.old exchange.new result }
         ensures input { input_of exchange.new ≡ input_of exchange.old }
     {
         let rest = self.run_lines(engine, exchange, bad_lines, piece)?;
@@ -131,9 +128,9 @@ impl Session {
         ensures manner { self.new.manner ≡ self.old.manner }
         ensures part { OnOk result (IsPart part.new.items) }
         ensures runs { RunsText W.contents self.old self.new exchange.old exchange.new
-            engine.old.content engine.new.content (part.old.items ++ piece.now) part.new.items result }
-        ensures fault { LineFaultIs result (device_failed (output_of exchange.old)) (device_failed (output_of exchange.new))
-            (device_stalls (output_of exchange.old)) (device_stalls (output_of exchange.new)) }
+            engine.old.content engine.new.content
+            (part.old.items ++ piece.now) part.new.items result }
+        ensures fault { AnswersLineFault exchange.old exchange.new result }
         ensures input { input_of exchange.new ≡ input_of exchange.old }
     {
         if part.is_empty() {
@@ -159,8 +156,7 @@ impl Session {
     ) -> Result<(), ScriptFault>
         ensures runs { RunsRest W.contents self.old exchange.old exchange.new
             engine.old.content engine.new.content part.now result }
-        ensures fault { LineFaultIs result (device_failed (output_of exchange.old)) (device_failed (output_of exchange.new))
-            (device_stalls (output_of exchange.old)) (device_stalls (output_of exchange.new)) }
+        ensures fault { AnswersLineFault exchange.old exchange.new result }
         ensures input { input_of exchange.new ≡ input_of exchange.old }
     {
         if part.is_empty() {

@@ -1,7 +1,7 @@
 //! What is shown of the values in the bytes of a read.
 ghost use Rattle.std.specs.Prelude.{◌≡◌, ◌++◌, IfOk, OnOk};
 ghost use Rattle.pps_types.specs.Text.{write_line};
-ghost use Rattle.pps_script.specs.ShownLines as script;
+ghost use Rattle.pps_script.specs.ShownLines.{value_words, named_line, shown_line, shown_lines};
 
 use crate::answer::push_counted;
 use attr_text::{first_line, read_write_line, show_value};
@@ -10,7 +10,7 @@ use std::alloc::{AllocError, Global};
 
 #[tactic(auto, using(crate::proofs::Regroup::regroup))]
 fn push_value(out: &mut Vec<u8>, shown: &Shown) -> Result<(), AllocError>
-    ensures { OnOk result (out.new.items ≡ out.old.items ++ script.value_words shown.now) }
+    ensures { OnOk result (out.new.items ≡ out.old.items ++ value_words shown.now) }
 {
     match shown {
         Shown::Plain => Ok(()),
@@ -27,7 +27,7 @@ fn push_value(out: &mut Vec<u8>, shown: &Shown) -> Result<(), AllocError>
 // Pushes the line of a value, if it has one.
 #[tactic(auto, using(crate::proofs::Regroup::regroup))]
 fn push_named(out: &mut Vec<u8>, name: &[u8], shown: &Shown) -> Result<(), AllocError>
-    ensures { OnOk result (out.new.items ≡ out.old.items ++ script.named_line name.now shown.now) }
+    ensures { OnOk result (out.new.items ≡ out.old.items ++ named_line name.now shown.now) }
 {
     if let Shown::Plain = shown {
         return Ok(());
@@ -41,7 +41,7 @@ fn push_named(out: &mut Vec<u8>, name: &[u8], shown: &Shown) -> Result<(), Alloc
 
 // Pushes what is shown of a line.
 fn push_shown(alloc: Global, out: &mut Vec<u8>, line: &[u8]) -> Result<(), AllocError>
-    ensures { OnOk result (out.new.items ≡ out.old.items ++ script.shown_line (write_line line.now)) }
+    ensures { OnOk result (out.new.items ≡ out.old.items ++ shown_line (write_line line.now)) }
 {
     let Some(
         WriteLine::Set {
@@ -66,7 +66,7 @@ fn push_shown(alloc: Global, out: &mut Vec<u8>, line: &[u8]) -> Result<(), Alloc
 /// It is two spaces, the name, and `true`, `false`, `bytes` with their number and the bytes, escaped as in answers, or
 /// `bad`.
 pub fn print_shown(alloc: Global, bytes: &[u8]) -> Result<Vec<u8>, AllocError>
-    ensures { IfOk result (λ text. text.items ≡ script.shown_lines bytes.now) }
+    ensures { IfOk result (λ text. text.items ≡ shown_lines bytes.now) }
 {
     let mut out = Vec::new(alloc);
     let mut rest = bytes;

@@ -1,5 +1,6 @@
 -- Words on bytes that the grammars of texts share. Own.
 use Rattle.std.specs.Prelude.{ℕ, ◌+◌, ◌-◌, ◌*◌, List, [], ◌∷◌, Bool, true, false, not, ◌&&◌, ◌==◌, nat_le, nat_eq, if◌then◌else◌, Option, Some, None, option_map, Result, Ok, Err, length}
+use Rattle.std.specs.Borrow.{Bor}
 use Rattle.std.specs.List.{list_all}
 use lib.Pointwise.{pointwise}
 
@@ -53,6 +54,10 @@ split_at_first c (b ∷ bs) = if b == c then Some ([], bs) else option_map (λ p
 abbrev pub onto_first : ℕ → List (List ℕ) → List (List ℕ)
 onto_first b [] = (b ∷ []) ∷ []
 onto_first b (p ∷ ps) = (b ∷ p) ∷ ps
+
+-- two parts that are lent
+abbrev pub lent_parts : Option (Bor (List ℕ) × Bor (List ℕ)) → Option (List ℕ × List ℕ)
+lent_parts lent = option_map (λ parts. (parts.0.now, parts.1.now)) lent
 
 -- the pieces between the bytes c: one more than there are of these
 abbrev pub pieces : ℕ → List ℕ → List (List ℕ)

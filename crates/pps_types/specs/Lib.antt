@@ -28,3 +28,4 @@ pub mod Restore
 pub mod Merge
 pub mod Privacy
 pub mod Rising
+pub mod Refused

@@ -1,10 +1,9 @@
 //! Requests that come in, and their answers, which go out before more is read.
-ghost use Rattle.std.specs.Prelude.{◌≡◌, ◌||◌, [], IfOk, is_err};
+ghost use Rattle.std.specs.Prelude.{◌≡◌, [], IfOk};
 ghost use Rattle.std.specs.Io.{ReadsAtMost};
-ghost use Rattle.std.specs.Io.KnownBytes.{ReadConsumes};
-ghost use Rattle.pps_types.specs.Device.{device_inner, device_failed, device_reads, device_stalls, counted_once_more};
-ghost use Rattle.pps_types.specs.Writing.{FailsAsTold};
-ghost use Rattle.pps_types.specs.Exchange.{input_of, output_of, held_in, Answers, SendsHeld, AnswerFaultIs};
+ghost use Rattle.pps_types.specs.Device.{RecordsFailure, CountsRead};
+ghost use Rattle.pps_types.specs.Exchange.{input_of, output_of, held_in};
+ghost use Rattle.pps_types.specs.Exchange.{ReadsInput, AddsAnswer, AddsFirstAnswer, SendsAnswers, FailsWithOutput, AnswersOutputFault};
 ghost use Rattle.pps_types.specs.declared.exchange.AnswerFault.TheVariants.{OutOfMemory, WriteFault};
 
 use crate::device::{Device, WriteFault};
@@ -67,14 +66,30 @@ impl<R: Drop, W: Drop> Exchange<R, W> {
     }
 }
 
+impl<R, W> Exchange<R, W> {
+    ghost use Rattle.std.specs.Borrow.{sem, Lends};
+    ghost use Rattle.pps_types.specs.contracts.exchange.Exchange.{the_row};
+    ghost use Rattle.pps_types.specs.contracts.device.Device.{the_row as device_row};
+    ghost use Rattle.pps_types.specs.Exchange.{with_output};
+
+    /// The output, lent. What is written to it comes before what is held.
+    pub fn output(&mut self) -> &mut Device<W>
+        ensures* writes_back { sem 𝓛 (Lends (the_row R.row W.row) (device_row W.row) self.entry result
+            (with_output self.old)) }
+        ensures value { result.now ≡ output_of self.old }
+    {
+        &mut self.output
+    }
+}
+
 impl<R: Read, W> Exchange<R, W> {
     /// Reads once, and passes the answer on.
     pub fn read(&mut self, buf: &mut [u8]) -> io::Result<usize>
         requires { held_in self.old ≡ [] }
         ensures bound { ReadsAtMost result buf.new }
-        ensures bytes { ReadConsumes (R.remaining (device_inner (input_of self.old))) (R.remaining (device_inner (input_of self.new))) result buf.new }
-        ensures failed { device_failed (input_of self.new) ≡ (device_failed (input_of self.old) || is_err result) }
-        ensures reads { device_reads (input_of self.new) ≡ counted_once_more (device_reads (input_of self.old)) }
+        ensures bytes { ReadsInput R.remaining self.old self.new result buf.new }
+        ensures failed { RecordsFailure (input_of self.old) (input_of self.new) result }
+        ensures reads { CountsRead (input_of self.old) (input_of self.new) }
         ensures output { output_of self.new ≡ output_of self.old }
         ensures held { held_in self.new ≡ [] }
     {
@@ -85,8 +100,8 @@ impl<R: Read, W> Exchange<R, W> {
 impl<R, W: Write> Exchange<R, W> {
     // Writes what is held.
     fn write_held(&mut self) -> Result<(), WriteFault>
-        ensures bytes { SendsHeld (W.contents (device_inner (output_of self.old))) (held_in self.old) (W.contents (device_inner (output_of self.new))) (held_in self.new) result }
-        ensures fault { FailsAsTold result (device_failed (output_of self.old)) (device_failed (output_of self.new)) (device_stalls (output_of self.old)) (device_stalls (output_of self.new)) }
+        ensures bytes { SendsAnswers W.contents self.old self.new result }
+        ensures fault { FailsWithOutput self.old self.new result }
         ensures input { input_of self.new ≡ input_of self.old }
     {
         self.output.write_all(self.held.as_slice())?;
@@ -97,8 +112,8 @@ impl<R, W: Write> Exchange<R, W> {
     // Takes an answer where nothing is held: it is held, or written if it is longer than all the room.
     fn answer_first(&mut self, bytes: &[u8]) -> Result<(), AnswerFault>
         requires { held_in self.old ≡ [] }
-        ensures bytes { Answers (W.contents (device_inner (output_of self.old))) [] (W.contents (device_inner (output_of self.new))) (held_in self.new) bytes.now result }
-        ensures fault { AnswerFaultIs result (device_failed (output_of self.old)) (device_failed (output_of self.new)) (device_stalls (output_of self.old)) (device_stalls (output_of self.new)) }
+        ensures bytes { AddsFirstAnswer W.contents self.old self.new bytes.now result }
+        ensures fault { AnswersOutputFault self.old self.new result }
         ensures input { input_of self.new ≡ input_of self.old }
     {
         if bytes.len() <= HELD_MAX {
@@ -112,8 +127,8 @@ impl<R, W: Write> Exchange<R, W> {
     /// Adds an answer to those that are held. If there is no room for it, those are written first; if it is longer than
     /// all the room, it is written too.
     pub fn answer(&mut self, bytes: &[u8]) -> Result<(), AnswerFault>
-        ensures bytes { Answers (W.contents (device_inner (output_of self.old))) (held_in self.old) (W.contents (device_inner (output_of self.new))) (held_in self.new) bytes.now result }
-        ensures fault { AnswerFaultIs result (device_failed (output_of self.old)) (device_failed (output_of self.new)) (device_stalls (output_of self.old)) (device_stalls (output_of self.new)) }
+        ensures bytes { AddsAnswer W.contents self.old self.new bytes.now result }
+        ensures fault { AnswersOutputFault self.old self.new result }
         ensures input { input_of self.new ≡ input_of self.old }
     {
         if bytes.len() <= HELD_MAX.saturating_sub(self.held.len()) {
@@ -126,8 +141,8 @@ impl<R, W: Write> Exchange<R, W> {
 
     /// Sends all that is held, and passes on what the writer itself keeps back.
     pub fn send(&mut self) -> Result<(), WriteFault>
-        ensures bytes { SendsHeld (W.contents (device_inner (output_of self.old))) (held_in self.old) (W.contents (device_inner (output_of self.new))) (held_in self.new) result }
-        ensures fault { FailsAsTold result (device_failed (output_of self.old)) (device_failed (output_of self.new)) (device_stalls (output_of self.old)) (device_stalls (output_of self.new)) }
+        ensures bytes { SendsAnswers W.contents self.old self.new result }
+        ensures fault { FailsWithOutput self.old self.new result }
         ensures input { input_of self.new ≡ input_of self.old }
     {
         self.write_held()?;

@@ -1,5 +1,5 @@
 //! Texts, cut behind a prefix or at the first byte of a kind.
-ghost use Rattle.std.specs.Prelude.{◌≡◌, option_map};
+ghost use Rattle.std.specs.Prelude.{◌≡◌};
 ghost use Rattle.std.specs.Option.{option_copied};
 ghost use Rattle.pps_types.specs.Bytes as words;
 
@@ -15,8 +15,7 @@ pub fn after_prefix<'a>(prefix: &[u8], bytes: &'a [u8]) -> Option<&'a [u8]>
 /// What stands before the first of that byte, and what stands behind it.
 #[inline]
 pub fn split_at_first(byte: u8, bytes: &[u8]) -> Option<(&[u8], &[u8])>
-    ensures { option_map (λ parts. (parts.0.now, parts.1.now)) result
-        ≡ words.split_at_first byte bytes.now }
+    ensures { words.lent_parts result ≡ words.split_at_first byte bytes.now }
 {
     let at = memchr(byte, bytes)?;
     Some((&bytes[..at], &bytes[at + 1..]))

@@ -4,5 +4,6 @@ pub mod OwedTo
 pub mod Queued
 pub mod Reads
 pub mod Senders
+pub mod Shared
 pub mod Tally
 pub mod Printed

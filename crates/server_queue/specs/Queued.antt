@@ -1,5 +1,5 @@
 -- A queue with the room that was taken for more.
-use Rattle.std.specs.Prelude.{ℕ, ◌-◌, List}
+use Rattle.std.specs.Prelude.{◌≡◌, ℕ, ◌-◌, List}
 use Rattle.std.specs.declared.collections.VecDeque.{VecDeque}
 use Rattle.std.specs.VecDeque.{deque_len, deque_capacity}
 use Rattle.std.specs.HashMap.{spare}
@@ -15,6 +15,10 @@ pub record Queued : Type 0 where
   pub room : ℕ
   -- for how many more messages of clients there is memory to count them
   pub counters : ℕ
+
+-- the limits are equal and the same is owed, whatever the room
+abbrev pub AreAlike : Queued → Queued → Type 0
+AreAlike one other = (one.limit ≡ other.limit) × (one.owed ≡ other.owed)
 
 module _ {A : Type 0} where
   abbrev pub queued : ℕ → VecDeque Entry A → Counts → Queued

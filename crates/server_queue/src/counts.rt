@@ -1,6 +1,5 @@
 //! How many messages a queue has, by who sent them.
-ghost use Rattle.std.specs.Prelude.{◌≡◌, ◌<◌, ◌≤◌, ◌^◌, ◌+◌, ◌-◌, ◌≢◌, ℕ, List, [], ◌∷◌, ◌++◌, Some, None, length, nat_eq, unwrap_or, OnOk, OnErr, if◌then◌else◌};
-ghost use Rattle.std.specs.HashMap.{spare, get, IsReordered, Updates};
+ghost use Rattle.std.specs.Prelude.{◌≡◌, ◌<◌, ◌≤◌, ◌^◌, ◌+◌, ◌-◌, ℕ, List, [], Some, OnOk, OnErr};
 ghost use Rattle.pps_types.specs.History.{Entry};
 ghost use Rattle.server_queue.specs.Messages.{message_count};
 ghost use Rattle.server_queue.specs.Senders.{client_messages};
@@ -18,7 +17,7 @@ pub(crate) struct Counts {
 }
 
 impl Counts {
-    ghost use Rattle.server_queue.specs.Tally.{IsTally, counter};
+    ghost use Rattle.server_queue.specs.Tally.{IsTally, KeepsOtherCounts, CountsOneMore, CountsOneLess, count_of, messages_of, counters_in, counter};
 
     /// There are none.
     pub(crate) fn new(alloc: Global) -> Counts
@@ -33,17 +32,17 @@ impl Counts {
     /// Takes the memory to count that many more messages of clients.
     pub(crate) fn reserve(&mut self, messages: usize) -> Result<(), AllocError>
         ensures server { self.new.from_server ≡ self.old.from_server }
-        ensures clients { (client : ℕ) → get nat_eq self.new.from_clients client ≡ get nat_eq self.old.from_clients client }
-        ensures ok { OnOk result (messages ≤ spare self.new.from_clients) }
-        ensures kept { spare self.old.from_clients ≤ spare self.new.from_clients }
-        ensures lacking { OnErr result (spare self.old.from_clients < messages) }
+        ensures clients { (client : ℕ) → count_of self.new client ≡ count_of self.old client }
+        ensures ok { OnOk result (messages ≤ counters_in self.new) }
+        ensures kept { counters_in self.old ≤ counters_in self.new }
+        ensures lacking { OnErr result (counters_in self.old < messages) }
     {
         self.from_clients.reserve(messages)
     }
 
     // How many there are of a client.
     fn of_client(&self, client: Handle) -> usize
-        ensures { result ≡ unwrap_or (get nat_eq self.now.from_clients client) 0 }
+        ensures { result ≡ messages_of self.now client }
     {
         self.from_clients
             .get(&client.number())
@@ -63,12 +62,12 @@ impl Counts {
 
     // There is one more of a client.
     fn add_of_client(&mut self, client: Handle)
-        requires { 0 < spare self.old.from_clients }
+        requires { 0 < counters_in self.old }
         ensures server { self.new.from_server ≡ self.old.from_server }
-        ensures client { unwrap_or (get nat_eq self.old.from_clients client) 0 + 1 < 2 ^ 64
-            → get nat_eq self.new.from_clients client ≡ Some (unwrap_or (get nat_eq self.old.from_clients client) 0 + 1) }
-        ensures others { (other : ℕ) → other ≢ client → get nat_eq self.new.from_clients other ≡ get nat_eq self.old.from_clients other }
-        ensures spare { spare self.old.from_clients ≤ spare self.new.from_clients + 1 }
+        ensures client { messages_of self.old client + 1 < 2 ^ 64
+            → count_of self.new client ≡ Some (messages_of self.old client + 1) }
+        ensures others { KeepsOtherCounts client self.old self.new }
+        ensures spare { counters_in self.old ≤ counters_in self.new + 1 }
     {
         let count = self.of_client(client).saturating_add(1);
         let _ = self.from_clients.insert(client.number(), count);
@@ -76,10 +75,9 @@ impl Counts {
 
     /// There is one more record, of that kind. It takes no memory.
     pub(crate) fn add(&mut self, kind: &Kind)
-        requires { client_messages kind.now ≤ spare self.old.from_clients }
-        ensures tally { (owed : List Entry) (e : Entry) → length owed + 1 < 2 ^ 64 → kind.now ≡ e.record_of.kind
-            → IsTally self.old owed → IsTally self.new (owed ++ e ∷ []) }
-        ensures spare { spare self.old.from_clients ≤ spare self.new.from_clients + client_messages kind.now }
+        requires { client_messages kind.now ≤ counters_in self.old }
+        ensures tally { CountsOneMore kind.now self.old self.new }
+        ensures spare { counters_in self.old ≤ counters_in self.new + client_messages kind.now }
     {
         let Some(from) = said_by(kind) else {
             return;
@@ -93,8 +91,8 @@ impl Counts {
     // There is one less of a client, which keeps no count where it has none left.
     fn drop_of_client(&mut self, client: Handle)
         ensures server { self.new.from_server ≡ self.old.from_server }
-        ensures client { get nat_eq self.new.from_clients client ≡ counter (unwrap_or (get nat_eq self.old.from_clients client) 0 - 1) }
-        ensures others { (other : ℕ) → other ≢ client → get nat_eq self.new.from_clients other ≡ get nat_eq self.old.from_clients other }
+        ensures client { count_of self.new client ≡ counter (messages_of self.old client - 1) }
+        ensures others { KeepsOtherCounts client self.old self.new }
     {
         let count = self.of_client(client);
         if count <= 1 {
@@ -106,7 +104,7 @@ impl Counts {
 
     /// The first record, which is of that kind, is no longer there. It takes no memory.
     pub(crate) fn drop_first(&mut self, kind: &Kind)
-        ensures { (owed : List Entry) (e : Entry) → kind.now ≡ e.record_of.kind → IsTally self.old (e ∷ owed) → IsTally self.new owed }
+        ensures { CountsOneLess kind.now self.old self.new }
     {
         let Some(from) = said_by(kind) else {
             return;

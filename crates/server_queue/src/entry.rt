@@ -1,5 +1,6 @@
 //! Records that queues share.
-ghost use Rattle.std.specs.Prelude.{◌≡◌, ◌↔◌, IsTrue, IfOk, option_map};
+ghost use Rattle.std.specs.Prelude.{◌≡◌, ◌↔◌, IsTrue, IfOk};
+ghost use Rattle.std.specs.Option.{option_copied};
 ghost use Rattle.server_queue.specs.Printed.{printed_text};
 
 use crate::printed::printed;
@@ -12,7 +13,7 @@ use std::sync::Arc;
 
 /// A record, with the directory and the name of its object.
 #[derive(Drop)]
-struct Told {
+struct NamedRecord {
     directory: u64,
     name: Bytes,
     made: Record,
@@ -24,7 +25,7 @@ struct Told {
 /// A record in the history, with the directory and the name of its object. Queues share it.
 #[derive(Drop)]
 pub struct Entry {
-    told: Arc<Told>,
+    told: Arc<NamedRecord>,
 }
 
 impl Model for Entry {
@@ -37,7 +38,8 @@ impl Model for Entry {
 }
 
 impl Entry {
-    ghost use Rattle.server_queue.specs.Senders.{client_messages};
+    ghost use Rattle.server_queue.specs.Senders.{client_messages_in};
+    ghost use Rattle.server_queue.specs.Shared.{shared_entry};
 
     /// This record, so that it can be shared, with the number of the directory that its object is in, and the object's
     /// name. Lines of an object are printed, once for all handles.
@@ -49,12 +51,12 @@ impl Entry {
         name: Bytes,
         made: Record,
     ) -> Result<Entry, AllocError>
-        ensures { IfOk result (λ entry. entry ≡ record { directory = directory; name = name; record_of = made }) }
+        ensures { IfOk result (λ entry. entry ≡ shared_entry directory name made) }
     {
         let text = printed(alloc, name.as_slice(), &made.kind)?;
         let told = Arc::new(
             alloc,
-            Told {
+            NamedRecord {
                 directory,
                 name,
                 made,
@@ -87,7 +89,7 @@ impl Entry {
 
     /// Its lines, where it has some of its object, as they are printed for a handle that has no filter.
     pub fn text(&self) -> Option<&[u8]>
-        ensures { option_map (λ t. t.now) result ≡ printed_text self.now.name self.now.record_of.kind }
+        ensures { option_copied result ≡ printed_text self.now.name self.now.record_of.kind }
     {
         match &self.told.text {
             None => None,
@@ -97,7 +99,7 @@ impl Entry {
 
     /// How many messages of clients it is: one, or none. A queue counts these by client.
     pub fn client_messages(&self) -> usize
-        ensures { result ≡ client_messages self.now.record_of.kind }
+        ensures { result ≡ client_messages_in self.now }
     {
         match said_by(&self.told.made.kind) {
             Some(Sender::Client(_)) => 1,

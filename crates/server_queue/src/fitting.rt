@@ -1,8 +1,7 @@
 //! The blocks of what is queued and, behind that, of more records: how many fit, and their text.
-ghost use Rattle.std.specs.Prelude.{◌≡◌, ◌<◌, ◌≤◌, ◌+◌, ◌++◌, Some, length, take, OnOk, slice_get};
-ghost use Rattle.std.specs.List.{concat};
+ghost use Rattle.std.specs.Prelude.{◌≡◌, ◌<◌, ◌≤◌, ◌+◌, ◌++◌, Some, length, OnOk, slice_get};
 ghost use Rattle.pps_types.specs.Reading as reading;
-ghost use Rattle.server_queue.specs.Blocks.{queue_blocks};
+ghost use Rattle.server_queue.specs.Blocks.{blocks_with, first_blocks};
 
 use crate::block::{block_len, put_block};
 use crate::entry::Entry;
@@ -29,9 +28,9 @@ pub(crate) struct Fitting {
 
 /// How many blocks fit into the room, from the first on. It takes no memory.
 pub(crate) fn count_fitting(owed: &VecDeque<Entry>, extra: &[Entry], room: usize) -> Fitting
-    ensures fits { result.count ≡ (reading.fitting room (queue_blocks (owed.now.items ++ extra.now))).0 }
+    ensures fits { result.count ≡ (reading.fitting room (blocks_with owed.now extra.now)).0 }
     ensures in_range { result.count ≤ length owed.now.items + length extra.now }
-    ensures left { length (concat (take result.count (queue_blocks (owed.now.items ++ extra.now)))) + result.left ≡ room }
+    ensures left { length (first_blocks result.count owed.now extra.now) + result.left ≡ room }
 {
     let mut left = room;
     let count = owed.len() + extra.len();
@@ -55,7 +54,7 @@ pub(crate) fn put_blocks(
     count: usize,
 ) -> Result<(), AllocError>
     requires { count ≤ length owed.now.items + length extra.now }
-    ensures { OnOk result (out.new.items ≡ out.old.items ++ concat (take count (queue_blocks (owed.now.items ++ extra.now)))) }
+    ensures { OnOk result (out.new.items ≡ out.old.items ++ first_blocks count owed.now extra.now) }
 {
     'places: for place in 0..count {
         put_block(out, entry_at(owed, extra, place))?;

@@ -12,6 +12,6 @@ mod same;
 mod sender;
 
 pub use entry::Entry;
-pub use plan::Plan;
+pub use plan::GivenBlocks;
 pub use queue::Queue;
 pub use sender::Sender;

@@ -1,10 +1,10 @@
 //! What a read gives of a queue, before the queue moves on.
-ghost use Rattle.std.specs.Prelude.{◌≡◌, ◌≢◌, ◌≤◌, ◌<◌, ◌^◌, ◌+◌, ◌++◌, Some, None, length, take, IfOk, IfSome};
-ghost use Rattle.std.specs.List.{concat};
+ghost use Rattle.std.specs.Prelude.{[], ◌≡◌, ◌≢◌, ◌≤◌, ◌<◌, ◌^◌, ◌+◌, ◌++◌, Some, None, length, IfOk};
 ghost use Rattle.pps_types.specs.Names.{refusal_of};
 ghost use Rattle.pps_types.specs.declared.refusal.Refusal.TheVariants.{OutOfMemory, TooSmall};
 ghost use Rattle.pps_types.specs.Reading as reading;
-ghost use Rattle.server_queue.specs.Blocks.{queue_blocks};
+ghost use Rattle.pps_types.specs.Refused.{LacksMemory};
+ghost use Rattle.server_queue.specs.Blocks.{blocks_with, first_blocks};
 ghost use Rattle.server_queue.specs.Reads.{read_refusal, first_len};
 
 use crate::block::block_len;
@@ -16,11 +16,24 @@ use std::collections::VecDeque;
 
 /// What a read gives: the blocks of the first records.
 #[derive(Drop)]
-pub struct Plan {
+pub struct GivenBlocks {
     /// How many records it gives.
     pub count: usize,
     /// Their blocks, one after the other.
     pub text: Vec<u8>,
+}
+
+impl GivenBlocks {
+    /// No records. It takes no memory.
+    pub fn nothing(alloc: Global) -> GivenBlocks
+        ensures count { result.count ≡ 0 }
+        ensures text { result.text.items ≡ [] }
+    {
+        GivenBlocks {
+            count: 0,
+            text: Vec::new(alloc),
+        }
+    }
 }
 
 // The refusal of a read that needs so many bytes.
@@ -43,7 +56,7 @@ fn text_of(
     len: usize,
 ) -> Result<Vec<u8>, AllocError>
     requires { count ≤ length owed.now.items + length extra.now }
-    ensures { IfOk result (λ text. text.items ≡ concat (take count (queue_blocks (owed.now.items ++ extra.now)))) }
+    ensures { IfOk result (λ text. text.items ≡ first_blocks count owed.now extra.now) }
 {
     let mut text = Vec::with_capacity(alloc, len)?;
     put_blocks(&mut text, owed, extra, count)?;
@@ -59,17 +72,17 @@ pub(crate) fn plan_read(
     owed: &VecDeque<Entry>,
     extra: &[Entry],
     max: u32,
-) -> Result<Plan, Refusal>
+) -> Result<GivenBlocks, Refusal>
     ensures refusal { refusal_of result ≢ Some OutOfMemory
         → refusal_of result ≡ read_refusal (owed.now.items ++ extra.now) max }
-    ensures memory { refusal_of result ≡ Some OutOfMemory → first_len (owed.now.items ++ extra.now) < 2 ^ 32
+    ensures memory { LacksMemory result → first_len (owed.now.items ++ extra.now) < 2 ^ 32
         → read_refusal (owed.now.items ++ extra.now) max ≡ None }
-    ensures some { refusal_of result ≡ Some OutOfMemory → 0 < length (owed.now.items ++ extra.now) }
+    ensures some { LacksMemory result → 0 < length (owed.now.items ++ extra.now) }
     ensures ok { IfOk result (λ plan. (plan.count, plan.text.items)
-        ≡ reading.fitting max (queue_blocks (owed.now.items ++ extra.now))) }
+        ≡ reading.fitting max (blocks_with owed.now extra.now)) }
 {
     if owed.is_empty() && extra.is_empty() {
-        return Ok(Plan {
+        return Ok(GivenBlocks {
             count: 0,
             text: Vec::new(alloc),
         });
@@ -83,7 +96,7 @@ pub(crate) fn plan_read(
     let room = max as usize;
     let fitting = count_fitting(owed, extra, room);
     match text_of(alloc, owed, extra, fitting.count, room - fitting.left) {
-        Ok(text) => Ok(Plan {
+        Ok(text) => Ok(GivenBlocks {
             count: fitting.count,
             text,
         }),

@@ -5,15 +5,16 @@ ghost use Rattle.pps_types.specs.Names.{refusal_of};
 ghost use Rattle.pps_types.specs.declared.refusal.Refusal.TheVariants.{OutOfMemory};
 ghost use Rattle.pps_types.specs.Reading.{Open, fitting, block};
 ghost use Rattle.pps_types.specs.Rests.{Seen};
+ghost use Rattle.pps_types.specs.Refused.{LacksMemory};
 ghost use Rattle.server_queue.specs.Blocks.{queue_blocks};
 ghost use Rattle.server_queue.specs.Messages.{message_count};
 ghost use Rattle.server_queue.specs.OwedTo.{IsOwedTo};
 ghost use Rattle.server_queue.specs.Reads.{read_refusal, first_len};
-ghost use Rattle.server_queue.specs.Senders.{client_messages};
+ghost use Rattle.server_queue.specs.Senders.{client_messages_in};
 
 use crate::counts::Counts;
 use crate::entry::Entry;
-use crate::plan::{Plan, plan_read};
+use crate::plan::{GivenBlocks, plan_read};
 use crate::same::same_owed;
 use crate::sender::Sender;
 use pps_types::Refusal;
@@ -49,6 +50,8 @@ impl Model for Queue {
 }
 
 impl Queue {
+    ghost use Rattle.server_queue.specs.Queued.{AreAlike};
+
     /// A queue with nothing in it, which takes that many messages of a sender. It takes no memory.
     pub fn new(alloc: Global, limit: u32) -> Queue
         ensures limit { result.limit ≡ limit }
@@ -92,11 +95,11 @@ impl Queue {
     /// Puts a record behind all others, into room that was taken before. It takes no memory.
     pub fn push_reserved(&mut self, entry: Entry)
         requires room { 0 < self.old.room }
-        requires counters { client_messages entry.record_of.kind ≤ self.old.counters }
+        requires counters { client_messages_in entry ≤ self.old.counters }
         ensures limit { self.new.limit ≡ self.old.limit }
         ensures owed { self.new.owed ≡ self.old.owed ++ entry ∷ [] }
         ensures room { self.new.room + 1 ≡ self.old.room }
-        ensures counters { self.old.counters ≤ self.new.counters + client_messages entry.record_of.kind }
+        ensures counters { self.old.counters ≤ self.new.counters + client_messages_in entry }
     {
         self.counts.add(&entry.record().kind);
         let _ = self.owed.push_back(entry);
@@ -121,12 +124,12 @@ impl Queue {
     ///
     /// It is TooSmall, with the size, where the first block does not fit, before any memory is taken, and else
     /// OutOfMemory is the only error, where there is something to give.
-    pub fn read_plan(&self, extra: &[Entry], max: u32) -> Result<Plan, Refusal>
+    pub fn read_plan(&self, extra: &[Entry], max: u32) -> Result<GivenBlocks, Refusal>
         ensures refusal { refusal_of result ≢ Some OutOfMemory
             → refusal_of result ≡ read_refusal (self.now.owed ++ extra.now) max }
-        ensures memory { refusal_of result ≡ Some OutOfMemory → first_len (self.now.owed ++ extra.now) < 2 ^ 32
+        ensures memory { LacksMemory result → first_len (self.now.owed ++ extra.now) < 2 ^ 32
             → read_refusal (self.now.owed ++ extra.now) max ≡ None }
-        ensures some { refusal_of result ≡ Some OutOfMemory → 0 < length (self.now.owed ++ extra.now) }
+        ensures some { LacksMemory result → 0 < length (self.now.owed ++ extra.now) }
         ensures ok { IfOk result (λ plan. (plan.count, plan.text.items)
             ≡ fitting max (queue_blocks (self.now.owed ++ extra.now))) }
         ensures blocks { (h : Open Seen) → IsOwedTo h (self.now.owed ++ extra.now)
@@ -148,7 +151,7 @@ impl Queue {
 
     /// What a plan gives is no longer owed, once the records that it had behind all others are queued. It takes no
     /// memory.
-    pub fn read_commit(&mut self, plan: Plan)
+    pub fn read_commit(&mut self, plan: GivenBlocks)
         requires { plan.count ≤ length self.old.owed }
         ensures limit { self.new.limit ≡ self.old.limit }
         ensures owed { self.new.owed ≡ drop plan.count self.old.owed }
@@ -203,7 +206,7 @@ impl Queue {
 
     /// Whether the limits are equal and the same is owed in both. It takes no memory.
     pub fn same(&self, other: &Queue) -> bool
-        ensures { IsTrue result ↔ ((self.now.limit ≡ other.now.limit) × (self.now.owed ≡ other.now.owed)) }
+        ensures { IsTrue result ↔ AreAlike self.now other.now }
     {
         self.limit == other.limit && same_owed(&self.owed, &other.owed)
     }

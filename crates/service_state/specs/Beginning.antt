@@ -69,3 +69,7 @@ pub record AreReady (xs : List Beginning) (t : Tabled) : Type 0 where
 abbrev pub is_keeping : Beginning → Bool
 is_keeping (Closes conn handle parked) = true
 is_keeping (AppendsRecord told) = not (deletes told.entry.record_of.kind)
+
+-- what was ready to come after it is ready once it took effect
+abbrev pub LeavesReady : Beginning → Tabled → Tabled → Type 0
+LeavesReady x old new = (xs : List Beginning) → AreReady (x ∷ xs) old → AreReady xs new

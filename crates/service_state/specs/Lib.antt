@@ -2,6 +2,8 @@ pub mod Tables
 pub mod Moves
 pub mod Tied
 pub mod Lines
+pub mod Entries
+pub mod Places
 pub mod Following
 pub mod Beginning
 pub mod Objects

@@ -1,10 +1,13 @@
 -- The memory for lines that change an object.
-use Rattle.std.specs.Prelude.{◌≡◌, ℕ, List, Bool, true, false, Option, Some, None}
+use Rattle.std.specs.Prelude.{◌≡◌, ℕ, List, [], ◌∷◌, Bool, true, false, Option, Some, None}
 use Rattle.pps_types.specs.declared.line.Line.{Line}
 use Rattle.pps_types.specs.declared.record.Kind.{Kind}
 use Rattle.pps_types.specs.declared.record.Kind.TheVariants.{Change, Deleted}
 use Rattle.pps_types.specs.History.{Entry}
+use Rattle.pps_types.specs.Plan.{AppendsRecord}
 use Rattle.name_table.specs.Standing.{Named, lines_ready}
+use Rattle.service_state.specs.Tables.{Tabled}
+use Rattle.service_state.specs.Tied.{Moves}
 
 abbrev pub HasLinesFor : Kind → ℕ → Named → Type 0
 HasLinesFor (Change lines) number n = lines_ready number n ≡ Some lines
@@ -29,3 +32,9 @@ change_of _ = None
 abbrev pub is_change : Kind → Bool
 is_change (Change lines) = true
 is_change _ = false
+
+-- what is there now is what a record makes of it that changes the object by the lines that were ready
+abbrev pub ChangesByReady : ℕ → Tabled → Tabled → Type 0
+ChangesByReady object old new =
+    (entry : Entry) → entry.record_of.object ≡ object → lines_ready object old.names ≡ change_of entry.record_of.kind
+    → Moves (AppendsRecord entry ∷ []) old new

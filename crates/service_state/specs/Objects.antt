@@ -1,16 +1,17 @@
 -- Objects that are created.
-use Rattle.std.specs.Prelude.{◌≡◌, ◌+◌, ◌<◌, ◌^◌, ℕ, Ok, [], ◌∷◌, is_some, map}
+use Rattle.std.specs.Prelude.{◌≡◌, ◌+◌, ◌<◌, ◌^◌, ℕ, Ok, [], ◌∷◌, is_some, IfSome, IsSomeAnd, map}
 use Rattle.pps_types.specs.declared.found.Found.TheVariants.{Directory as FoundDirectory}
 use Rattle.pps_types.specs.declared.record.Kind.TheVariants.{Deleted}
 use Rattle.pps_types.specs.Names.{find_at, parent, last_name}
 use Rattle.pps_types.specs.Content.{Object, LiveObject, at}
 use Rattle.pps_types.specs.WellFormed.{AreRising}
-use Rattle.pps_types.specs.Plan.{creation}
-use Rattle.name_table.specs.Standing.{Placed, standing_of, content_of, IsReadyToCreate}
+use Rattle.pps_types.specs.Plan.{Creates, AppendsRecord, creation}
+use Rattle.name_table.specs.Standing.{Placed, placed_at, standing_of, content_of, IsReadyToCreate}
 use Rattle.open_handles.specs.Whole.{HasRoom, IsShared}
 use Rattle.service_state.specs.declared.creating.NewObject.{NewObject}
 use Rattle.service_state.specs.declared.creating.Replacement.{Replacement}
 use Rattle.service_state.specs.Tables.{Tabled, content_in}
+use Rattle.service_state.specs.Tied.{Moves}
 
 -- the object that is created
 abbrev pub object_of : NewObject → ℕ → Object
@@ -56,3 +57,13 @@ pub record CanReplace (r : Replacement) (t : Tabled) (gone : Placed) : Type 0 wh
   pub deletion_shared : IsShared r.deletion.count r.deletion.entry t.handles
   pub creation_shared : IsShared r.creation.count r.creation.entry t.handles
   pub records : t.records + 1 + 1 < 2 ^ 64
+
+-- its object is alive, and it can take that one's place
+abbrev pub CanTakePlace : Replacement → Tabled → Type 0
+CanTakePlace r t = IsSomeAnd (placed_at r.object t.names) (CanReplace r t)
+
+-- it takes the place of its object, where that is alive: the one is deleted, and the other is created
+abbrev pub TakesPlace : Replacement → Tabled → Tabled → Type 0
+TakesPlace r old new =
+    IfSome (placed_at r.object old.names) (λ gone.
+    Moves (AppendsRecord r.deletion.entry ∷ Creates (replacing_object r gone.object old) ∷ []) old new)

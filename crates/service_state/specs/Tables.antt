@@ -3,6 +3,7 @@ use Rattle.std.specs.Prelude.{◌≡◌, ℕ, [], false, Some, is_some}
 use Rattle.std.specs.List.{AllByRecursion}
 use Rattle.pps_types.specs.declared.found.Found.TheVariants.{Object as FoundObject, Directory as FoundDirectory}
 use Rattle.pps_types.specs.Content.{Content, LiveObject, Directory}
+use Rattle.pps_types.specs.Machine as machines
 use Rattle.name_table.specs.Standing.{Named, standing_of}
 use Rattle.open_handles.specs.Whole.{Whole, site_at, handles_in}
 use Rattle.notify_box.specs.Standing.{RoomedConnections, standing_in}
@@ -30,6 +31,10 @@ content_in t = record {
   next_handle = t.handles.rows.next;
   connections = queues_of (standing_in t.connections);
 }
+
+-- what there is of a new service: the root alone, with the number of the first handle, and the limit of handles that name none
+abbrev pub new_content : ℕ → ℕ → Content
+new_content first_handle default_limit = machines.content_of (machines.start first_handle default_limit)
 
 -- ---- how they are tied
 

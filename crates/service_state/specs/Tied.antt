@@ -1,5 +1,5 @@
 -- What a change in place leaves.
-use Rattle.std.specs.Prelude.{◌≡◌, ◌<◌, ◌⊎◌, ℕ, List, None}
+use Rattle.std.specs.Prelude.{◌≡◌, ◌<◌, ◌⊎◌, ℕ, List, Bool, true, None}
 use Rattle.pps_types.specs.declared.found.Found.{Found}
 use Rattle.engine_targets.specs.declared.opening.Opening.{Opening}
 use Rattle.pps_types.specs.Plan.{Move, apply_all_seen}
@@ -29,3 +29,11 @@ pub record CanOpen (f : Found) (o : Opening) (t : Tabled) : Type 0 where
   pub place : 0 < room_at f t.handles
   pub suits : SuitsAt o.kind f t.handles
   pub connection : HasHandleRoom o.connection 1 t.connections
+
+-- where that holds, each handle that could be opened before still can be
+abbrev pub KeepsOpeningsIf : Bool → Tabled → Tabled → Type 0
+KeepsOpeningsIf holds old new = (f : Found) (o : Opening) → holds ≡ true → CanOpen f o old → CanOpen f o new
+
+-- where that holds, objects and directories stay, and room for more
+abbrev pub KeepsSitesIf : Bool → Tabled → Tabled → Type 0
+KeepsSitesIf holds old new = holds ≡ true → KeepsSites old.handles new.handles

@@ -1,10 +1,11 @@
 //! What requests of several kinds ask of the tables before anything changes. It takes no memory.
 ghost use Rattle.std.specs.Prelude.{◌≡◌, ◌+◌, ◌-◌, ◌^◌, nat_lt};
-ghost use Rattle.pps_types.specs.Names as paths;
+ghost use Rattle.pps_types.specs.Names.{refusal_of, new_refusal};
 ghost use Rattle.pps_types.specs.Content as content;
 ghost use Rattle.pps_types.specs.Checks as checking;
 ghost use Rattle.service_laws.specs.SettlingTargets.{last_number_passed};
 ghost use Rattle.service_state.specs.Tables.{content_in};
+ghost use Rattle.service_state.specs.Refused.{IsCheckedBy};
 
 use crate::tables::Tables;
 use name_table::{parent, questions_are_told};
@@ -29,7 +30,7 @@ impl Tables {
     /// The first name before the last that shows a reason decides: NotFound where it stands for nothing, NotDirectory
     /// where it stands for an object. It is Exists where something stands at the path.
     pub fn check_free(&self, path: &[Bytes]) -> Result<(), Refusal>
-        ensures { paths.refusal_of result ≡ paths.new_refusal (content.at (content_in self.now)) path.now }
+        ensures { refusal_of result ≡ new_refusal (content.at (content_in self.now)) path.now }
     {
         questions_are_told();
         match self.names.place(path) {
@@ -44,7 +45,7 @@ impl Tables {
     /// It is refused as [`check_free`](Tables::check_free) says, and TableFull where 256 directories stand in the one above
     /// or where there are 65,536 directories.
     pub fn check_new_directory(&self, path: &[Bytes]) -> Result<(), Refusal>
-        ensures { paths.refusal_of result ≡ checking.first_refusal (checking.mkdir_checks (content_in self.now) path.now) }
+        ensures { IsCheckedBy result (checking.mkdir_checks (content_in self.now) path.now) }
     {
         self.check_free(path)?;
         if self.names.directories_in(parent(path)) >= SUBDIRECTORIES_MAX {

@@ -3,11 +3,11 @@ ghost use Rattle.std.specs.Prelude.{◌≡◌, ◌<◌, ◌≤◌, ◌∷◌, []
 ghost use Rattle.pps_types.specs.Content as content;
 ghost use Rattle.pps_types.specs.Plan as planning;
 ghost use Rattle.pps_types.specs.Outbox.{empty_outbox};
-ghost use Rattle.engine_targets.specs.Opened.{opened, number_of};
-ghost use Rattle.open_handles.specs.Whole.{SuitsAt, room_at, name_at};
+ghost use Rattle.open_handles.specs.Whole.{SuitsAt, room_at};
 ghost use Rattle.notify_box.specs.Standing.{HasHandleRoom};
 ghost use Rattle.notify_box.specs.Connections.{AreOwned};
 ghost use Rattle.service_state.specs.Tables.{content_in};
+ghost use Rattle.service_state.specs.Moves.{opening_on};
 ghost use Rattle.service_state.specs.Tied.{Moves};
 
 use crate::tables::Tables;
@@ -23,7 +23,7 @@ impl Tables {
         requires place { 0 < room_at found self.old.handles }
         requires suits { SuitsAt opening.kind found self.old.handles }
         requires connection { HasHandleRoom opening.connection 1 self.old.connections }
-        ensures { Moves (planning.Opens (opened (number_of found) (name_at found self.old.handles) opening) ∷ []) self.old self.new }
+        ensures { Moves (opening_on found opening self.old) self.old self.new }
     {
         connections_are_found();
         connections_are_told();

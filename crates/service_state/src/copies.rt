@@ -1,11 +1,8 @@
 //! Copies of all that stands, and what is held of it.
 ghost use Rattle.std.specs.Prelude.{◌≡◌, ◌↔◌, IsTrue, IfOk, IfErr};
-ghost use Rattle.pps_types.specs.declared.found.Found.{Found as FoundAt};
 ghost use Rattle.pps_types.specs.declared.refusal.Refusal.TheVariants.{OutOfMemory};
-ghost use Rattle.pps_types.specs.Owed.{kept_records_seen};
-ghost use Rattle.engine_targets.specs.Opened.{is_directory, number_of};
-ghost use Rattle.open_handles.specs.Whole.{kept_at};
 ghost use Rattle.service_state.specs.Tables.{content_in, AreAlike};
+ghost use Rattle.service_state.specs.Places.{HoldsSameRecords, HoldsJustOwed};
 
 use crate::tables::Tables;
 use pps_types::Refusal;
@@ -14,7 +11,7 @@ impl Tables {
     /// Tables in which the same stands. Nothing is ready in them, and they have no room. OutOfMemory is the only error.
     pub fn copy(&self) -> Result<Tables, Refusal>
         ensures content { IfOk result (λ copy. content_in copy ≡ content_in self.now) }
-        ensures kept { IfOk result (λ copy. (f : FoundAt) → kept_at f copy.handles ≡ kept_at f self.now.handles) }
+        ensures kept { IfOk result (λ copy. HoldsSameRecords self.now.handles copy.handles) }
         ensures err { IfErr result (λ r. r ≡ OutOfMemory) }
     {
         let names = self.names.copy()?;
@@ -52,7 +49,7 @@ impl Tables {
     /// Does nothing. Its contract is the law that of each object and directory just those records are held that have to be
     /// kept: the longest rest that a handle on it is owed.
     pub fn holds_what_is_owed(&self)
-        ensures { (f : FoundAt) → kept_at f self.now.handles ≡ kept_records_seen (content_in self.now) (is_directory f) (number_of f) }
+        ensures { HoldsJustOwed self.now }
     {
         self.handles.is_exact();
     }

@@ -1,17 +1,15 @@
 //! Objects that are created. It takes no memory.
-ghost use Rattle.std.specs.Prelude.{◌≡◌, ◌<◌, ◌∷◌, [], map, IfSome, IsSomeAnd};
-ghost use Rattle.pps_types.specs.declared.found.Found.TheVariants.{Object as FoundObject};
-ghost use Rattle.pps_types.specs.Plan as planning;
-ghost use Rattle.name_table.specs.Standing.{placed_at};
-ghost use Rattle.open_handles.specs.Whole.{HasRoom, IsShared, KeepsSites, handles_in, room_at, site_at};
-ghost use Rattle.service_state.specs.Tables.{content_in};
-ghost use Rattle.service_state.specs.Objects.{new_object, CanCreate, replacing_object, CanReplace};
+ghost use Rattle.std.specs.Prelude.{◌≡◌, ◌<◌, ◌∷◌, []};
+ghost use Rattle.pps_types.specs.Plan.{Creates};
+ghost use Rattle.open_handles.specs.Whole.{HasRoom, IsShared, KeepsSites, room_at, site_at};
+ghost use Rattle.service_state.specs.Objects.{new_object, CanCreate, CanTakePlace, TakesPlace};
+ghost use Rattle.service_state.specs.Places.{next_found, OffersBoth};
 ghost use Rattle.service_state.specs.Tied.{Moves};
 
 use crate::tables::Tables;
 use name_table::moves_are_told;
 use notify_box::{connections_are_found, connections_are_told};
-use open_handles::{Handles, NewSite, Told};
+use open_handles::{Handles, NewSite, SharedRecord};
 use pps_types::{Bytes, DirId, Handle, ObjId};
 
 /// An object that is to be created, with its place and its record.
@@ -28,7 +26,7 @@ pub struct NewObject {
     /// Its place, with room for a handle.
     pub site: NewSite,
     /// The record of its creation.
-    pub creation: Told,
+    pub creation: SharedRecord,
 }
 
 /// An object that is to take another's place, with its own and the records of both.
@@ -43,18 +41,18 @@ pub struct Replacement {
     /// Its place, with room for a handle.
     pub site: NewSite,
     /// The record of the other's deletion.
-    pub deletion: Told,
+    pub deletion: SharedRecord,
     /// The record of its creation.
-    pub creation: Told,
+    pub creation: SharedRecord,
 }
 
 impl Tables {
     /// An object is created, and its creation is told. There is room for a handle on it.
     pub fn create(&mut self, object: NewObject)
         requires { CanCreate object self.old }
-        ensures moves { Moves (planning.Creates (new_object object self.old) ∷ []) self.old self.new }
-        ensures site { site_at (FoundObject (content_in self.old).next_object) self.new.handles ≡ Some object.site.site }
-        ensures place { 0 < room_at (FoundObject (content_in self.old).next_object) self.new.handles }
+        ensures moves { Moves (Creates (new_object object self.old) ∷ []) self.old self.new }
+        ensures site { site_at (next_found self.old) self.new.handles ≡ Some object.site.site }
+        ensures place { 0 < room_at (next_found self.old) self.new.handles }
         ensures rows { self.new.handles.rows ≡ self.old.handles.rows }
         ensures connections { self.new.connections ≡ self.old.connections }
     {
@@ -77,10 +75,10 @@ impl Tables {
 
     /// An object takes another's place: both are told. There is room for a handle on it.
     pub fn replace(&mut self, replacement: Replacement)
-        requires { IsSomeAnd (placed_at replacement.object self.old.names) (CanReplace replacement self.old) }
-        ensures moves { IfSome (placed_at replacement.object self.old.names) (λ gone. Moves (planning.AppendsRecord replacement.deletion.entry ∷ planning.Creates (replacing_object replacement gone.object self.old) ∷ []) self.old self.new) }
-        ensures site { site_at (FoundObject (content_in self.old).next_object) self.new.handles ≡ Some replacement.site.site }
-        ensures place { 0 < room_at (FoundObject (content_in self.old).next_object) self.new.handles }
+        requires { CanTakePlace replacement self.old }
+        ensures moves { TakesPlace replacement self.old self.new }
+        ensures site { site_at (next_found self.old) self.new.handles ≡ Some replacement.site.site }
+        ensures place { 0 < room_at (next_found self.old) self.new.handles }
         ensures rows { self.new.handles.rows ≡ self.old.handles.rows }
         ensures connections { self.new.connections ≡ self.old.connections }
     {
@@ -104,11 +102,11 @@ impl Tables {
 }
 
 // Both records are told.
-fn tell_both(handles: &mut Handles, first: Told, second: Told)
+fn tell_both(handles: &mut Handles, first: SharedRecord, second: SharedRecord)
     requires room { HasRoom (first.entry ∷ second.entry ∷ []) handles.old }
     requires first_shared { IsShared first.count first.entry handles.old }
     requires second_shared { IsShared second.count second.entry handles.old }
-    ensures handles { handles_in handles.new ≡ map (planning.offer second.entry) (map (planning.offer first.entry) (handles_in handles.old)) }
+    ensures handles { OffersBoth first.entry second.entry handles.old handles.new }
     ensures sites { KeepsSites handles.old handles.new }
     ensures rows { handles.new.rows ≡ handles.old.rows }
 {

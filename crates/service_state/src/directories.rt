@@ -1,11 +1,9 @@
 //! Directories that come and go. None takes memory.
-ghost use Rattle.std.specs.Prelude.{◌≡◌, ◌+◌, ◌<◌, ◌^◌, ◌∷◌, [], map, IfSome};
-ghost use Rattle.pps_types.specs.Content as content;
+ghost use Rattle.std.specs.Prelude.{◌+◌, ◌<◌, ◌^◌, ◌∷◌, []};
 ghost use Rattle.pps_types.specs.Plan as planning;
-ghost use Rattle.pps_types.specs.WellFormed.{AreRising, directory_numbered};
-ghost use Rattle.name_table.specs.Listed.{IsBare};
 ghost use Rattle.name_table.specs.Standing.{IsReadyToMake};
 ghost use Rattle.service_state.specs.Tables.{content_in};
+ghost use Rattle.service_state.specs.Places.{HasRisingDirectories, IsBareAt};
 ghost use Rattle.service_state.specs.Tied.{Moves};
 
 use crate::tables::Tables;
@@ -16,7 +14,7 @@ use pps_types::{Bytes, DirId};
 impl Tables {
     /// A directory is made at a path that was made ready, for which there is a place.
     pub fn make_directory(&mut self, path: Vec<Bytes>)
-        requires order { AreRising 0 (map (λ (d : content.Directory). d.number) (content_in self.old).directories) (content_in self.old).next_directory }
+        requires order { HasRisingDirectories self.old }
         requires ready { IsReadyToMake self.old.names path.items }
         requires place { 0 < self.old.handles.directories.room }
         requires last { (content_in self.old).next_directory + 1 < 2 ^ 64 }
@@ -32,8 +30,8 @@ impl Tables {
 
     /// A directory in which nothing stands is removed.
     pub fn remove_directory(&mut self, directory: DirId)
-        requires order { AreRising 0 (map (λ (d : content.Directory). d.number) (content_in self.old).directories) (content_in self.old).next_directory }
-        requires bare { IfSome (directory_numbered (content_in self.old) directory) (IsBare (content_in self.old)) }
+        requires order { HasRisingDirectories self.old }
+        requires bare { IsBareAt self.old directory }
         ensures { Moves (planning.RemovesDirectory directory ∷ []) self.old self.new }
     {
         connections_are_found();

@@ -1,6 +1,7 @@
 //! Records of objects, as they are told.
 ghost use Rattle.std.specs.Prelude.{◌≡◌, IfOk};
 ghost use Rattle.pps_types.specs.Plan as planning;
+ghost use Rattle.service_state.specs.Entries.{entry_about};
 
 use name_table::NamedObject;
 use pps_types::{Bytes, DirId, Handle, Kind, ObjId, Record};
@@ -18,7 +19,7 @@ pub fn entry_about(
     kind: Kind,
     writer: Option<Handle>,
 ) -> Result<Entry, AllocError>
-    ensures { IfOk result (λ e. e ≡ record { directory = directory; name = name.now; record_of = record { object = object; kind = kind; writer = writer } }) }
+    ensures { IfOk result (λ e. e ≡ entry_about object directory name.now kind writer) }
 {
     let name = Bytes::from_slice(alloc, name)?;
     let made = Record {

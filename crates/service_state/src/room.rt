@@ -1,21 +1,20 @@
 //! Memory that is taken ahead. What stands stays.
-ghost use Rattle.std.specs.Prelude.{◌≡◌, ◌≢◌, ◌+◌, ◌<◌, ◌≤◌, ◌∷◌, [], true, is_some, Some, IfOk, OnOk, OnErr, IfErr, IfSome, fold, IsSomeAnd};
-ghost use Rattle.pps_types.specs.Names.{refusal_of, add_refusal, mkdir_refusal};
-ghost use Rattle.pps_types.specs.Checks.{first_refusal, limit_checks};
-ghost use Rattle.pps_types.specs.History.{apply_line};
-ghost use Rattle.pps_types.specs.Content as content;
-ghost use Rattle.pps_types.specs.Outbox.{arm_refusal, park_refusal};
+ghost use Rattle.std.specs.Prelude.{◌≡◌, ◌<◌, ◌∷◌, [], None, IfOk, OnOk, IfErr};
+ghost use Rattle.pps_types.specs.Names.{add_refusal, mkdir_refusal};
 ghost use Rattle.pps_types.specs.declared.refusal.Refusal.TheVariants.{OutOfMemory};
+ghost use Rattle.pps_types.specs.Refused.{IsRefusedAs, LacksMemory};
 ghost use Rattle.notify_box.specs.Connections.{AreOwned};
-ghost use Rattle.name_table.specs.Standing.{AreSame, IsReadyToCreate, IsReadyToMake, placed_at};
-ghost use Rattle.open_handles.specs.Whole.{HasRoom, IsShared, KeepsSites, KeepsTable, KeepsPlaces, KeepsRecords, handles_in, room_at, site_at};
+ghost use Rattle.name_table.specs.Standing.{AreReadyFor, AreSame, IsReadyToCreate, IsReadyToMake};
+ghost use Rattle.open_handles.specs.Whole.{HasRoom, IsShared, KeepsSites, KeepsTable, KeepsPlaces, KeepsRecords, handles_in};
 ghost use Rattle.notify_box.specs.Standing.{CanArm, CanPark, HasHandleRoom};
 ghost use Rattle.service_state.specs.Tables.{content_in};
 ghost use Rattle.service_state.specs.Tied.{KeepsHandleRoom};
+ghost use Rattle.service_state.specs.Places.{GivesRowRoom, GivesPlaceRoom};
+ghost use Rattle.service_state.specs.Refused.{IsRefusedAtLimits, arm_refusal_in, park_refusal_in};
 
 use crate::tables::Tables;
 use notify_box::connections_are_found;
-use open_handles::{Handles, Told};
+use open_handles::{Handles, SharedRecord};
 use pps_types::{Bytes, Conn, Found, Handle, Line, ObjId, Refusal};
 use server_queue::Entry;
 use std::alloc::{AllocError, Global};
@@ -42,8 +41,8 @@ impl Tables {
         ensures content { content_in self.new ≡ content_in self.old }
         ensures names { self.new.names ≡ self.old.names }
         ensures handles { self.new.handles ≡ self.old.handles }
-        ensures refusal { refusal_of result ≢ Some OutOfMemory → refusal_of result ≡ arm_refusal (content.outbox_of (content_in self.old) conn) handle }
-        ensures free { refusal_of result ≡ Some OutOfMemory → arm_refusal (content.outbox_of (content_in self.old) conn) handle ≡ None }
+        ensures refusal { IsRefusedAs result (arm_refusal_in self.old conn handle) }
+        ensures free { LacksMemory result → arm_refusal_in self.old conn handle ≡ None }
         ensures ok { OnOk result (CanArm conn handle self.new.connections) }
     {
         connections_are_found();
@@ -59,8 +58,8 @@ impl Tables {
         ensures content { content_in self.new ≡ content_in self.old }
         ensures names { self.new.names ≡ self.old.names }
         ensures handles { self.new.handles ≡ self.old.handles }
-        ensures refusal { refusal_of result ≢ Some OutOfMemory → refusal_of result ≡ park_refusal (content.outbox_of (content_in self.old) conn) handle }
-        ensures free { refusal_of result ≡ Some OutOfMemory → park_refusal (content.outbox_of (content_in self.old) conn) handle ≡ None }
+        ensures refusal { IsRefusedAs result (park_refusal_in self.old conn handle) }
+        ensures free { LacksMemory result → park_refusal_in self.old conn handle ≡ None }
         ensures ok { OnOk result (CanPark conn handle self.new.connections) }
     {
         connections_are_found();
@@ -71,8 +70,8 @@ impl Tables {
     pub fn open_ready(&mut self, found: Found, conn: Conn) -> Result<(), Refusal>
         ensures content { content_in self.new ≡ content_in self.old }
         ensures names { self.new.names ≡ self.old.names }
-        ensures room { OnOk result (is_some (site_at found self.old.handles) ≡ true → 0 < self.new.handles.rows.room) }
-        ensures place { OnOk result (is_some (site_at found self.old.handles) ≡ true → 0 < room_at found self.new.handles) }
+        ensures room { OnOk result (GivesRowRoom found self.old.handles self.new.handles) }
+        ensures place { OnOk result (GivesPlaceRoom found self.old.handles self.new.handles) }
         ensures connection { OnOk result (HasHandleRoom conn 1 self.new.connections) }
         ensures kept { KeepsHandleRoom self.old self.new }
         ensures records { KeepsRecords self.old.handles self.new.handles }
@@ -99,7 +98,7 @@ impl Tables {
     }
 
     /// Takes the memory for a record that is to be told. OutOfMemory is the only error.
-    pub fn tell_ready(&mut self, alloc: Global, entry: Entry) -> Result<Told, Refusal>
+    pub fn tell_ready(&mut self, alloc: Global, entry: Entry) -> Result<SharedRecord, Refusal>
         ensures content { content_in self.new ≡ content_in self.old }
         ensures names { self.new.names ≡ self.old.names }
         ensures connections { self.new.connections ≡ self.old.connections }
@@ -121,9 +120,8 @@ impl Tables {
         ensures content { content_in self.new ≡ content_in self.old }
         ensures handles { self.new.handles ≡ self.old.handles }
         ensures connections { self.new.connections ≡ self.old.connections }
-        ensures refusal { IfSome (placed_at object self.old.names) (λ x. refusal_of result ≢ Some OutOfMemory
-            → refusal_of result ≡ first_refusal (limit_checks (fold apply_line x.held.attributes lines.now))) }
-        ensures ok { OnOk result (IfSome (placed_at object self.new.names) (λ x. x.held.ready ≡ Some lines.now)) }
+        ensures refusal { IsRefusedAtLimits result object lines.now self.old.names }
+        ensures ok { OnOk result (AreReadyFor object lines.now self.new.names) }
         ensures kept { AreSame self.old.names self.new.names }
     {
         connections_are_found();
@@ -136,7 +134,7 @@ impl Tables {
     pub fn create_ready(&mut self, path: &[Bytes]) -> Result<(), Refusal>
         ensures content { content_in self.new ≡ content_in self.old }
         ensures connections { self.new.connections ≡ self.old.connections }
-        ensures refusal { refusal_of result ≢ Some OutOfMemory → refusal_of result ≡ add_refusal self.old.names.tree.map path.now }
+        ensures refusal { IsRefusedAs result (add_refusal self.old.names.tree.map path.now) }
         ensures ready { OnOk result (IsReadyToCreate self.new.names path.now) }
         ensures place { OnOk result (0 < self.new.handles.objects.room) }
         ensures room { OnOk result (0 < self.new.handles.rows.room) }
@@ -171,7 +169,7 @@ impl Tables {
     pub fn make_directory_ready(&mut self, path: &[Bytes]) -> Result<(), Refusal>
         ensures content { content_in self.new ≡ content_in self.old }
         ensures connections { self.new.connections ≡ self.old.connections }
-        ensures refusal { refusal_of result ≢ Some OutOfMemory → refusal_of result ≡ mkdir_refusal self.old.names.tree.map path.now }
+        ensures refusal { IsRefusedAs result (mkdir_refusal self.old.names.tree.map path.now) }
         ensures ready { OnOk result (IsReadyToMake self.new.names path.now) }
         ensures place { OnOk result (0 < self.new.handles.directories.room) }
         ensures kept { KeepsHandleRoom self.old self.new }

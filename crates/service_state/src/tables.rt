@@ -2,8 +2,7 @@
 ghost use Rattle.std.specs.Prelude.{◌≡◌, IfOk};
 ghost use Rattle.std.specs.Option.{option_copied};
 ghost use Rattle.pps_types.specs.Content as content;
-ghost use Rattle.pps_types.specs.Machine as machines;
-ghost use Rattle.service_state.specs.Tables.{content_in, AreTied};
+ghost use Rattle.service_state.specs.Tables.{content_in, new_content, AreTied};
 
 use name_table::Names;
 use notify_box::{Connections, connections_are_found};
@@ -40,7 +39,7 @@ impl Tables {
     /// What stands of a new service: the root alone. The first handle gets that number.
     ///
     pub fn new(alloc: Global, first_handle: u32, default_limit: u32) -> Result<Tables, AllocError>
-        ensures { IfOk result (λ tables. content_in tables ≡ machines.content_of (machines.start first_handle default_limit)) }
+        ensures { IfOk result (λ made. content_in made ≡ new_content first_handle default_limit) }
     {
         let names = Names::new(alloc)?;
         let mut handles = Handles::new(alloc, u64::from(first_handle));

@@ -1,26 +1,24 @@
 //! Records that are told. None takes memory.
-ghost use Rattle.std.specs.Prelude.{◌≡◌, ◌+◌, ◌<◌, ◌^◌, ◌∷◌, [], List, true, false};
-ghost use Rattle.pps_types.specs.declared.found.Found.{Found as FoundAt};
-ghost use Rattle.pps_types.specs.declared.found.Found.TheVariants.{Object as FoundObject};
-ghost use Rattle.pps_types.specs.History as history;
+ghost use Rattle.std.specs.Prelude.{◌≡◌, ◌+◌, ◌<◌, ◌^◌, ◌∷◌, [], false};
 ghost use Rattle.pps_types.specs.Plan as planning;
-ghost use Rattle.name_table.specs.Standing.{standing_of, happened};
-ghost use Rattle.open_handles.specs.Whole.{HasRoom, IsShared, KeepsRecords, KeepsTable, site_at, handles_in};
-ghost use Rattle.service_state.specs.Tables.{content_in};
-ghost use Rattle.service_state.specs.Lines.{HasLines, deletes};
+ghost use Rattle.name_table.specs.Standing.{standing_of};
+ghost use Rattle.open_handles.specs.Whole.{HasRoom, IsShared, KeepsRecords, KeepsTable, UsesRoom, handles_in};
+ghost use Rattle.service_state.specs.Lines.{HasLines};
+ghost use Rattle.service_state.specs.Entries.{after_record, is_deletion};
+ghost use Rattle.service_state.specs.Places.{KeepsSitesBut};
 ghost use Rattle.service_state.specs.Tied.{Moves, KeepsOrDrops, KeepsHandleRoom};
 
 use crate::tables::Tables;
 use name_table::{Names, moves_are_told};
 use notify_box::{connections_are_found, connections_are_told};
-use open_handles::{Handles, Told};
+use open_handles::{Handles, SharedRecord};
 use pps_types::{Kind, ObjId};
 use server_queue::Entry;
 
 // What a record makes of names.
 fn change_names(names: &mut Names, entry: &Entry)
     requires { HasLines entry.now names.old }
-    ensures { standing_of names.new ≡ happened entry.now.record_of.object entry.now.record_of.kind (standing_of names.old) }
+    ensures { standing_of names.new ≡ after_record entry.now (standing_of names.old) }
 {
     let object = entry.record().object;
     match &entry.record().kind {
@@ -34,7 +32,7 @@ fn change_names(names: &mut Names, entry: &Entry)
 
 // Whether a record deletes its object.
 fn is_deletion(entry: &Entry) -> bool
-    ensures { result ≡ deletes entry.now.record_of.kind }
+    ensures { result ≡ is_deletion entry.now }
 {
     matches!(entry.record().kind, Kind::Deleted)
 }
@@ -42,7 +40,7 @@ fn is_deletion(entry: &Entry) -> bool
 // Drops the place of an object that a record deletes, if no handle is on it.
 fn drop_deleted(handles: &mut Handles, object: ObjId, is_deleted: bool)
     ensures handles { handles_in handles.new ≡ handles_in handles.old }
-    ensures others { (f : FoundAt) → (is_deleted ≡ true → f ≡ FoundObject object → ⊥) → site_at f handles.new ≡ site_at f handles.old }
+    ensures others { KeepsSitesBut object is_deleted handles.old handles.new }
     ensures rows { handles.new.rows ≡ handles.old.rows }
     ensures objects { KeepsTable handles.old.objects handles.new.objects }
     ensures directories { KeepsTable handles.old.directories handles.new.directories }
@@ -57,15 +55,15 @@ fn drop_deleted(handles: &mut Handles, object: ObjId, is_deleted: bool)
 
 impl Tables {
     /// A record happens, for which there is room, to an object that is alive. All handles that see it are told.
-    pub fn happen(&mut self, told: Told)
+    pub fn happen(&mut self, told: SharedRecord)
         requires lines { HasLines told.entry self.old.names }
         requires room { HasRoom (told.entry ∷ []) self.old.handles }
         requires enough { IsShared told.count told.entry self.old.handles }
         requires last { self.old.records + 1 < 2 ^ 64 }
         ensures moves { Moves (planning.AppendsRecord told.entry ∷ []) self.old self.new }
-        ensures records { (entries : List history.Entry) → HasRoom (told.entry ∷ entries) self.old.handles → HasRoom entries self.new.handles }
+        ensures records { UsesRoom told.entry self.old.handles self.new.handles }
         ensures sites { KeepsOrDrops self.old.handles self.new.handles }
-        ensures kept { deletes told.entry.record_of.kind ≡ false → KeepsHandleRoom self.old self.new }
+        ensures kept { is_deletion told.entry ≡ false → KeepsHandleRoom self.old self.new }
     {
         connections_are_found();
         connections_are_told();

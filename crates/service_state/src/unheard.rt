@@ -1,11 +1,8 @@
 //! Changes that nobody can be told of.
-ghost use Rattle.std.specs.Prelude.{◌≡◌, ◌+◌, ◌<◌, ◌^◌, ◌∷◌, [], IsSome};
-ghost use Rattle.pps_types.specs.History as history;
-ghost use Rattle.pps_types.specs.Plan as planning;
+ghost use Rattle.std.specs.Prelude.{◌≡◌, ◌+◌, ◌<◌, ◌^◌, [], IsSome};
 ghost use Rattle.name_table.specs.Standing.{lines_ready};
 ghost use Rattle.open_handles.specs.Whole.{handles_in};
-ghost use Rattle.service_state.specs.Lines.{change_of};
-ghost use Rattle.service_state.specs.Tied.{Moves};
+ghost use Rattle.service_state.specs.Lines.{ChangesByReady};
 
 use crate::tables::Tables;
 use name_table::moves_are_told;
@@ -19,8 +16,7 @@ impl Tables {
         requires lines { IsSome (lines_ready object self.old.names) }
         requires nobody { handles_in self.old.handles ≡ [] }
         requires last { self.old.records + 1 < 2 ^ 64 }
-        ensures moves { (entry : history.Entry) → entry.record_of.object ≡ object → lines_ready object self.old.names ≡ change_of entry.record_of.kind
-            → Moves (planning.AppendsRecord entry ∷ []) self.old self.new }
+        ensures moves { ChangesByReady object self.old self.new }
     {
         connections_are_found();
         connections_are_told();

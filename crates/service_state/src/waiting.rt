@@ -1,15 +1,11 @@
 //! Changes of one handle, and of the connection that it belongs to. None takes memory.
-ghost use Rattle.std.specs.Prelude.{◌≡◌, ◌∷◌, [], true, false, Some, None, is_some, IsSome, option_map};
-ghost use Rattle.std.specs.Option.{option_and_then};
-ghost use Rattle.pps_types.specs.Content as content;
-ghost use Rattle.pps_types.specs.Plan as planning;
-ghost use Rattle.pps_types.specs.Reading as reading;
-ghost use Rattle.pps_types.specs.Rests as rests;
+ghost use Rattle.std.specs.Prelude.{◌≡◌, ◌∷◌, [], true, Some, None, IsSome};
+ghost use Rattle.pps_types.specs.Plan.{CatchesUp, Advances, Parks, Arms, Takes};
 ghost use Rattle.notify_box.specs.Standing.{CanArm, CanPark};
 ghost use Rattle.open_handles.specs.Whole.{KeepsRecords};
-ghost use Rattle.service_state.specs.Tables.{content_in};
 ghost use Rattle.service_state.specs.Moves.{closing, firing, finishing};
 ghost use Rattle.service_state.specs.Tied.{Moves, KeepsHandleRoom};
+ghost use Rattle.service_state.specs.Refused.{own_handle_in, parked_in, is_parked_in, armed_in};
 
 use crate::tables::Tables;
 use engine_targets::Pulse;
@@ -19,7 +15,7 @@ use pps_types::{Conn, Handle, Refusal, SharedBytes};
 impl Tables {
     /// A handle has read everything.
     pub fn catch_up(&mut self, handle: Handle)
-        ensures { Moves (planning.CatchesUp handle ∷ []) self.old self.new }
+        ensures { Moves (CatchesUp handle ∷ []) self.old self.new }
     {
         connections_are_found();
         connections_are_told();
@@ -28,7 +24,7 @@ impl Tables {
 
     /// A handle was given so many of the records that it is owed.
     pub fn pass(&mut self, handle: Handle, count: usize)
-        ensures { Moves (planning.Advances handle count ∷ []) self.old self.new }
+        ensures { Moves (Advances handle count ∷ []) self.old self.new }
     {
         connections_are_found();
         connections_are_told();
@@ -37,9 +33,9 @@ impl Tables {
 
     /// A read of that size waits on a handle of the connection, on which none waits.
     pub fn park(&mut self, conn: Conn, handle: Handle, size: u32)
-        requires own { option_map (λ (h : reading.Open rests.Seen). h.parked) (content.own_handle (content_in self.old) conn handle) ≡ Some None }
+        requires own { parked_in self.old conn handle ≡ Some None }
         requires room { CanPark conn handle self.old.connections }
-        ensures { Moves (planning.Parks handle (Some size) ∷ []) self.old self.new }
+        ensures { Moves (Parks handle (Some size) ∷ []) self.old self.new }
     {
         connections_are_found();
         connections_are_told();
@@ -51,9 +47,9 @@ impl Tables {
 
     /// A pulse is armed on a handle of the connection, in place of the one that is armed on it.
     pub fn arm(&mut self, conn: Conn, handle: Handle, pulse: Pulse)
-        requires own { IsSome (content.own_handle (content_in self.old) conn handle) }
+        requires own { IsSome (own_handle_in self.old conn handle) }
         requires room { CanArm conn handle self.old.connections }
-        ensures { Moves (planning.Arms handle (Some (pulse.code, pulse.value)) ∷ []) self.old self.new }
+        ensures { Moves (Arms handle (Some (pulse.code, pulse.value)) ∷ []) self.old self.new }
     {
         connections_are_found();
         connections_are_told();
@@ -65,8 +61,8 @@ impl Tables {
 
     /// No pulse is armed on a handle of the connection any more.
     pub fn disarm(&mut self, conn: Conn, handle: Handle)
-        requires { IsSome (content.own_handle (content_in self.old) conn handle) }
-        ensures { Moves (planning.Arms handle None ∷ []) self.old self.new }
+        requires { IsSome (own_handle_in self.old conn handle) }
+        ensures { Moves (Arms handle None ∷ []) self.old self.new }
     {
         connections_are_found();
         connections_are_told();
@@ -78,7 +74,7 @@ impl Tables {
 
     /// The pulse that is armed on a handle of the connection is queued, and is armed no more.
     pub fn fire(&mut self, conn: Conn, handle: Handle, pulse: Pulse)
-        requires { option_map (λ (h : reading.Open rests.Seen). h.armed) (content.own_handle (content_in self.old) conn handle) ≡ Some (Some (pulse.code, pulse.value)) }
+        requires { armed_in self.old conn handle ≡ Some (Some (pulse.code, pulse.value)) }
         ensures { Moves (firing conn handle (pulse.code, pulse.value)) self.old self.new }
     {
         connections_are_found();
@@ -91,7 +87,7 @@ impl Tables {
 
     /// The read that waits on a handle of the connection has its reply, which is queued.
     pub fn finish(&mut self, conn: Conn, handle: Handle, reply: Result<SharedBytes, Refusal>)
-        requires { option_map (λ (h : reading.Open rests.Seen). is_some h.parked) (content.own_handle (content_in self.old) conn handle) ≡ Some true }
+        requires { is_parked_in self.old conn handle ≡ Some true }
         ensures { Moves (finishing conn handle reply) self.old self.new }
     {
         connections_are_found();
@@ -104,7 +100,7 @@ impl Tables {
 
     /// A handle of the connection closes. The read that waits on it ends, where one does.
     pub fn close(&mut self, conn: Conn, handle: Handle, is_parked: bool)
-        requires { option_map (λ (h : reading.Open rests.Seen). is_some h.parked) (content.own_handle (content_in self.old) conn handle) ≡ Some is_parked }
+        requires { is_parked_in self.old conn handle ≡ Some is_parked }
         ensures moves { Moves (closing conn handle is_parked) self.old self.new }
         ensures room { KeepsHandleRoom self.old self.new }
         ensures records { KeepsRecords self.old.handles self.new.handles }
@@ -122,7 +118,7 @@ impl Tables {
 
     /// The first item of a connection is received, if there is one.
     pub fn take(&mut self, conn: Conn)
-        ensures { Moves (planning.Takes conn ∷ []) self.old self.new }
+        ensures { Moves (Takes conn ∷ []) self.old self.new }
     {
         connections_are_found();
         connections_are_told();

@@ -8,7 +8,7 @@ use Rattle.pps_types.specs.Reading.{Open, is_directory_kind, block, visible, fit
 use Rattle.pps_types.specs.Rests.{Seen, News, Unread, Over, Owed, answer}
 use Rattle.pps_types.specs.Content.{object_numbered}
 use Rattle.whole_texts.specs.Whole.{Source, everything, is_dead, source_of}
-use Rattle.whole_texts.specs.declared.answer.Fitted.{Fitted}
+use Rattle.server_queue.specs.declared.plan.GivenBlocks.{GivenBlocks}
 use Rattle.whole_texts.specs.Answered.{refusal_in, fitted_answer, answer_by, AreFitting, Owes, AnswersAreRead}
 
 -- so many blocks, whose text is that
@@ -31,12 +31,12 @@ first_fits b bs dead wait max fits = by (nat_le (length b) max) refl
         let bad : Some (TooSmall (length b)) ≡ None = sym (ap (λ c. refusal_in (cond c (blocks_answer (fitting max (b ∷ bs))) (reading.Needs (length b)))) is) ∙ fits in
         absurd (cc bad)
 
-pub fitted-told : (blocks : List (List ℕ)) (dead wait : Bool) (max : ℕ) (g : Fitted) → AreFitting max blocks g
+pub fitted-told : (blocks : List (List ℕ)) (dead wait : Bool) (max : ℕ) (g : GivenBlocks) → AreFitting max blocks g
     → fitted_answer dead wait g.count g.text.items ≡ owed_answer wait blocks dead max
 fitted-told [] dead wait max g are = ap (of_pair dead wait) are.same
 fitted-told (b ∷ bs) dead wait max g are = ap (of_pair dead wait) are.same ∙ first_fits b bs dead wait max are.fits
 
-told : (h : Open Seen) (seen : Seen) (w : Source) (max : ℕ) (owed : Option Fitted) → Owes max h seen owed → answer h seen (everything w) (is_dead w) max ≡ answer_by w h.wait max owed
+told : (h : Open Seen) (seen : Seen) (w : Source) (max : ℕ) (owed : Option GivenBlocks) → Owes max h seen owed → answer h seen (everything w) (is_dead w) max ≡ answer_by w h.wait max owed
 told h (News true) w max owed owes = sym (ap (answer_by w h.wait max) owes)
 told h (News false) w max None owes = absurd owes
 told h (News false) w max (Some g) owes = sym (fitted-told [] (is_dead w) h.wait max g owes)

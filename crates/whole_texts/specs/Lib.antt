@@ -1,3 +1,4 @@
+pub mod Lengths
 pub mod After
 pub mod Whole
 pub mod Answered

@@ -1,14 +1,16 @@
 -- Everything of a target: what it is read from, and its text.
-use Rattle.std.specs.Prelude.{ℕ, List, [], Bool, true, false, not, ◌&&◌, Option, codes, map}
-use Rattle.std.specs.Option.{option_map_or}
+use Rattle.std.specs.Prelude.{◌≡◌, ℕ, List, [], ◌++◌, Bool, true, false, not, ◌&&◌, Option, codes, map}
+use Rattle.std.specs.Option.{option_map_or, option_copied, option_to_list}
 use Rattle.std.specs.List.{concat}
+use Rattle.std.specs.Borrow.{Bor}
 use Rattle.pps_types.specs.declared.handle_kind.HandleKind.{HandleKind}
 use Rattle.pps_types.specs.declared.handle_kind.HandleKind.TheVariants.{Object as ObjectHandle, Directory as DirectoryHandle, Names as NamesHandle, Server as ServerHandle, Client as ClientHandle}
 use Rattle.pps_types.specs.declared.line.Line.{Line}
 use Rattle.pps_types.specs.Filter.{Part}
 use Rattle.pps_types.specs.History.{line_of}
 use Rattle.pps_types.specs.Text.{print_header}
-use Rattle.pps_types.specs.Reading.{Open, Member, print_member, overflow_mark, overflow_line, everything_of, is_directory_kind}
+use Rattle.pps_types.specs.Reading as reading
+use Rattle.pps_types.specs.Reading.{Open, Member, print_member, overflow_mark, overflow_line, everything_of, is_directory_kind, whole_answer}
 use Rattle.pps_types.specs.Rests.{Seen, is_over}
 use Rattle.pps_types.specs.Content.{Content, target_members, target_is_dead}
 use Rattle.object_state.specs.Held.{Held}
@@ -54,3 +56,35 @@ lines_of held = option_map_or (λ o. map line_of o.attributes) held []
 -- what everything of a handle's target is read from
 abbrev pub source_of : Content → Open Seen → Source
 source_of c h = record { kind = h.kind; parts = h.filter; over = is_over h.seen; alive = not (target_is_dead c h); members = target_members c h }
+
+-- ---- a read that is answered by everything
+
+-- it gives everything, or the size that it needs
+abbrev pub everything_answer : Source → ℕ → reading.Answer
+everything_answer w max = whole_answer (everything w) max
+
+-- where everything fits, it gives this text
+abbrev pub IsWholeAnswer : Source → ℕ → List ℕ → Type 0
+IsWholeAnswer w max text = reading.Everything text ≡ whole_answer (everything w) max
+
+-- ---- by a filter that is lent
+
+-- what everything is read from
+abbrev pub lent_source : HandleKind → Option (Bor (List Part)) → Bool → Bool → List Member → Source
+lent_source kind lent over alive members = record { kind = kind; parts = option_copied lent; over = over; alive = alive; members = members }
+
+-- a header with its mark, if it has one, and the lines that match
+abbrev pub marked_text : Option ℕ → Option (Bor (List Part)) → Member → List ℕ
+marked_text mark lent m = print_member (option_to_list mark) (option_copied lent) m
+
+-- a member's part of everything
+abbrev pub part_text : HandleKind → Option (Bor (List Part)) → Bool → Bool → Member → List ℕ
+part_text kind lent over alive m = print_one kind (option_copied lent) over alive m
+
+-- the parts of all members
+abbrev pub parts_text : HandleKind → Option (Bor (List Part)) → Bool → Bool → List Member → List ℕ
+parts_text kind lent over alive members = print_all kind (option_copied lent) over alive members
+
+-- these, and what comes before them
+abbrev pub whole_text : HandleKind → Option (Bor (List Part)) → Bool → Bool → List Member → List ℕ
+whole_text kind lent over alive members = print_opening kind over ++ print_all kind (option_copied lent) over alive members

@@ -1,9 +1,9 @@
 -- A handle that records wake, and what it is told of its target.
 use Rattle.std.specs.Prelude.{◌≡◌, ℕ, List, Bool, true, not, Option, is_some}
 use Rattle.pps_types.specs.History.{Entry}
-use Rattle.pps_types.specs.Reading.{Open, Member}
+use Rattle.pps_types.specs.Reading.{Open, Member, Answer}
 use Rattle.pps_types.specs.Rests.{Seen}
-use Rattle.service_laws.specs.SettlingReplies.{gives_everything}
+use Rattle.service_laws.specs.SettlingReplies.{gives_everything, late_answer}
 use Rattle.engine_targets.specs.declared.opening.Opening.{Opening}
 use Rattle.engine_targets.specs.declared.opening.Pulse.{Pulse}
 use Rattle.engine_targets.specs.Opened.{opened, as_opened, armed_pulse}
@@ -15,6 +15,10 @@ pub record Waiting : Type 0 where
   pub parked : Option ℕ
   pub armed : Option Pulse
 
+-- a handle on that target, and what waits on it
+abbrev pub waiting_on : ℕ → Opening → Option ℕ → Option Pulse → Waiting
+waiting_on target opening parked armed = record { target = target; opening = opening; parked = parked; armed = armed }
+
 -- an event's records, and the target of a handle as it stands behind them
 pub record Behind : Type 0 where
   pub entries : List Entry
@@ -24,6 +28,10 @@ pub record Behind : Type 0 where
 -- the handle is on the object or directory of that number, and its open fixed this
 abbrev pub IsOpened : ℕ → Opening → Open Seen → Type 0
 IsOpened target o h = as_opened h ≡ opened target h.name o
+
+-- for each handle that was so opened
+abbrev pub ForOpened : ℕ → Opening → (Open Seen → Type 0) → Type 0
+ForOpened target o P = (h : Open Seen) → IsOpened target o h → P h
 
 -- the handle is this one, whatever it has seen
 pub record IsWoken (w : Waiting) (h : Open Seen) : Type 0 where
@@ -38,3 +46,9 @@ Shows b h dead members = gives_everything h b.entries ≡ true → (b.alive ≡ 
 -- the same, where a read waits on it: else there is no late reply
 abbrev pub ShowsWaiting : Behind → Open Seen → Bool → List Member → Type 0
 ShowsWaiting b h dead members = is_some h.parked ≡ true → Shows b h dead members
+
+-- for the late reply to a read of that size, whatever the handle has seen, its target being as this shows it
+abbrev pub ForLateAnswer : ℕ → Opening → Behind → ℕ → (Answer → Type 0) → Type 0
+ForLateAnswer target o told size P =
+    (h : Open Seen) (dead : Bool) (members : List Member) → IsOpened target o h → Shows told h dead members
+    → P (late_answer h told.entries dead members size)

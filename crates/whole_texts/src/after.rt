@@ -1,9 +1,9 @@
 //! Objects as they will be.
-ghost use Rattle.std.specs.Prelude.{◌≡◌, ◌≢◌, Some, IfOk, IsOkUnless, fold};
-ghost use Rattle.pps_types.specs.Checks.{first_refusal, limit_checks};
-ghost use Rattle.pps_types.specs.History.{after_kind, apply_line, persistent};
+ghost use Rattle.std.specs.Prelude.{◌≡◌, IfOk, IsOkUnless};
+ghost use Rattle.pps_types.specs.History.{after_kind, persistent};
 ghost use Rattle.pps_types.specs.Names.{refusal_of};
-ghost use Rattle.pps_types.specs.declared.refusal.Refusal.TheVariants.{OutOfMemory};
+ghost use Rattle.pps_types.specs.Refused.{IsRefusedAs};
+ghost use Rattle.object_state.specs.Limits.{after_lines, IsLimitRefusal};
 ghost use Rattle.whole_texts.specs.After.{refused_after};
 
 use object_state::Object;
@@ -12,8 +12,8 @@ use std::alloc::Global;
 
 // The attributes once these lines are applied.
 fn after_lines(object: &Object, lines: &[Line]) -> Result<Object, Refusal>
-    ensures ok { IfOk result (λ after. after.attributes ≡ fold apply_line object.now.attributes lines.now) }
-    ensures refusal { refusal_of result ≢ Some OutOfMemory → refusal_of result ≡ first_refusal (limit_checks (fold apply_line object.now.attributes lines.now)) }
+    ensures ok { IfOk result (λ o. o.attributes ≡ after_lines object.now.attributes lines.now) }
+    ensures refusal { IsLimitRefusal (refusal_of result) object.now.attributes lines.now }
 {
     let mut after = object.copy()?;
     after.apply(lines)?;
@@ -22,7 +22,7 @@ fn after_lines(object: &Object, lines: &[Line]) -> Result<Object, Refusal>
 
 // The persistent attributes.
 fn after_drop(object: &Object) -> Result<Object, Refusal>
-    ensures ok { IfOk result (λ after. after.attributes ≡ persistent object.now.attributes) }
+    ensures ok { IfOk result (λ o. o.attributes ≡ persistent object.now.attributes) }
     ensures err { IsOkUnless result Refusal.OutOfMemory }
 {
     let mut after = object.copy()?;
@@ -35,8 +35,8 @@ fn after_drop(object: &Object) -> Result<Object, Refusal>
 ///
 /// It is TooLarge exactly where lines would bring the object past its limits. Else OutOfMemory is the only error.
 pub fn after_record(alloc: Global, object: &Object, kind: &Kind) -> Result<Object, Refusal>
-    ensures ok { IfOk result (λ after. after.attributes ≡ after_kind object.now.attributes kind.now) }
-    ensures refusal { refusal_of result ≢ Some OutOfMemory → refusal_of result ≡ refused_after object.now.attributes kind.now }
+    ensures ok { IfOk result (λ o. o.attributes ≡ after_kind object.now.attributes kind.now) }
+    ensures refusal { IsRefusedAs result (refused_after object.now.attributes kind.now) }
 {
     match kind {
         Kind::Change(lines) => after_lines(object, lines.as_slice()),

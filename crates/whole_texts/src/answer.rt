@@ -1,16 +1,8 @@
 //! What a read answers, and what it leaves of its handle.
 ghost use Rattle.std.specs.Prelude.{◌≡◌};
-ghost use Rattle.pps_types.specs.Plan as planning;
 ghost use Rattle.pps_types.specs.Reading.{Open};
 ghost use Rattle.pps_types.specs.Rests.{Seen};
-ghost use Rattle.whole_texts.specs.Answered.{meant, moves_of};
-
-/// The blocks that fit, of what a handle is owed: how many, and their text.
-#[derive(Drop)]
-pub struct Fitted {
-    pub count: usize,
-    pub text: Vec<u8>,
-}
+ghost use Rattle.whole_texts.specs.Answered.{meant, moves_of, read_moves};
 
 /// What a read answers, where it is not refused.
 #[derive(Drop)]
@@ -41,7 +33,7 @@ pub enum Effect {
 impl Answer {
     /// What a read of that size leaves of its handle, once it is answered so. It takes no memory.
     pub fn effect(&self, size: u32) -> Effect
-        ensures { (h : Open Seen) → moves_of h.number result ≡ (planning.read_effect h size (meant self.now)).1 }
+        ensures { (h : Open Seen) → moves_of h.number result ≡ read_moves h size (meant self.now) }
     {
         match self {
             Answer::Everything(_) => Effect::CatchesUp,

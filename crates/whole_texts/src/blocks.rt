@@ -1,18 +1,18 @@
 //! The late reply that gives blocks: those of an event's records that fit.
-ghost use Rattle.std.specs.Prelude.{◌≡◌, ◌≤◌, ◌<◌, ◌+◌, ◌++◌, ◌^◌, ℕ, Some, true, false, [], length, OnOk, OnErr, IfOk, IfErr, IsOkUnless};
+ghost use Rattle.std.specs.Prelude.{◌≡◌, ◌≤◌, ◌<◌, ◌+◌, ◌^◌, ℕ, false, length, OnOk, OnErr, IfOk, IfErr, IsOkUnless};
 ghost use Rattle.pps_types.specs.Reading as reading;
 ghost use Rattle.pps_types.specs.declared.refusal.Refusal.TheVariants.{OutOfMemory};
-ghost use Rattle.engine_targets.specs.Opened.{opened};
-ghost use Rattle.engine_targets.specs.Blocks.{blocks_given};
-ghost use Rattle.whole_texts.specs.Answered.{fitted_answer};
-ghost use Rattle.whole_texts.specs.Replied.{meant, wants_memory, IsLen};
+ghost use Rattle.pps_block.specs.Printed.{printed_for};
+ghost use Rattle.engine_targets.specs.Blocks.{FitsInto};
+ghost use Rattle.whole_texts.specs.Lengths.{Gains};
+ghost use Rattle.whole_texts.specs.Answered.{answer_giving};
+ghost use Rattle.whole_texts.specs.Replied.{meant, blocks_by, IsLen, PassesRoom, NeedsMemory};
 
-use crate::answer::Fitted;
 use crate::reply::Reply;
 use engine_targets::{Opening, given_block};
 use pps_block::Block;
 use pps_types::Refusal;
-use server_queue::Entry;
+use server_queue::{Entry, GivenBlocks};
 use std::alloc::Global;
 
 // The reply where so many bytes are needed, if that is a number.
@@ -32,8 +32,8 @@ fn too_small(need: Option<usize>) -> Result<Reply, Refusal>
 
 // How long a block is, where there is room for it; else how long it is, if that is a number.
 fn len_within(block: &Block<'_>, entry: &Entry, room: usize) -> Result<usize, Option<usize>>
-    ensures ok { IfOk result (λ len. (len ≡ length (reading.print_shown entry.now.name (Some block.now))) × (len ≤ room)) }
-    ensures err { IfErr result (λ need. (room < length (reading.print_shown entry.now.name (Some block.now))) × IsLen need (length (reading.print_shown entry.now.name (Some block.now)))) }
+    ensures ok { IfOk result (λ len. FitsInto room (printed_for entry.now.name block.now) len) }
+    ensures err { IfErr result (λ n. PassesRoom room (printed_for entry.now.name block.now) n) }
 {
     match block.print_len(entry.name()) {
         Some(len) if len <= room => Ok(len),
@@ -42,11 +42,12 @@ fn len_within(block: &Block<'_>, entry: &Entry, room: usize) -> Result<usize, Op
 }
 
 // One block more.
-fn put(given: &mut Fitted, block: &Block<'_>, entry: &Entry, len: usize) -> Result<(), Refusal>
-    requires len { len ≡ length (reading.print_shown entry.now.name (Some block.now)) }
+fn put(given: &mut GivenBlocks, block: &Block<'_>, entry: &Entry, len: usize) -> Result<(), Refusal>
+    requires len { len ≡ length (printed_for entry.now.name block.now) }
     requires count { given.old.count + 1 < 2 ^ 64 }
     ensures count { OnOk result (given.new.count ≡ given.old.count + 1) }
-    ensures text { OnOk result (given.new.text.items ≡ given.old.text.items ++ reading.print_shown entry.now.name (Some block.now)) }
+    ensures text { OnOk result
+        (Gains given.old.text given.new.text (printed_for entry.now.name block.now)) }
     ensures err { IfErr result (λ r. r ≡ OutOfMemory) }
 {
     given.text.reserve(len)?;
@@ -56,10 +57,10 @@ fn put(given: &mut Fitted, block: &Block<'_>, entry: &Entry, len: usize) -> Resu
 }
 
 // The reply that gives these blocks, or where there are none says whether the read waits on.
-fn reply_of(given: Fitted, wait: bool) -> Reply
-    ensures { meant result ≡ fitted_answer false wait given.count given.text.items }
+fn reply_of(given: GivenBlocks, wait: bool) -> Reply
+    ensures { meant result ≡ answer_giving false wait given }
 {
-    let Fitted { count, text } = given;
+    let GivenBlocks { count, text } = given;
     if count > 0 {
         return Reply::Blocks { count, text };
     }
@@ -75,11 +76,11 @@ pub(crate) fn give(
     entries: &[Entry],
     size: u32,
 ) -> Result<Reply, Refusal>
-    ensures ok { IfOk result (λ r. meant r ≡ reading.owed_answer opening.now.wait (blocks_given (opened target [] opening.now) entries.now) false size) }
+    ensures ok { IfOk result (λ r. meant r ≡ blocks_by target opening.now entries.now size) }
     ensures err { IsOkUnless result OutOfMemory }
-    ensures lacking { OnErr result (wants_memory (reading.owed_answer opening.now.wait (blocks_given (opened target [] opening.now) entries.now) false size) ≡ true) }
+    ensures lacking { OnErr result (NeedsMemory (blocks_by target opening.now entries.now size)) }
 {
-    let mut given = Fitted {
+    let mut given = GivenBlocks {
         count: 0,
         text: Vec::new(alloc),
     };

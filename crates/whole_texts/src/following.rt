@@ -1,18 +1,10 @@
 //! What follows for a handle that records wake.
-ghost use Rattle.std.specs.Prelude.{◌≡◌, ◌++◌, ◌||◌, List, Bool, true, [], is_some, Ok, OnOk, OnErr, IsOkUnless};
-ghost use Rattle.std.specs.List.{flat_map};
-ghost use Rattle.pps_types.specs.Reading as reading;
-ghost use Rattle.pps_types.specs.Rests.{Seen};
-ghost use Rattle.pps_types.specs.Plan as planning;
+ghost use Rattle.std.specs.Prelude.{◌≡◌, ◌||◌, true, is_some, OnOk, OnErr, IsOkUnless};
 ghost use Rattle.pps_types.specs.declared.refusal.Refusal.TheVariants.{OutOfMemory};
-ghost use Rattle.service_laws.specs.SettlingReplies as replies;
-ghost use Rattle.engine_targets.specs.Opened.{opened};
-ghost use Rattle.whole_texts.specs.Replied.{meant};
-ghost use Rattle.whole_texts.specs.Woken.{IsWoken, ShowsWaiting};
-ghost use Rattle.whole_texts.specs.Followed.{moves_of, fired_by};
+ghost use Rattle.whole_texts.specs.Followed.{fired_by, ended_by, given_by, replied_by, Adds, AddsWhatFollows};
 
 use crate::reply::{Reply, late_answer};
-use crate::woken::{Told, Woken};
+use crate::woken::{TargetAfter, Woken};
 use engine_targets::{Opening, Pulse};
 use pps_types::{Conn, Handle, Refusal, SharedBytes};
 use std::alloc::Global;
@@ -47,7 +39,7 @@ fn push_pulse(
     opening: &Opening,
     armed: Option<Pulse>,
 ) -> Result<(), Refusal>
-    ensures ok { OnOk result (flat_map moves_of changes.new.items ≡ flat_map moves_of changes.old.items ++ fired_by opening.now armed) }
+    ensures ok { OnOk result (Adds changes.old changes.new (fired_by opening.now armed)) }
     ensures err { IsOkUnless result OutOfMemory }
     ensures lacking { OnErr result (is_some armed ≡ true) }
 {
@@ -68,7 +60,7 @@ fn push_end(
     opening: &Opening,
     reply: Result<SharedBytes, Refusal>,
 ) -> Result<(), Refusal>
-    ensures ok { OnOk result (flat_map moves_of changes.new.items ≡ flat_map moves_of changes.old.items ++ planning.ended (opened 0 [] opening.now) reply) }
+    ensures ok { OnOk result (Adds changes.old changes.new (ended_by opening.now reply)) }
     ensures err { IsOkUnless result OutOfMemory }
 {
     changes.push(Following::Ends {
@@ -87,7 +79,7 @@ fn push_text(
     reading: Following,
     text: Vec<u8>,
 ) -> Result<(), Refusal>
-    ensures ok { OnOk result (flat_map moves_of changes.new.items ≡ flat_map moves_of changes.old.items ++ (moves_of reading ++ planning.ended (opened 0 [] opening.now) (Ok text.items))) }
+    ensures ok { OnOk result (Adds changes.old changes.new (given_by reading opening.now text)) }
     ensures err { IsOkUnless result OutOfMemory }
 {
     changes.push(reading)?;
@@ -102,7 +94,7 @@ fn push_reply(
     opening: &Opening,
     reply: Reply,
 ) -> Result<(), Refusal>
-    ensures ok { OnOk result (flat_map moves_of changes.new.items ≡ flat_map moves_of changes.old.items ++ planning.late_reply (opened 0 [] opening.now) (meant reply)) }
+    ensures ok { OnOk result (Adds changes.old changes.new (replied_by opening.now reply)) }
     ensures err { IsOkUnless result OutOfMemory }
 {
     let handle = opening.number;
@@ -128,10 +120,9 @@ pub fn follow(
     alloc: Global,
     changes: &mut Vec<Following>,
     woken: &Woken<'_>,
-    told: &Told<'_>,
+    told: &TargetAfter<'_>,
 ) -> Result<(), Refusal>
-    ensures ok { (h : reading.Open Seen) (dead : Bool) (members : List reading.Member) → IsWoken woken.now h → ShowsWaiting told.now h dead members
-        → OnOk result (flat_map moves_of changes.new.items ≡ flat_map moves_of changes.old.items ++ replies.pulse_and_reply h told.now.entries dead members) }
+    ensures ok { AddsWhatFollows woken.now told.now changes.old changes.new result }
     ensures err { IsOkUnless result OutOfMemory }
     ensures lacking { OnErr result ((is_some woken.now.parked || is_some woken.now.armed) ≡ true) }
 {

@@ -17,7 +17,7 @@ mod whole;
 mod woken;
 
 pub use after::after_record;
-pub use answer::{Answer, Effect, Fitted};
+pub use answer::{Answer, Effect};
 pub use following::{Following, follow};
 pub use limits::gives_everything;
 pub use listed::{Listed, listing, listing_len, listings_are_told};
@@ -25,4 +25,4 @@ pub use member::Member;
 pub use read::{answers_are_read, read_answer};
 pub use reply::{Reply, late_answer};
 pub use whole::{Whole, too_small};
-pub use woken::{Told, Woken};
+pub use woken::{TargetAfter, Woken};

@@ -1,5 +1,7 @@
 //! Listings of directories.
-ghost use Rattle.std.specs.Prelude.{◌≡◌, ◌≤◌, ◌<◌, ◌+◌, ◌++◌, ◌^◌, length, vec_len, vec_capacity, IfOk, IfSome, IfNone, OnErr, IsOkUnless};
+ghost use Rattle.std.specs.Prelude.{◌≡◌, ◌≤◌, ◌<◌, length, vec_capacity, IfOk, IfSome, IfNone, OnErr, IsOkUnless};
+ghost use Rattle.attr_text.specs.Printed.{HasRoomFor};
+ghost use Rattle.whole_texts.specs.Lengths.{IsLenOf, IsTooLong, Gains};
 ghost use Rattle.whole_texts.specs.Listed.{suffix, print_entry, print_listing, ListingsAreTold};
 
 use pps_types::Refusal;
@@ -33,8 +35,8 @@ impl<'a> Listed<'a> {
     }
 
     fn len(&self) -> Option<usize>
-        ensures some { IfSome result (λ len. len ≡ length (print_entry self.now)) }
-        ensures none { IfNone result (2 ^ 64 ≤ length (print_entry self.now)) }
+        ensures some { IfSome result (IsLenOf (print_entry self.now)) }
+        ensures none { IfNone result (IsTooLong (print_entry self.now)) }
     {
         let behind: usize = if self.is_directory { 2 } else { 1 };
         behind.checked_add(self.name.len())
@@ -42,8 +44,8 @@ impl<'a> Listed<'a> {
 
     // Pushes its line, for which there is room.
     fn push(&self, out: &mut Vec<u8>)
-        requires { vec_len out.old + length (print_entry self.now) ≤ vec_capacity out.old }
-        ensures items { out.new.items ≡ out.old.items ++ print_entry self.now }
+        requires { HasRoomFor out.old (print_entry self.now) }
+        ensures items { Gains out.old out.new (print_entry self.now) }
         ensures capacity { vec_capacity out.old ≤ vec_capacity out.new }
     {
         out.extend_from_slice(self.name).unwrap();
@@ -56,8 +58,8 @@ impl<'a> Listed<'a> {
 
 /// How many bytes the listing of these has, where that is a number of 64 bits. It takes no memory.
 pub fn listing_len(entries: &[Listed<'_>]) -> Option<usize>
-    ensures some { IfSome result (λ len. len ≡ length (print_listing entries.now)) }
-    ensures none { IfNone result (2 ^ 64 ≤ length (print_listing entries.now)) }
+    ensures some { IfSome result (IsLenOf (print_listing entries.now)) }
+    ensures none { IfNone result (IsTooLong (print_listing entries.now)) }
 {
     let mut total: usize = 0;
     'entries: for entry in entries {
@@ -69,8 +71,8 @@ pub fn listing_len(entries: &[Listed<'_>]) -> Option<usize>
 
 // Pushes the lines of these, for which there is room.
 fn push_entries(out: &mut Vec<u8>, entries: &[Listed<'_>])
-    requires { vec_len out.old + length (print_listing entries.now) ≤ vec_capacity out.old }
-    ensures { out.new.items ≡ out.old.items ++ print_listing entries.now }
+    requires { HasRoomFor out.old (print_listing entries.now) }
+    ensures { Gains out.old out.new (print_listing entries.now) }
 {
     'entries: for entry in entries {
         entry.push(out);

@@ -1,8 +1,9 @@
 //! Members of a target.
-ghost use Rattle.std.specs.Prelude.{◌≡◌, ◌≤◌, ◌+◌, ◌++◌, ◌^◌, [], length, map, vec_len, vec_capacity, IfSome, IfNone};
-ghost use Rattle.std.specs.Option.{option_copied};
+ghost use Rattle.std.specs.Prelude.{◌≡◌, ◌≤◌, [], length, map, vec_capacity};
 ghost use Rattle.pps_types.specs.History.{line_of};
-ghost use Rattle.pps_block.specs.Matching.{print_matching};
+ghost use Rattle.attr_text.specs.Printed.{HasRoomFor};
+ghost use Rattle.pps_block.specs.Matching.{matching_text};
+ghost use Rattle.whole_texts.specs.Lengths.{Gains};
 
 use object_state::Object;
 use pps_filter::Filter;
@@ -56,7 +57,7 @@ impl<'a> Member<'a> {
 
     /// How many bytes the printed lines of its attributes have that match. It takes no memory.
     pub(crate) fn lines_len(&self, filter: Option<&Filter>) -> usize
-        ensures { result ≡ length (print_matching (option_copied filter.entry) self.now.lines) }
+        ensures { result ≡ length (matching_text filter.entry self.now.lines) }
     {
         match self.object {
             None => 0,
@@ -66,8 +67,8 @@ impl<'a> Member<'a> {
 
     /// Pushes the printed lines of its attributes that match, for which there is room. It takes no memory.
     pub(crate) fn push_lines(&self, out: &mut Vec<u8>, filter: Option<&Filter>)
-        requires { vec_len out.old + length (print_matching (option_copied filter) self.now.lines) ≤ vec_capacity out.old }
-        ensures items { out.new.items ≡ out.old.items ++ print_matching (option_copied filter.entry) self.now.lines }
+        requires { HasRoomFor out.old (matching_text filter self.now.lines) }
+        ensures items { Gains out.old out.new (matching_text filter.entry self.now.lines) }
         ensures capacity { vec_capacity out.old ≤ vec_capacity out.new }
     {
         if let Some(object) = self.object {

@@ -1,9 +1,11 @@
 //! A member's part of everything, and what stands before the members.
-ghost use Rattle.std.specs.Prelude.{◌≡◌, ◌≤◌, ◌+◌, ◌++◌, ◌^◌, length, vec_len, vec_capacity, IfSome, IfNone, true, not, ◌&&◌};
-ghost use Rattle.std.specs.Option.{option_copied, option_to_list, ForSome};
+ghost use Rattle.std.specs.Prelude.{◌≡◌, ◌≤◌, length, vec_capacity, IfSome, IfNone, true, not, ◌&&◌};
+ghost use Rattle.std.specs.Option.{option_to_list, ForSome};
 ghost use Rattle.pps_types.specs.Reading as reading;
 ghost use Rattle.pps_types.specs.Text as text;
-ghost use Rattle.whole_texts.specs.Whole.{print_one, print_opening};
+ghost use Rattle.attr_text.specs.Printed.{HasRoomFor};
+ghost use Rattle.whole_texts.specs.Lengths.{IsLenOf, IsTooLong, Gains};
+ghost use Rattle.whole_texts.specs.Whole.{print_opening, marked_text, part_text};
 
 use crate::member::Member;
 use attr_text::{header_len, push_header};
@@ -24,8 +26,8 @@ fn overflow_mark(over: bool) -> Option<u8>
 
 // The length of a header and of a member's attributes.
 fn full_len(member: &Member<'_>, filter: Option<&Filter>, mark: Option<u8>) -> Option<usize>
-    ensures some { IfSome result (λ len. len ≡ length (reading.print_member (option_to_list mark) (option_copied filter.entry) member.now)) }
-    ensures none { IfNone result (2 ^ 64 ≤ length (reading.print_member (option_to_list mark) (option_copied filter.entry) member.now)) }
+    ensures some { IfSome result (IsLenOf (marked_text mark filter.entry member.now)) }
+    ensures none { IfNone result (IsTooLong (marked_text mark filter.entry member.now)) }
 {
     let header = header_len(mark, member.name())?;
     header.checked_add(member.lines_len(filter))
@@ -39,8 +41,8 @@ pub(crate) fn member_len(
     alive: bool,
     member: &Member<'_>,
 ) -> Option<usize>
-    ensures some { IfSome result (λ len. len ≡ length (print_one kind (option_copied filter.entry) over alive member.now)) }
-    ensures none { IfNone result (2 ^ 64 ≤ length (print_one kind (option_copied filter.entry) over alive member.now)) }
+    ensures some { IfSome result (IsLenOf (part_text kind filter.entry over alive member.now)) }
+    ensures none { IfNone result (IsTooLong (part_text kind filter.entry over alive member.now)) }
 {
     match kind {
         HandleKind::Object { .. } => {
@@ -83,8 +85,8 @@ pub(crate) fn opening_len(kind: HandleKind, over: bool) -> usize
 // Pushes a header and a member's attributes, for which there is room.
 fn push_full(out: &mut Vec<u8>, member: &Member<'_>, filter: Option<&Filter>, mark: Option<u8>)
     requires marked { ForSome mark (λ byte. text.is_header_mark byte ≡ true) }
-    requires room { vec_len out.old + length (reading.print_member (option_to_list mark) (option_copied filter) member.now) ≤ vec_capacity out.old }
-    ensures items { out.new.items ≡ out.old.items ++ reading.print_member (option_to_list mark) (option_copied filter.entry) member.now }
+    requires room { HasRoomFor out.old (marked_text mark filter member.now) }
+    ensures items { Gains out.old out.new (marked_text mark filter.entry member.now) }
     ensures capacity { vec_capacity out.old ≤ vec_capacity out.new }
 {
     push_header(out, mark, member.name());
@@ -100,8 +102,8 @@ pub(crate) fn push_member(
     alive: bool,
     member: &Member<'_>,
 )
-    requires { vec_len out.old + length (print_one kind (option_copied filter) over alive member.now) ≤ vec_capacity out.old }
-    ensures items { out.new.items ≡ out.old.items ++ print_one kind (option_copied filter.entry) over alive member.now }
+    requires { HasRoomFor out.old (part_text kind filter over alive member.now) }
+    ensures items { Gains out.old out.new (part_text kind filter.entry over alive member.now) }
     ensures capacity { vec_capacity out.old ≤ vec_capacity out.new }
 {
     match kind {
@@ -120,8 +122,8 @@ pub(crate) fn push_member(
 
 /// Pushes that line, for which there is room. It takes no memory.
 pub(crate) fn push_opening(out: &mut Vec<u8>, kind: HandleKind, over: bool)
-    requires { vec_len out.old + length (print_opening kind over) ≤ vec_capacity out.old }
-    ensures items { out.new.items ≡ out.old.items ++ print_opening kind over }
+    requires { HasRoomFor out.old (print_opening kind over) }
+    ensures items { Gains out.old out.new (print_opening kind over) }
     ensures capacity { vec_capacity out.old ≤ vec_capacity out.new }
 {
     match kind {

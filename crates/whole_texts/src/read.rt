@@ -1,14 +1,14 @@
 //! The answer to a read.
-ghost use Rattle.std.specs.Prelude.{◌≡◌, ◌≢◌, Some, None, IfOk, true};
+ghost use Rattle.std.specs.Prelude.{◌≡◌, IfOk};
 ghost use Rattle.pps_types.specs.Names.{refusal_of};
 ghost use Rattle.pps_types.specs.Reading as reading;
-ghost use Rattle.pps_types.specs.declared.refusal.Refusal.TheVariants.{OutOfMemory};
-ghost use Rattle.whole_texts.specs.Whole.{everything, is_dead};
-ghost use Rattle.whole_texts.specs.Answered.{meant, refusal_in, wants_memory, fitted_answer, answer_by, AnswersAreRead};
+ghost use Rattle.pps_types.specs.Refused.{IsRefusedAs, LacksMemory};
+ghost use Rattle.whole_texts.specs.Answered.{meant, refusal_in, answer_giving, answer_by, NeedsMemory, AnswersAreRead};
 
-use crate::answer::{Answer, Fitted};
+use crate::answer::Answer;
 use crate::whole::Whole;
 use pps_types::Refusal;
+use server_queue::GivenBlocks;
 use std::alloc::Global;
 
 // Where nothing is owed.
@@ -26,11 +26,11 @@ fn idle(dead: bool, wait: bool) -> Result<Answer, Refusal>
 }
 
 // Where the blocks that fit are known.
-fn fitted(owed: Fitted, dead: bool, wait: bool) -> Result<Answer, Refusal>
-    ensures ok { IfOk result (λ a. meant a ≡ fitted_answer dead wait owed.count owed.text.items) }
-    ensures refusal { refusal_of result ≡ refusal_in (fitted_answer dead wait owed.count owed.text.items) }
+fn fitted(owed: GivenBlocks, dead: bool, wait: bool) -> Result<Answer, Refusal>
+    ensures ok { IfOk result (λ a. meant a ≡ answer_giving dead wait owed) }
+    ensures refusal { refusal_of result ≡ refusal_in (answer_giving dead wait owed) }
 {
-    let Fitted { count, text } = owed;
+    let GivenBlocks { count, text } = owed;
     if count == 0 {
         return idle(dead, wait);
     }
@@ -48,11 +48,11 @@ pub fn read_answer(
     whole: &Whole<'_>,
     wait: bool,
     max: u32,
-    owed: Option<Fitted>,
+    owed: Option<GivenBlocks>,
 ) -> Result<Answer, Refusal>
     ensures ok { IfOk result (λ a. meant a ≡ answer_by whole.now wait max owed) }
-    ensures refusal { refusal_of result ≢ Some OutOfMemory → refusal_of result ≡ refusal_in (answer_by whole.now wait max owed) }
-    ensures lacking { refusal_of result ≡ Some OutOfMemory → wants_memory (answer_by whole.now wait max owed) ≡ true }
+    ensures refusal { IsRefusedAs result (refusal_in (answer_by whole.now wait max owed)) }
+    ensures lacking { LacksMemory result → NeedsMemory (answer_by whole.now wait max owed) }
 {
     match owed {
         None => Ok(Answer::Everything(whole.answer(alloc, max)?)),

@@ -1,18 +1,14 @@
 //! The late reply to a read that waits.
-ghost use Rattle.std.specs.Prelude.{◌≡◌, List, Bool, true, [], IfOk, OnErr, IsOkUnless};
-ghost use Rattle.pps_types.specs.Reading as reading;
-ghost use Rattle.pps_types.specs.Rests.{Seen};
+ghost use Rattle.std.specs.Prelude.{◌≡◌, IfOk, OnErr, IsOkUnless};
 ghost use Rattle.pps_types.specs.declared.refusal.Refusal.TheVariants.{OutOfMemory};
-ghost use Rattle.service_laws.specs.SettlingReplies as replies;
-ghost use Rattle.engine_targets.specs.Opened.{opened};
-ghost use Rattle.whole_texts.specs.Whole.{everything};
-ghost use Rattle.whole_texts.specs.Replied.{meant, wants_memory, reply_to};
-ghost use Rattle.whole_texts.specs.Woken.{IsOpened, Shows};
+ghost use Rattle.whole_texts.specs.Whole.{everything_answer};
+ghost use Rattle.whole_texts.specs.Replied.{meant, reply_by, NeedsMemory};
+ghost use Rattle.whole_texts.specs.Woken.{ForLateAnswer};
 
 use crate::blocks::give;
 use crate::limits::is_past_limit;
 use crate::whole::Whole;
-use crate::woken::Told;
+use crate::woken::TargetAfter;
 use engine_targets::{Opening, is_full};
 use pps_types::Refusal;
 use std::alloc::Global;
@@ -34,9 +30,9 @@ pub enum Reply {
 
 // The reply that gives everything.
 fn give_everything(alloc: Global, whole: &Whole<'_>, size: u32) -> Result<Reply, Refusal>
-    ensures ok { IfOk result (λ r. meant r ≡ reading.whole_answer (everything whole.now) size) }
+    ensures ok { IfOk result (λ r. meant r ≡ everything_answer whole.now size) }
     ensures err { IsOkUnless result OutOfMemory }
-    ensures lacking { OnErr result (wants_memory (reading.whole_answer (everything whole.now) size) ≡ true) }
+    ensures lacking { OnErr result (NeedsMemory (everything_answer whole.now size)) }
 {
     match whole.answer(alloc, size) {
         Ok(text) => Ok(Reply::Everything(text)),
@@ -50,12 +46,12 @@ fn reply_to_opened(
     alloc: Global,
     target: u64,
     opening: &Opening,
-    told: &Told<'_>,
+    told: &TargetAfter<'_>,
     size: u32,
 ) -> Result<Reply, Refusal>
-    ensures ok { IfOk result (λ r. meant r ≡ reply_to (opened target [] opening.now) told.now.entries told.now.alive told.now.members size) }
+    ensures ok { IfOk result (λ r. meant r ≡ reply_by target opening.now told.now size) }
     ensures err { IsOkUnless result OutOfMemory }
-    ensures lacking { OnErr result (wants_memory (reply_to (opened target [] opening.now) told.now.entries told.now.alive told.now.members size) ≡ true) }
+    ensures lacking { OnErr result (NeedsMemory (reply_by target opening.now told.now size)) }
 {
     let over = is_past_limit(target, opening, told.entries);
     if !over && !is_full(opening.kind) {
@@ -83,14 +79,14 @@ pub fn late_answer(
     alloc: Global,
     target: u64,
     opening: &Opening,
-    told: &Told<'_>,
+    told: &TargetAfter<'_>,
     size: u32,
 ) -> Result<Reply, Refusal>
-    ensures ok { (h : reading.Open Seen) (dead : Bool) (members : List reading.Member) → IsOpened target opening.now h → Shows told.now h dead members
-        → IfOk result (λ r. meant r ≡ replies.late_answer h told.now.entries dead members size) }
+    ensures ok { ForLateAnswer target opening.now told.now size
+        (λ a. IfOk result (λ r. meant r ≡ a)) }
     ensures err { IsOkUnless result OutOfMemory }
-    ensures lacking { (h : reading.Open Seen) (dead : Bool) (members : List reading.Member) → IsOpened target opening.now h → Shows told.now h dead members
-        → OnErr result (wants_memory (replies.late_answer h told.now.entries dead members size) ≡ true) }
+    ensures lacking { ForLateAnswer target opening.now told.now size
+        (λ a. OnErr result (NeedsMemory a)) }
 {
     reply_to_opened(alloc, target, opening, told, size)
 }

@@ -1,11 +1,12 @@
 //! Everything of a target: how long it is, and its text.
-ghost use Rattle.std.specs.Prelude.{◌≡◌, ◌≢◌, ◌≤◌, ◌<◌, ◌+◌, ◌++◌, ◌^◌, length, vec_len, vec_capacity, IfOk, IfSome, IfNone, OnErr, Some, None, true, IsOkUnless};
-ghost use Rattle.std.specs.Option.{option_copied};
-ghost use Rattle.pps_types.specs.Names.{refusal_of};
+ghost use Rattle.std.specs.Prelude.{◌≡◌, ◌≢◌, ◌<◌, length, IfOk, IfSome, IfNone, OnErr, Some, IsOkUnless};
 ghost use Rattle.pps_types.specs.Reading as reading;
 ghost use Rattle.pps_types.specs.declared.refusal.Refusal.TheVariants.{OutOfMemory};
-ghost use Rattle.whole_texts.specs.Whole.{everything, is_dead, print_opening, print_all};
-ghost use Rattle.whole_texts.specs.Answered.{refusal_in, wants_memory};
+ghost use Rattle.attr_text.specs.Printed.{HasRoomFor};
+ghost use Rattle.pps_types.specs.Refused.{IsRefusedAs, LacksMemory};
+ghost use Rattle.whole_texts.specs.Lengths.{IsLenOf, IsTooLong, Gains};
+ghost use Rattle.whole_texts.specs.Whole.{everything, is_dead, everything_answer, lent_source, parts_text, whole_text, IsWholeAnswer};
+ghost use Rattle.whole_texts.specs.Answered.{refusal_in, NeedsMemory};
 
 use crate::member::Member;
 use crate::parts::{is_dead, member_len, opening_len, push_member, push_opening};
@@ -43,8 +44,8 @@ fn parts_len(
     alive: bool,
     members: &[Member<'_>],
 ) -> Option<usize>
-    ensures some { IfSome result (λ len. len ≡ length (print_opening kind over ++ print_all kind (option_copied filter.entry) over alive members.now)) }
-    ensures none { IfNone result (2 ^ 64 ≤ length (print_opening kind over ++ print_all kind (option_copied filter.entry) over alive members.now)) }
+    ensures some { IfSome result (IsLenOf (whole_text kind filter.entry over alive members.now)) }
+    ensures none { IfNone result (IsTooLong (whole_text kind filter.entry over alive members.now)) }
 {
     let mut total = opening_len(kind, over);
     'members: for member in members {
@@ -63,8 +64,8 @@ fn push_members(
     alive: bool,
     members: &[Member<'_>],
 )
-    requires { vec_len out.old + length (print_all kind (option_copied filter) over alive members.now) ≤ vec_capacity out.old }
-    ensures items { out.new.items ≡ out.old.items ++ print_all kind (option_copied filter.entry) over alive members.now }
+    requires { HasRoomFor out.old (parts_text kind filter over alive members.now) }
+    ensures items { Gains out.old out.new (parts_text kind filter.entry over alive members.now) }
 {
     'members: for member in members {
         push_member(out, kind, filter, over, alive, member);
@@ -75,7 +76,7 @@ fn push_members(
 /// bits. It takes no memory.
 pub fn too_small(need: usize) -> Refusal
     ensures small { result ≢ OutOfMemory → Some result ≡ refusal_in (reading.Needs need) }
-    ensures memory { result ≡ OutOfMemory → wants_memory (reading.Needs need) ≡ true }
+    ensures memory { result ≡ OutOfMemory → NeedsMemory (reading.Needs need) }
 {
     match u32::try_from(need) {
         Ok(need) => Refusal::TooSmall { need },
@@ -92,7 +93,7 @@ impl<'a> Whole<'a> {
         alive: bool,
         members: &'a [Member<'a>],
     ) -> Whole<'a>
-        ensures { result ≡ record { kind = kind; parts = option_copied filter.entry; over = over; alive = alive; members = members.now } }
+        ensures { result ≡ lent_source kind filter.entry over alive members.now }
     {
         Whole {
             kind,
@@ -113,8 +114,8 @@ impl<'a> Whole<'a> {
     /// How many bytes everything has, where that is a number of 64 bits. It takes no memory.
     #[tactic(auto, using(crate::proofs::Pieces::everything_is))]
     pub fn len(&self) -> Option<usize>
-        ensures some { IfSome result (λ len. len ≡ length (everything self.now)) }
-        ensures none { IfNone result (2 ^ 64 ≤ length (everything self.now)) }
+        ensures some { IfSome result (IsLenOf (everything self.now)) }
+        ensures none { IfNone result (IsTooLong (everything self.now)) }
     {
         parts_len(self.kind, self.filter, self.over, self.alive, self.members)
     }
@@ -159,9 +160,9 @@ impl<'a> Whole<'a> {
     /// memory is taken; else OutOfMemory is the only error, and comes only where there are bytes to give, or where the
     /// size is no number of 32 bits.
     pub fn answer(&self, alloc: Global, max: u32) -> Result<Vec<u8>, Refusal>
-        ensures ok { IfOk result (λ given. reading.Everything given.items ≡ reading.whole_answer (everything self.now) max) }
-        ensures refusal { refusal_of result ≢ Some OutOfMemory → refusal_of result ≡ refusal_in (reading.whole_answer (everything self.now) max) }
-        ensures lacking { refusal_of result ≡ Some OutOfMemory → wants_memory (reading.whole_answer (everything self.now) max) ≡ true }
+        ensures ok { IfOk result (λ given. IsWholeAnswer self.now max given.items) }
+        ensures refusal { IsRefusedAs result (refusal_in (everything_answer self.now max)) }
+        ensures lacking { LacksMemory result → NeedsMemory (everything_answer self.now max) }
     {
         let Some(len) = self.len() else {
             return Err(Refusal::OutOfMemory);

@@ -1,5 +1,6 @@
 //! A handle that records wake, and what it is told of its target.
 ghost use Rattle.std.specs.Prelude.{◌≡◌};
+ghost use Rattle.whole_texts.specs.Woken.{waiting_on};
 
 use crate::member::Member;
 use engine_targets::{Opening, Pulse};
@@ -32,7 +33,7 @@ impl<'a> Woken<'a> {
         parked: Option<u32>,
         armed: Option<Pulse>,
     ) -> Woken<'a>
-        ensures { result ≡ record { target = target; opening = opening.now; parked = parked; armed = armed } }
+        ensures { result ≡ waiting_on target opening.now parked armed }
     {
         Woken {
             target,
@@ -47,13 +48,13 @@ impl<'a> Woken<'a> {
 /// them. An object, a dead one too, is its own one member; a directory's are its alive objects in byte order of names.
 /// Where the late reply is not everything, only the records are looked at.
 #[derive(Drop)]
-pub struct Told<'a> {
+pub struct TargetAfter<'a> {
     pub(crate) entries: &'a [Entry],
     pub(crate) alive: bool,
     pub(crate) members: &'a [Member<'a>],
 }
 
-impl<'a> Model for Told<'a> {
+impl<'a> Model for TargetAfter<'a> {
     ghost use Rattle.whole_texts.specs.Woken.{Behind};
 
     ghost Value = { Behind };
@@ -61,12 +62,12 @@ impl<'a> Model for Told<'a> {
     ghost view = { λ t. record { entries = t.entries.now; alive = t.alive; members = t.members.now } };
 }
 
-impl<'a> Told<'a> {
+impl<'a> TargetAfter<'a> {
     /// All that a handle is told. It takes no memory.
-    pub fn new(entries: &'a [Entry], alive: bool, members: &'a [Member<'a>]) -> Told<'a>
+    pub fn new(entries: &'a [Entry], alive: bool, members: &'a [Member<'a>]) -> TargetAfter<'a>
         ensures { result ≡ record { entries = entries.now; alive = alive; members = members.now } }
     {
-        Told {
+        TargetAfter {
             entries,
             alive,
             members,

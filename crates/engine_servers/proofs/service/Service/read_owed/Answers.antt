@@ -15,7 +15,7 @@ pub returns-in_default-clause-ok : goal.returns-in_default-clause-ok
 returns-in_default-clause-ok c =
     let t = c.self.inside in
     let gone : None ≡ handle_at c.args.number c.args.self.now.handles = found-handle t.object t.name t.holders.items c.deref.result.now c.args.number c.number.result c.deref.ensures.value c.number.ensures.same None c.in_default.ensures ∙ ap (λ v. handle_at c.args.number v.handles) c.self.view_is in
-    (λ i. (0, c.new.ensures.items i)) ∙ ap (λ h. fitting c.args.max (owed_blocks h)) gone
+    (λ i. (c.nothing.ensures.count i, c.nothing.ensures.text i)) ∙ ap (λ h. fitting c.args.max (owed_blocks h)) gone
 
 pub returns-in_default-clause-refusal : goal.returns-in_default-clause-refusal
 returns-in_default-clause-refusal c other =

@@ -7,12 +7,12 @@ use std::marker::Model;
 
 /// A record with shares of it for all handles that it is told to.
 #[derive(Drop)]
-pub struct Told {
+pub struct SharedRecord {
     pub(crate) for_object: Shares,
     pub(crate) for_directory: Shares,
 }
 
-impl Model for Told {
+impl Model for SharedRecord {
     ghost use Rattle.std.specs.Prelude.{◌≡◌};
     ghost use Rattle.engine_servers.specs.Shared.{Shared};
 
@@ -23,7 +23,7 @@ impl Model for Told {
     ghost invariant = { λ t. t.for_directory.entry ≡ t.for_object.entry };
 }
 
-impl Told {
+impl SharedRecord {
     /// The record.
     pub fn entry(&self) -> &Entry
         ensures { result.now ≡ self.now.entry }
