@@ -1,1 +1,2 @@
 mod FilesServed
+mod Reading

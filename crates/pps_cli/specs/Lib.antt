@@ -4,3 +4,5 @@ pub mod Frames
 pub mod Sessions
 pub mod Images
 pub mod Jobs
+pub mod Commands
+pub mod Words

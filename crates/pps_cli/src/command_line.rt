@@ -1,5 +1,10 @@
 //! The command line.
-ghost use Rattle.std.specs.Prelude.{◌≡◌, ◌≤◌, IfSome};
+ghost use Rattle.std.specs.Prelude.{◌≡◌, ◌≤◌, IfErr, IfOk, IfSome, codes, map};
+ghost use Rattle.clap.specs.Matches.{first_value, found_of, one_text};
+ghost use Rattle.clap.specs.Simple.{app_of};
+ghost use Rattle.pps_cli.specs.Faults.{IsFaultOfWords};
+ghost use Rattle.pps_cli.specs.Words.{AddsService, AsksFor, CommandAsks, FilesIn, IsBeginning, IsCommand, IsNumber, IsRule, ScriptIn, ServiceIn};
+ghost use Rattle.pps_cli.specs.Words.{frames_shape, image_rule, number, option, pps, run_shape, scripts_rule, serve_shape, version_rule, workers_rule};
 
 use crate::fault::Fault;
 use clap::error::ErrorKind;
@@ -105,7 +110,9 @@ pub(crate) enum Asked<'w> {
 const EXAMPLE: &str =
     "Example:\n  $ printf '1 attach\\n1 open rwc /gps\\n' | pps run\n  1 ok\n  1 handle 1";
 
-fn limit_option<'a>(alloc: Global) -> Arg<'a> {
+fn limit_option<'a>(alloc: Global) -> Arg<'a>
+    ensures { IsRule (number (codes "limit")) result }
+{
     Arg::new(alloc, "limit")
         .long("limit")
         .value_name("N")
@@ -115,7 +122,9 @@ fn limit_option<'a>(alloc: Global) -> Arg<'a> {
         .value_parser(value_parser!(u16))
 }
 
-fn image_option<'a>(alloc: Global) -> Result<Arg<'a>, AllocError> {
+fn image_option<'a>(alloc: Global) -> Result<Arg<'a>, AllocError>
+    ensures { IfOk result (IsRule image_rule) }
+{
     Arg::new(alloc, "image")
         .long("image")
         .value_name("F")
@@ -123,7 +132,9 @@ fn image_option<'a>(alloc: Global) -> Result<Arg<'a>, AllocError> {
         .conflicts_with("limit")
 }
 
-fn save_option<'a>(alloc: Global) -> Arg<'a> {
+fn save_option<'a>(alloc: Global) -> Arg<'a>
+    ensures { IsRule (option (codes "save")) result }
+{
     Arg::new(alloc, "save")
         .long("save")
         .value_name("F")
@@ -131,14 +142,18 @@ fn save_option<'a>(alloc: Global) -> Arg<'a> {
 }
 
 // The options of a service's beginning and end.
-fn with_service<'a>(alloc: Global, command: Command<'a>) -> Result<Command<'a>, AllocError> {
+fn with_service<'a>(alloc: Global, command: Command<'a>) -> Result<Command<'a>, AllocError>
+    ensures { IfOk result (AddsService command.entry) }
+{
     command
         .arg(image_option(alloc)?)?
         .arg(save_option(alloc))?
         .arg(limit_option(alloc))
 }
 
-fn run_command<'a>(alloc: Global) -> Result<Command<'a>, AllocError> {
+fn run_command<'a>(alloc: Global) -> Result<Command<'a>, AllocError>
+    ensures { IfOk result (IsCommand run_shape) }
+{
     let show = Arg::new(alloc, "show")
         .long("show")
         .help("Shows the values of encoding b and b64 in the answers to reads")
@@ -154,43 +169,69 @@ fn run_command<'a>(alloc: Global) -> Result<Command<'a>, AllocError> {
     with_service(alloc, command)
 }
 
-fn frames_command<'a>(alloc: Global) -> Result<Command<'a>, AllocError> {
+fn frames_command<'a>(alloc: Global) -> Result<Command<'a>, AllocError>
+    ensures { IfOk result (IsCommand frames_shape) }
+{
     let command = Command::new(alloc, "frames").about(
         "Takes requests as frames from standard input, and writes a frame for each as its answer",
     );
     with_service(alloc, command)
 }
 
-fn serve_command<'a>(alloc: Global) -> Result<Command<'a>, AllocError> {
-    let workers = Arg::new(alloc, "workers")
+fn workers_option<'a>(alloc: Global) -> Arg<'a>
+    ensures { IsRule workers_rule result }
+{
+    Arg::new(alloc, "workers")
         .long("workers")
         .value_name("N")
         .help("How many workers serve, 1 to 8")
         .required(true)
-        .value_parser(value_parser!(u16));
-    let history = Arg::new(alloc, "history")
+        .value_parser(value_parser!(u16))
+}
+
+fn history_option<'a>(alloc: Global) -> Arg<'a>
+    ensures { IsRule (option (codes "history")) result }
+{
+    Arg::new(alloc, "history")
         .long("history")
         .value_name("H")
         .help(
             "Writes to file H the order in which the messages were served: the connection of each",
-        );
-    let scripts = Arg::new(alloc, "F")
+        )
+}
+
+fn script_files<'a>(alloc: Global) -> Arg<'a>
+    ensures { IsRule scripts_rule result }
+{
+    Arg::new(alloc, "F")
         .help("Script files, 1 to 1024: the one at place K is connection K")
         .required(true)
         .num_args(1..=SCRIPTS_MAX)
-        .action(ArgAction::Append);
-    Command::new(alloc, "serve")
-        .about("Runs one script per session, in several threads, and prints the answers of each")
-        .arg(workers)?
-        .arg(history)?
-        .arg(scripts)
+        .action(ArgAction::Append)
 }
 
-fn whole_command<'a>(alloc: Global) -> Result<Command<'a>, AllocError> {
-    let version = Arg::new(alloc, "version")
+fn serve_command<'a>(alloc: Global) -> Result<Command<'a>, AllocError>
+    ensures { IfOk result (IsCommand serve_shape) }
+{
+    Command::new(alloc, "serve")
+        .about("Runs one script per session, in several threads, and prints the answers of each")
+        .arg(workers_option(alloc))?
+        .arg(history_option(alloc))?
+        .arg(script_files(alloc))
+}
+
+fn version_option<'a>(alloc: Global) -> Arg<'a>
+    ensures { IsRule version_rule result }
+{
+    Arg::new(alloc, "version")
         .long("version")
         .help("Print version")
-        .action(ArgAction::Version);
+        .action(ArgAction::Version)
+}
+
+fn whole_command<'a>(alloc: Global) -> Result<Command<'a>, AllocError>
+    ensures { IfOk result (λ command. app_of command ≡ pps) }
+{
     Command::new(alloc, "pps")
         .bin_name("pps")?
         .version("0.1")
@@ -199,29 +240,47 @@ fn whole_command<'a>(alloc: Global) -> Result<Command<'a>, AllocError> {
         .disable_version_flag(true)
         .disable_help_subcommand(true)
         .subcommand_required(true)
-        .arg(version)?
+        .arg(version_option(alloc))?
         .subcommand(run_command(alloc)?)?
         .subcommand(frames_command(alloc)?)?
         .subcommand(serve_command(alloc)?)
 }
 
-fn asked_limit(matches: &ArgMatches<'_>) -> Result<NonZeroU16, Fault> {
+fn asked_limit(matches: &ArgMatches<'_>) -> Result<NonZeroU16, Fault>
+    ensures limit { IfOk result (λ limit.
+        IsNumber (one_text (found_of matches.now) (codes "limit")) 256 limit.value) }
+    ensures fault { IfErr result IsFaultOfWords }
+{
     let limit = matches.get_one::<u16>("limit").unwrap_or(DEFAULT_LIMIT);
     NonZeroU16::new(limit).ok_or(Fault::BadCommandLine)
 }
 
-fn asked_service<'w>(matches: &ArgMatches<'w>) -> Result<ServiceOptions<'w>, Fault> {
-    let beginning = match matches.get_str("image") {
-        Some(image) => Beginning::Image(image),
-        None => Beginning::Empty(asked_limit(matches)?),
-    };
+fn asked_beginning<'w>(matches: &ArgMatches<'w>) -> Result<Beginning<'w>, Fault>
+    ensures beginning { IfOk result (
+        IsBeginning (first_value (found_of matches.now) (codes "image"))
+        (one_text (found_of matches.now) (codes "limit"))) }
+    ensures fault { IfErr result IsFaultOfWords }
+{
+    match matches.get_str("image") {
+        Some(image) => Ok(Beginning::Image(image)),
+        None => Ok(Beginning::Empty(asked_limit(matches)?)),
+    }
+}
+
+fn asked_service<'w>(matches: &ArgMatches<'w>) -> Result<ServiceOptions<'w>, Fault>
+    ensures service { IfOk result (ServiceIn (found_of matches.now)) }
+    ensures fault { IfErr result IsFaultOfWords }
+{
     Ok(ServiceOptions {
-        beginning,
+        beginning: asked_beginning(matches)?,
         save: matches.get_str("save"),
     })
 }
 
-fn asked_scripts<'w>(alloc: Global, matches: &ArgMatches<'w>) -> Result<ServeOptions<'w>, Fault> {
+fn asked_scripts<'w>(alloc: Global, matches: &ArgMatches<'w>) -> Result<ServeOptions<'w>, Fault>
+    ensures files { IfOk result (FilesIn (found_of matches.now)) }
+    ensures fault { IfErr result IsFaultOfWords }
+{
     let count = matches.get_one::<u16>("workers").unwrap_or(0);
     let workers = Workers::new(count).ok_or(Fault::BadCommandLine)?;
     let Some(files) = matches.get_strs("F") else {
@@ -236,8 +295,44 @@ fn asked_scripts<'w>(alloc: Global, matches: &ArgMatches<'w>) -> Result<ServeOpt
     })
 }
 
+fn asked_script<'w>(matches: &ArgMatches<'w>) -> Result<RunOptions<'w>, Fault>
+    ensures script { IfOk result (ScriptIn (found_of matches.now)) }
+    ensures fault { IfErr result IsFaultOfWords }
+{
+    Ok(RunOptions {
+        manner: Manner {
+            show: matches.get_flag("show"),
+            patient: matches.get_flag("interactive"),
+        },
+        service: asked_service(matches)?,
+    })
+}
+
+// What a command asks for, by its name and its options.
+fn asked_command<'w>(
+    alloc: Global,
+    name: &str,
+    matches: &ArgMatches<'w>,
+) -> Result<Asked<'w>, Fault>
+    ensures asks { IfOk result (CommandAsks name.now (found_of matches.now)) }
+    ensures fault { IfErr result IsFaultOfWords }
+{
+    match name {
+        "run" => Ok(Asked::Run(asked_script(matches)?)),
+        "frames" => Ok(Asked::Frames(asked_service(matches)?)),
+        "serve" => Ok(Asked::Serve(asked_scripts(alloc, matches)?)),
+        _ => Err(Fault::BadCommandLine),
+    }
+}
+
 /// What the words of a command line ask for, the first of which is the program's name.
-pub(crate) fn read_words<'w, S: AsStr>(alloc: Global, words: &'w [S]) -> Result<Asked<'w>, Fault> {
+///
+/// A job is the one that they name, as the contract of `clap` has it, with the options that they name for it. Which words
+/// ask for the help or the version, and which are a bad command line, is not promised, but tested.
+pub(crate) fn read_words<'w, S: AsStr>(alloc: Global, words: &'w [S]) -> Result<Asked<'w>, Fault>
+    ensures asks { IfOk result (AsksFor (map S.text words.entry.now)) }
+    ensures fault { IfErr result IsFaultOfWords }
+{
     let matches = match whole_command(alloc)?.try_get_matches_from(words) {
         Ok(matches) => matches,
         Err(e) if e.kind() == ErrorKind::OutOfMemory => return Err(Fault::OutOfMemory),
@@ -245,15 +340,7 @@ pub(crate) fn read_words<'w, S: AsStr>(alloc: Global, words: &'w [S]) -> Result<
         Err(e) => return Ok(Asked::Text(format!(in alloc; "{e}")?)),
     };
     match matches.subcommand() {
-        Some(("run", matches)) => Ok(Asked::Run(RunOptions {
-            manner: Manner {
-                show: matches.get_flag("show"),
-                patient: matches.get_flag("interactive"),
-            },
-            service: asked_service(matches)?,
-        })),
-        Some(("frames", matches)) => Ok(Asked::Frames(asked_service(matches)?)),
-        Some(("serve", matches)) => Ok(Asked::Serve(asked_scripts(alloc, matches)?)),
-        _ => Err(Fault::BadCommandLine),
+        Some((name, matches)) => asked_command(alloc, name, matches),
+        None => Err(Fault::BadCommandLine),
     }
 }

@@ -1,6 +1,6 @@
 //! What ends the program before its time.
 ghost use Rattle.std.specs.Prelude.{◌≡◌};
-ghost use Rattle.pps_cli.specs.Faults.{status_of};
+ghost use Rattle.pps_cli.specs.Faults.{status_of, status_of_failure};
 ghost use Rattle.pps_cli.specs.declared.fault.Failure.TheVariants as failures;
 ghost use Rattle.pps_cli.specs.declared.fault.Fault.TheVariants.{OutOfMemory};
 
@@ -94,7 +94,9 @@ pub(crate) enum Failure<'w> {
 
 impl Failure<'_> {
     /// The exit status.
-    pub(crate) fn status(self) -> u8 {
+    pub(crate) fn status(self) -> u8
+        ensures { result ≡ status_of_failure self.entry }
+    {
         match self {
             Failure::Fault(fault) => fault.status(),
             Failure::CannotRead { .. }

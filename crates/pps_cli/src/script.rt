@@ -18,7 +18,11 @@ pub(crate) struct Reporter<'e, E> {
 }
 
 impl<'e, E: Write> Reporter<'e, E> {
-    pub(crate) fn new(errors: &'e mut E) -> Reporter<'e, E> {
+    /// Bad lines are reported there.
+    pub(crate) fn new(errors: &'e mut E) -> Reporter<'e, E>
+        ensures same_reference { result.errors.ghost_name ≡ errors.entry.ghost_name }
+        ensures same_value { result.errors.now ≡ errors.old }
+    {
         Reporter { errors }
     }
 }

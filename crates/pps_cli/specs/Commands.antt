@@ -1,0 +1,117 @@
+-- What becomes of a command line: what it asks for is done, and the program ends with a status.
+use Rattle.std.specs.Prelude.{◌≡◌, ℕ, List, Option, Result, Ok, Err, IfOk, string_bytes}
+use Rattle.std.specs.Io.KnownBytes.{Appends, Keeps}
+use Rattle.pps_types.specs.Device.{device_inner}
+use Rattle.pps_types.specs.Exchange.{output_of, with_output}
+use Rattle.pps_types.specs.Writing.{SendsPart, FailsWithDevice}
+use Rattle.pps_types.specs.declared.exchange.Exchange.{Exchange}
+use Rattle.pps_persist.specs.Files.{Replaced, ReplacesNone}
+use Rattle.pps_cli.specs.declared.command_line.Asked.{Asked}
+use Rattle.pps_cli.specs.declared.command_line.Asked.TheVariants.{Run, Frames, Serve, Text}
+use Rattle.pps_cli.specs.declared.command_line.ServeOptions.{ServeOptions}
+use Rattle.pps_cli.specs.declared.fault.Fault.{Fault}
+use Rattle.pps_cli.specs.declared.fault.Fault.TheVariants.{CannotWriteOutput}
+use Rattle.pps_cli.specs.declared.fault.Failure.{Failure}
+use Rattle.pps_cli.specs.declared.fault.Failure.TheVariants as failures
+use Rattle.pps_cli.specs.Faults.{IsFaultOfWords, status_of, status_after}
+use Rattle.pps_cli.specs.Jobs.{Does, RunsOver, ServesOver}
+use Rattle.pps_cli.specs.Sessions.{Serves}
+use Rattle.pps_cli.specs.Words.{AsksFor}
+
+-- ---- what is asked for
+
+-- the bytes that the output of an exchange has, if they are known
+abbrev pub written : {R W : Type 0} → (W → Option (List ℕ)) → Exchange R W → Option (List ℕ)
+written contents exchange = contents (device_inner (output_of exchange))
+
+-- nothing but the output is another
+abbrev pub ChangesOutput : {R W : Type 0} → (from to : Exchange R W) → Type 0
+ChangesOutput from to = to ≡ with_output from (output_of to)
+
+-- The text was printed; or a beginning of it, if the output cannot be written.
+abbrev pub PrintsText : {X : Type 0} → (bytes : List ℕ) → (before after : Option (List ℕ))
+    → Result X Failure → Type 0
+PrintsText bytes before after (Ok done) = Appends before after bytes
+PrintsText bytes before after (Err failure) =
+    SendsPart before after bytes × (failure ≡ failures.Fault CannotWriteOutput)
+
+-- A text was printed, and nothing was read or saved. It fails only where the output did.
+pub record Prints {R W X : Type 0} (contents : W → Option (List ℕ)) (bytes : List ℕ)
+    (from to : Exchange R W) (old new : Option (List Replaced)) (outcome : Result X Failure)
+    : Type 0 where
+  pub printed : PrintsText bytes (written contents from) (written contents to) outcome
+  pub fault : FailsWithDevice (output_of from) (output_of to) outcome
+  pub only : ChangesOutput from to
+  pub saved : ReplacesNone old new
+
+-- script files were served, and nothing was read from the input
+pub record ServesFiles {R W X : Type 0} (contents : W → Option (List ℕ))
+    (held : List ℕ → Option (List ℕ)) (options : ServeOptions)
+    (from to : Exchange R W) (old new : Option (List Replaced)) (outcome : Result X Failure)
+    : Type 0 where
+  pub serves : Serves held options (written contents from) (written contents to) old new outcome
+  pub only : ChangesOutput from to
+
+-- what became of what is asked for
+abbrev pub DoesAsked : {R W X : Type 0} → (R → Option (List ℕ)) → (W → Option (List ℕ))
+    → (held : List ℕ → Option (List ℕ)) → Asked → (from to : Exchange R W)
+    → (old new : Option (List Replaced)) → Result X Failure → Type 0
+DoesAsked remaining contents held (Run options) from to old new outcome =
+    Does held options.service (RunsOver remaining contents options.manner from to) (to ≡ from)
+    old new outcome
+DoesAsked remaining contents held (Frames options) from to old new outcome =
+    Does held options (ServesOver remaining contents from to) (to ≡ from) old new outcome
+DoesAsked remaining contents held (Serve options) from to old new outcome =
+    ServesFiles contents held options from to old new outcome
+DoesAsked remaining contents held (Text text) from to old new outcome =
+    Prints contents (string_bytes text) from to old new outcome
+
+-- of nothing but a script is a line reported
+abbrev pub ReportsFor : {B : Type 0} → Asked → (old new : B) → Type 0
+ReportsFor (Run options) old new = Unit {0}
+ReportsFor asked old new = new ≡ old
+
+-- ---- words
+
+-- nothing was written of what was done whole, but for bad lines of a script
+abbrev pub IsQuiet : {X : Type 0} → Asked → Result X Failure → (before after : Option (List ℕ))
+    → Type 0
+IsQuiet (Run options) outcome before after = Unit {0}
+IsQuiet asked (Ok done) before after = Keeps before after
+IsQuiet asked (Err failure) before after = Unit {0}
+
+-- What was asked for was done or failed, and the program ends so.
+pub record EndsAfter {R W : Type 0} (remaining : R → Option (List ℕ))
+    (contents : W → Option (List ℕ)) (held : List ℕ → Option (List ℕ)) (asked : Asked)
+    (from to : Exchange R W) (old new : Option (List Replaced))
+    (before after : Option (List ℕ)) (status : ℕ) : Type 0 where
+  pub outcome : Result (Unit {0}) Failure
+  pub does : DoesAsked remaining contents held asked from to old new outcome
+  pub ends : status ≡ status_after outcome
+  pub quiet : IsQuiet asked outcome before after
+
+-- Words that are no command line ask for nothing, and nothing was done.
+pub record EndsAtOnce {R W : Type 0} (fault : Fault) (from to : Exchange R W)
+    (old new : Option (List Replaced)) (status : ℕ) : Type 0 where
+  pub why : IsFaultOfWords fault
+  pub same : to ≡ from
+  pub saved : ReplacesNone old new
+  pub ends : status ≡ status_of fault
+
+-- what became of words that were read so
+abbrev pub EndsAs : {R W : Type 0} → (R → Option (List ℕ)) → (W → Option (List ℕ))
+    → (held : List ℕ → Option (List ℕ)) → Result Asked Fault → (from to : Exchange R W)
+    → (old new : Option (List Replaced)) → (before after : Option (List ℕ)) → ℕ → Type 0
+EndsAs remaining contents held (Ok asked) from to old new before after status =
+    EndsAfter remaining contents held asked from to old new before after status
+EndsAs remaining contents held (Err fault) from to old new before after status =
+    EndsAtOnce fault from to old new status
+
+-- The words were read, and that became of them. A job is the one that they name.
+pub record RunsWords {R W : Type 0} (words : List (List ℕ)) (remaining : R → Option (List ℕ))
+    (contents : W → Option (List ℕ)) (held : List ℕ → Option (List ℕ))
+    (from to : Exchange R W) (old new : Option (List Replaced))
+    (before after : Option (List ℕ)) (status : ℕ) : Type 0 where
+  pub read : Result Asked Fault
+  pub asks : IfOk read (AsksFor words)
+  pub ends : EndsAs remaining contents held read from to old new before after status
