@@ -40,7 +40,7 @@ AreBelow number handles = AllByRecursion (λ (h : Open Seen). h.number < number)
 
 -- ---- the list after
 
--- a handle opened on the target of that number and name, behind the others
+-- a handle opened on the target of that number and name, after the others
 abbrev pub with_opened : ℕ → List ℕ → Opening → List (Open Seen) → List (Open Seen)
 with_opened target name opening handles =
     handles ++ reseen (λ h. first_seen h (style h.kind)) (opened target name opening) ∷ []
