@@ -14,12 +14,10 @@ use crate::directory::{Entry, Node, Ready};
 use crate::edit::Edit;
 use crate::kind::NodeKind;
 use crate::listed::Member;
+use pps_types::limits::MEMBERS_MAX;
 use pps_types::{Found, ObjId, Refusal};
 use std::alloc::{AllocError, Allocator};
 use std::cmp::Ordering;
-
-/// The most objects of a directory, and the most directories.
-const MEMBERS_MAX: usize = 256;
 
 /// Where a name stands, or else where it would go. The last entry may be the only one, or the newest.
 #[inline(always)]

@@ -1,11 +1,7 @@
 //! How much an object may hold.
 ghost use Rattle.std.specs.Prelude.{◌≡◌, ◌||◌, nat_lt};
 
-/// The most attributes of an object.
-const ATTRIBUTES_MAX: usize = 1_024;
-
-/// The most bytes of the printing of an object's attributes.
-const TEXT_MAX: usize = 65_536;
+use pps_types::limits::{ATTRIBUTES_MAX, TEXT_MAX};
 
 /// Whether so many attributes, or so many bytes of their printing, are more than an object may hold.
 #[inline]

@@ -6,12 +6,10 @@ ghost use Rattle.pps_types.specs.Text as text;
 ghost use Rattle.attr_text.specs.ReadWrite.{first_line_of, lines_from, IsLinesRefusal, IsTextRefusal};
 
 use crate::parts::{is_encoding, split_at_colon, split_at_line_feed};
+use pps_types::limits::WRITE_MAX;
 use pps_types::{Bytes, Mark, Refusal, WriteLine, is_attribute_name};
 use std::alloc::{AllocError, Global};
 use std::marker::Model;
-
-/// The most bytes of a write.
-pub const WRITE_LIMIT: usize = 65_536;
 
 /// What a written text says: its header, and its lines.
 #[derive(Debug, Drop)]
@@ -154,7 +152,7 @@ fn after_at(bytes: &[u8]) -> Option<&[u8]>
 
 /// Reads a text that is not too large.
 fn read_text(alloc: Global, bytes: &[u8]) -> Result<WriteText, Refusal>
-    requires { length bytes.now ≤ WRITE_LIMIT }
+    requires { length bytes.now ≤ WRITE_MAX }
     ensures ok { IfOk result (λ read. text.write_text bytes.now ≡ Ok read) }
     ensures err { IfErr result (IsTextRefusal bytes.now) }
 {
@@ -177,10 +175,10 @@ fn read_text(alloc: Global, bytes: &[u8]) -> Result<WriteText, Refusal>
 /// Reads the text of a write: perhaps a header, and lines that set and delete attributes.
 pub fn read_write(alloc: Global, bytes: &[u8]) -> Result<WriteText, Refusal>
     ensures ok { IfOk result (λ read. text.write_text bytes.now ≡ Ok read) }
-    ensures too_large { IsErrOf result Refusal.TooLarge ↔ (WRITE_LIMIT < length bytes.now) }
-    ensures err { length bytes.now ≤ WRITE_LIMIT → IfErr result (IsTextRefusal bytes.now) }
+    ensures too_large { IsErrOf result Refusal.TooLarge ↔ (WRITE_MAX < length bytes.now) }
+    ensures err { length bytes.now ≤ WRITE_MAX → IfErr result (IsTextRefusal bytes.now) }
 {
-    if bytes.len() > WRITE_LIMIT {
+    if bytes.len() > WRITE_MAX {
         return Err(Refusal::TooLarge);
     }
     read_text(alloc, bytes)

@@ -6,7 +6,7 @@ use Rattle.pps_types.specs.Bytes.{is_empty}
 use Rattle.pps_types.specs.History.{Entry}
 use Rattle.pps_types.specs.Reading.{Open}
 use Rattle.pps_types.specs.Rests.{Seen}
-use Rattle.service_laws.specs.Told.{is_waiting, learns}
+use Rattle.pps_types.specs.Content.{is_waiting, learns}
 use Rattle.engine_targets.specs.Woken.{woken_by}
 use Rattle.engine_servers.specs.declared.holder.Holder.{Holder}
 use Rattle.engine_servers.specs.Holders.{handle_of, number_in, sees}

@@ -4,7 +4,7 @@ use Rattle.std.specs.List.{list_any}
 use Rattle.pps_types.specs.History.{Entry}
 use Rattle.pps_types.specs.Reading.{Open, visible}
 use Rattle.pps_types.specs.Rests.{Seen}
-use Rattle.service_laws.specs.Told.{is_waiting, learns}
+use Rattle.pps_types.specs.Content.{is_waiting, learns}
 use Rattle.engine_targets.specs.Opened.{opened}
 use Rattle.engine_targets.specs.declared.place.Place.{Place}
 use Rattle.engine_targets.specs.declared.place.Place.TheVariants.{News, Fresh, Over, Idle, At}

@@ -9,7 +9,6 @@ pub mod Glances
 pub mod Orphans
 pub mod Begins
 pub mod Plans
-pub mod Readied
 pub mod Backlogs
 pub mod Refusals
 pub mod Drafts

@@ -19,11 +19,8 @@ use Rattle.pps_types.specs.WellFormed.{AreRising, IsContent, is_server_of, has_s
 use Rattle.service_laws.proofs.Finds.{and-both, all-find, find-true}
 use Rattle.service_laws.specs.Closings.{server_closed}
 use Rattle.notify_box.proofs.ConnectionLists.{found-both}
+use Rattle.service_state.proofs.Begun.{moves_told}
 use Rattle.handle_requests.specs.Told.{kind_told, record_told, told_of, closes_before, told_behind}
-
--- what a record that is told changes
-abbrev pub moves_told : Option Entry → List Move
-moves_told told = option_map_or (λ e. AppendsRecord e ∷ []) told []
 
 target-told : (c : Content) (h : Open Seen) (kind : Kind) → on_target c h kind None ≡ moves_told (record_told (Some kind) (object_numbered c h.target))
 target-told c h kind = by (object_numbered c h.target)

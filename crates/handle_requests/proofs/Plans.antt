@@ -34,9 +34,11 @@ use Rattle.engine_targets.specs.Opened.{as_opened}
 use Rattle.service_state.specs.Refused.{Fails, all_request_checks}
 use Rattle.handle_requests.proofs.Owns.{own_known}
 use Rattle.handle_requests.specs.Told.{record_told, told_of, told_behind}
-use Rattle.handle_requests.specs.Begun.{bare, telling, begun, begun_behind}
+use Rattle.service_state.specs.Begun.{bare, telling}
+use Rattle.handle_requests.specs.Begun.{begun, begun_behind}
 use Rattle.handle_requests.proofs.Orphans.{parting_told}
-use Rattle.handle_requests.proofs.Begins.{bare_moves, bare_plain, bare_able, numbers_begun, plain_told, plain_all, able_begun, told_moves, moves_begun}
+use Rattle.service_state.proofs.Begun.{bare_moves, bare_plain, bare_able, numbers_begun, told_moves}
+use Rattle.handle_requests.proofs.Begins.{plain_told, plain_all, able_begun, moves_begun}
 
 -- ---- the checks of a close
 

@@ -9,11 +9,10 @@ ghost use Rattle.handle_requests.specs.Closed.{IsReady, TakesMemoryToClose, IsCl
 
 use crate::gathering::{close_all, close_behind, is_parked};
 use crate::own::own_handle;
-use crate::room::{begin_ready, numbers_are_within};
 use crate::told::told_of;
 use pps_types::{Conn, Handle, Refusal};
 use service_laws::{closes_are_planned, events_are_settled};
-use service_state::{Beginning, Tables};
+use service_state::{Beginning, Tables, begin_ready, numbers_are_within};
 use std::alloc::Global;
 
 /// How a handle closes.

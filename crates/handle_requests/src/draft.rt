@@ -14,8 +14,9 @@ use crate::address::{addressee, is_foreign};
 use crate::backlog::{message_refusal, server_backlog};
 use crate::message::{message_lines, sent};
 use crate::writer::{Writer, writer_of};
-use attr_text::{WRITE_LIMIT, WriteText, read_write};
+use attr_text::{WriteText, read_write};
 use name_table::NamedObject;
+use pps_types::limits::WRITE_MAX;
 use pps_types::{Bytes, Conn, Handle, HandleKind, Kind, Lines, ObjId, Refusal};
 use service_state::Tables;
 use std::alloc::Global;
@@ -136,7 +137,7 @@ fn kind_of(
 
 // What a text says that is not too large.
 fn read(alloc: Global, bytes: &Bytes) -> Result<WriteText, Refusal>
-    requires { length bytes.now ≤ WRITE_LIMIT }
+    requires { length bytes.now ≤ WRITE_MAX }
     ensures ok { IfOk result (λ text. write_text bytes.now ≡ Ok text) }
     ensures err { IfErr result (λ r. FailsLate (parsed (write_text bytes.now) (λ text. [])) r) }
 {
@@ -152,7 +153,7 @@ fn draft_of(
 ) -> Result<Draft, Refusal>
     requires content { IsContent (content_in tables.now) }
     requires author { IsAuthor (content_in tables.now) writer.now }
-    requires short { length bytes.now ≤ WRITE_LIMIT }
+    requires short { length bytes.now ≤ WRITE_MAX }
     ensures ok { IfOk result (λ d. IsDraftBy tables.now writer.now bytes.now d) }
     ensures err { IfErr result (λ r. FailsLate (bytes_checks tables.now writer.now bytes.now) r) }
 {

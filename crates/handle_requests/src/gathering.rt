@@ -1,17 +1,17 @@
 //! What closing handles begin with, one after the other.
-ghost use Rattle.std.specs.Prelude.{◌≡◌, Some, map, is_some, IfOk, OnOk};
+ghost use Rattle.std.specs.Prelude.{◌≡◌, map, is_some, IfOk, OnOk};
 ghost use Rattle.notify_box.specs.Connections.{AreOwned};
-ghost use Rattle.service_state.specs.Beginning.{entries_in};
+ghost use Rattle.service_state.specs.Begun.{bare, Adds, AreShared, KeepsShares};
 ghost use Rattle.service_state.specs.Tables.{content_in};
 ghost use Rattle.handle_requests.specs.Own.{IfOwn};
-ghost use Rattle.handle_requests.specs.Begun.{bare, telling, begun, begun_behind, begun_by, Adds, AreShared, KeepsShares};
+ghost use Rattle.handle_requests.specs.Begun.{begun, begun_behind, begun_by};
 
 use crate::own::own_handle;
 use crate::told::told_behind;
 use notify_box::connections_are_found;
 use pps_types::{Conn, Handle};
 use server_queue::Entry;
-use service_state::{Beginning, Tables};
+use service_state::{Beginning, Tables, tell};
 use std::alloc::{AllocError, Global};
 
 /// Whether a read waits on the connection's own handle of that number.
@@ -21,23 +21,6 @@ pub(crate) fn is_parked(tables: &Tables, conn: Conn, handle: Handle) -> bool
     let handles = tables.handles();
     handles.handles_are_placed();
     handles.parked(handle).is_some()
-}
-
-/// Puts a record behind what an event begins with, with shares of it for all handles that it is told to. AllocError comes only
-/// where memory is wanting.
-pub fn tell(
-    beginning: &mut Vec<Beginning>,
-    tables: &Tables,
-    alloc: Global,
-    entry: Entry,
-) -> Result<(), AllocError>
-    ensures begun { OnOk result
-        (Adds beginning.old.items beginning.new.items (telling (Some entry))) }
-    ensures shared { OnOk result (KeepsShares tables.now beginning.old.items beginning.new.items) }
-{
-    let told = tables.handles().shares(alloc, entry)?;
-    beginning.push(Beginning::AppendsRecord(told))?;
-    Ok(())
 }
 
 /// Puts behind what was begun that a handle closes, and its record, where there is one, with shares of it for all handles
@@ -104,17 +87,4 @@ pub(crate) fn close_all(
         close_own(&mut beginning, tables, alloc, conn, *handle)?;
     }
     Ok(beginning)
-}
-
-/// The records among what is begun, in their order. AllocError comes only where memory is wanting.
-pub fn entries_in(alloc: Global, beginning: &[Beginning]) -> Result<Vec<Entry>, AllocError>
-    ensures { IfOk result (λ entries. entries.items ≡ entries_in beginning.now) }
-{
-    let mut entries = Vec::new(alloc);
-    'records: for each in beginning {
-        if let Beginning::AppendsRecord(told) = each {
-            entries.push(told.entry().share()?)?;
-        }
-    }
-    Ok(entries)
 }

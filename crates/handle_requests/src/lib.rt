@@ -15,16 +15,13 @@ mod owed;
 mod own;
 mod reading;
 mod ready;
-mod room;
 mod sources;
 mod told;
 mod writer;
 mod writing;
 
 pub use closes::{Closing, close, detach};
-pub use gathering::{entries_in, tell};
 pub use notices::{Notified, notify};
 pub use outboxes::{attach, receive};
 pub use reading::{ReadDone, read};
-pub use room::{begin_ready, numbers_are_within};
 pub use writing::{Written, write};

@@ -11,11 +11,9 @@ ghost use Rattle.handle_requests.specs.Notices.{notice_checks, code_checks, IsNo
 
 use crate::own::own_asked;
 use engine_targets::Pulse;
+use pps_types::limits::CODE_MAX;
 use pps_types::{Action, Conn, Handle, Refusal};
 use service_state::Tables;
-
-/// The highest code of a pulse.
-const LAST_CODE: u8 = 127;
 
 /// What a Notify answers, and what it arms.
 #[derive(Clone, Copy, Debug, PartialEq, Eq)]
@@ -51,7 +49,7 @@ fn check_asked(tables: &Tables, conn: Conn, handle: Handle, code: u8) -> Result<
     if !asked.own.reads() {
         return Err(Refusal::BadMode);
     }
-    if code > LAST_CODE {
+    if code > CODE_MAX {
         return Err(Refusal::BadArgument);
     }
     Ok(asked.glance.has_news)

@@ -14,13 +14,11 @@ ghost use Rattle.handle_requests.specs.Reads.{IsAnswered, text_in, waits, IsRead
 
 use crate::own::{SeenHandle, own_asked};
 use crate::sources::{answer_of_directory, answer_of_object};
+use pps_types::limits::READ_MAX;
 use pps_types::{Conn, Handle, Outcome, Refusal, SharedBytes};
 use service_state::Tables;
 use std::alloc::Global;
 use whole_texts::{Answer, Effect};
-
-/// The most bytes that a read may ask for.
-const READ_LIMIT: u32 = 17_000_000;
 
 /// What a read answers, and what it leaves of its handle.
 #[derive(Drop)]
@@ -32,7 +30,7 @@ pub struct ReadDone {
 fn is_read_size(size: u32) -> bool
     ensures { result ≡ (nat_le 1 size && nat_le size 17000000) }
 {
-    1 <= size && size <= READ_LIMIT
+    1 <= size && size <= READ_MAX
 }
 
 // The connection's own handle, where a read of that size may be asked of it.

@@ -7,8 +7,8 @@ ghost use Rattle.service_state.specs.Refused.{RefusedBy, checks_in};
 ghost use Rattle.handle_requests.specs.Drafting.{IsWriterOf};
 
 use crate::own::own_handle;
-use attr_text::WRITE_LIMIT;
 use name_table::NamedObject;
+use pps_types::limits::WRITE_MAX;
 use pps_types::{Bytes, Conn, Handle, HandleKind, ObjId, Refusal};
 use service_state::Tables;
 
@@ -40,7 +40,7 @@ pub(crate) fn writer_of<'a>(
     if !own.writes() {
         return Err(Refusal::BadMode);
     }
-    if bytes.len() > WRITE_LIMIT {
+    if bytes.len() > WRITE_MAX {
         return Err(Refusal::TooLarge);
     }
     let Some(object) = tables.names().object(ObjId::new(own.target())) else {

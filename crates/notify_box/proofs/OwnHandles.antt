@@ -1,6 +1,6 @@
 -- Handles that rise, and the last of them.
-use Rattle.std.proofs.Common.{◌≡◌, ℕ, zero, suc, ◌+◌, ◌-◌, ◌<◌, ◌≤◌, List, [], ◌∷◌, Some, length, subst, arith}
-use Rattle.std.specs.List.{AllByRecursion, slice_get}
+use Rattle.std.proofs.Common.{◌≡◌, ℕ, zero, suc, ◌+◌, ◌-◌, ◌<◌, ◌≤◌, List, [], ◌∷◌, Some, length, drop, refl, ap, ◌∙◌, subst, arith}
+use Rattle.std.specs.List.{AllByRecursion, remove, slice_get}
 use Rattle.pps_types.specs.Rising.{AllAbove, IsRising}
 
 some_is : (x y : ℕ) → Some x ≡ Some y → x ≡ y
@@ -32,3 +32,21 @@ pub below_got : (n l k : ℕ) (hs : List ℕ) → AllByRecursion (λ h. h < n) h
 below_got n l k [] below got = cc
 below_got n l zero (h ∷ hs) below got = subst (λ x. x < n) (some_is h l got) below.0
 below_got n l (suc k) (h ∷ hs) below got = below_got n l k hs below.1 got
+
+-- ---- what is left behind the places of closed handles
+
+-- where the first closes
+pub first_removed : {X : Type 0} (n : ℕ) (xs : List X) → drop (suc n) xs ≡ remove (drop n xs) 0
+first_removed zero [] = refl
+first_removed zero (x ∷ xs) = refl
+first_removed (suc n) [] = refl
+first_removed (suc n) (x ∷ xs) = first_removed n xs
+
+-- where another one closes
+pub later_removed : {X : Type 0} (n i : ℕ) (xs : List X) → drop n (remove xs (n + i)) ≡ remove (drop n xs) i
+later_removed zero i xs = let none : 0 + i ≡ i = omega arith in ap (remove xs) none
+later_removed (suc n) zero [] = let next : suc n + 0 ≡ suc n = omega arith in ap (λ k. drop (suc n) (remove [] k)) next
+later_removed (suc n) (suc i) [] = let next : suc n + suc i ≡ suc (n + suc i) = omega arith in ap (λ k. drop (suc n) (remove [] k)) next
+later_removed (suc n) i (x ∷ xs) =
+    let next : suc n + i ≡ suc (n + i) = omega arith in
+    ap (λ k. drop (suc n) (remove (x ∷ xs) k)) next ∙ later_removed n i xs

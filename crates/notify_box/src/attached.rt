@@ -4,9 +4,9 @@ ghost use Rattle.pps_types.specs.declared.refusal.Refusal.TheVariants.{OutOfMemo
 ghost use Rattle.pps_types.specs.Rising.{IsRising, IsPlaceOf, IsGapFor};
 ghost use Rattle.notify_box.specs.Standing.{number_of, standing_of};
 
-use crate::handle_places::same_handles;
 use crate::outbox::Outbox;
-use pps_types::{Conn, Handle, Refusal};
+use crate::own_handles::OwnHandles;
+use pps_types::{Conn, Refusal};
 use std::alloc::Global;
 use std::marker::Model;
 
@@ -15,11 +15,11 @@ use std::marker::Model;
 pub(crate) struct Attached {
     pub(crate) number: Conn,
     pub(crate) outbox: Outbox,
-    pub(crate) handles: Vec<Handle>,
+    pub(crate) handles: OwnHandles,
 }
 
 impl Model for Attached {
-    ghost use Rattle.std.specs.Prelude.{ℕ, ◌-◌, vec_len, vec_capacity};
+    ghost use Rattle.std.specs.Prelude.{ℕ};
     ghost use Rattle.pps_types.specs.Rising.{IsRising};
     ghost use Rattle.notify_box.specs.Standing.{RoomedConnection};
 
@@ -28,11 +28,11 @@ impl Model for Attached {
     ghost view = { λ a. record {
       number = a.number;
       roomed = a.outbox;
-      handles = a.handles.items;
-      handle_room = vec_capacity a.handles - vec_len a.handles;
+      handles = a.handles.handles;
+      handle_room = a.handles.room;
     } };
 
-    ghost invariant = { λ a. IsRising (λ (h : ℕ). h) a.handles.items };
+    ghost invariant = { λ a. IsRising (λ (h : ℕ). h) a.handles.handles };
 }
 
 impl Attached {
@@ -42,7 +42,7 @@ impl Attached {
         ensures err { IfErr result (λ r. r ≡ OutOfMemory) }
     {
         let outbox = self.outbox.copy()?;
-        let handles = Vec::from_slice(*self.handles.allocator(), &self.handles)?;
+        let handles = self.handles.copy()?;
         Ok(Attached {
             number: self.number,
             outbox,
@@ -56,7 +56,7 @@ impl Attached {
     {
         self.number == other.number
             && self.outbox.same(&other.outbox)
-            && same_handles(&self.handles, &other.handles)
+            && self.handles.same(&other.handles)
     }
 }
 

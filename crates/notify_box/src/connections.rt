@@ -9,8 +9,9 @@ ghost use Rattle.notify_box.specs.Changes.{newly_armed, without_first_item};
 ghost use Rattle.notify_box.specs.Standing.{standing_in, is_attached, handles_of, IsAboveHandles, place_count, outbox_in, roomed_at, handle_room_at, CanArm, CanPark, HasHandleRoom, HasParked, LacksPulseRoomAt, LacksReadRoomAt, KeepsHandleRooms, AreHandleRoomsSame, without_numbered, without_handle, parked_ended, AreOthersSame, ChangesOutbox, ChangesHandles, ChangesRoom};
 
 use crate::attached::{Attached, copy_all, same_all, search};
-use crate::handle_places::{insert_reserved, search_handles};
 use crate::outbox::Outbox;
+use crate::own_handles::OwnHandles;
+use crate::rising::insert_reserved;
 use pps_types::{Conn, Handle, Item, Refusal, SharedBytes};
 use std::alloc::Global;
 use std::marker::Model;
@@ -94,7 +95,7 @@ impl Connections {
         ensures roomed { roomed_at conn self.new ≡ Some outbox }
         ensures room { self.new.room + 1 ≡ self.old.room }
     {
-        let handles = Vec::new(*self.attached.allocator());
+        let handles = OwnHandles::new(*self.attached.allocator());
         let newcomer = Attached {
             number: conn,
             outbox,
@@ -158,7 +159,7 @@ impl Connections {
             return Ok(());
         };
         let attached = &mut self.attached[place];
-        let Ok(()) = attached.handles.reserve(1) else {
+        let Ok(()) = attached.handles.reserve() else {
             return Err(Refusal::OutOfMemory);
         };
         Ok(())
@@ -185,9 +186,7 @@ impl Connections {
     {
         if let Ok(place) = search(&self.attached, conn) {
             let attached = &mut self.attached[place];
-            if let Ok(at) = search_handles(&attached.handles, handle) {
-                let _ = attached.handles.remove(at);
-            }
+            attached.handles.remove(handle);
         }
     }
 

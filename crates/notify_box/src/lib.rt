@@ -13,10 +13,10 @@ mod alike;
 mod armed;
 mod attached;
 mod connections;
-mod handle_places;
 mod laws_of_changes;
 mod laws_of_connections;
 mod outbox;
+mod own_handles;
 mod rising;
 mod room;
 

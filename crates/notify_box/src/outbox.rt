@@ -12,13 +12,11 @@ use crate::alike::{same_armed, same_items, same_parked};
 use crate::armed::Armed;
 use crate::rising::{has, put, take_out};
 use crate::room::{copy_items, make_room, queue_reserved};
+use pps_types::limits::OUTBOX_MAX;
 use pps_types::{Handle, Item, Refusal, SharedBytes};
 use std::alloc::{AllocError, Global};
 use std::collections::VecDeque;
 use std::marker::Model;
-
-/// The most items, armed pulses and parked reads of a connection together. The limit is our own.
-const OUTBOX_LIMIT: usize = 1024;
 
 /// For how many items a new outbox has memory.
 const FIRST_PLACES: usize = 4;
@@ -85,7 +83,7 @@ impl Outbox {
         if has(&self.armed, handle.number()) {
             return Ok(());
         }
-        if self.held() >= OUTBOX_LIMIT {
+        if self.held() >= OUTBOX_MAX {
             return Err(Refusal::OutboxFull);
         }
         let places = self.armed.len() + self.parked.len() + 1;
@@ -121,7 +119,7 @@ impl Outbox {
         if self.is_parked(handle) {
             return Err(Refusal::ReadPending);
         }
-        if self.held() >= OUTBOX_LIMIT {
+        if self.held() >= OUTBOX_MAX {
             return Err(Refusal::OutboxFull);
         }
         let places = self.armed.len() + self.parked.len() + 1;

@@ -24,7 +24,7 @@ impl Numbered for Handle {
 }
 
 /// Where a number stands, or else where it would go.
-fn search<T: Numbered>(entries: &[T], number: u32) -> Result<usize, usize>
+pub(crate) fn search<T: Numbered>(entries: &[T], number: u32) -> Result<usize, usize>
     requires { IsRising T.number_of entries.now }
     ensures found { IfOk result (IsPlaceOf T.number_of entries.now number) }
     ensures absent { IfErr result (IsGapFor T.number_of entries.now number) }
@@ -43,7 +43,7 @@ pub(crate) fn has<T: Numbered>(entries: &[T], number: u32) -> bool
 }
 
 /// Puts an entry at a place. It takes no memory.
-fn insert_reserved<T: Drop>(entries: &mut Vec<T>, place: usize, entry: T)
+pub(crate) fn insert_reserved<T: Drop>(entries: &mut Vec<T>, place: usize, entry: T)
     requires in_range { place ≤ vec_len entries.old }
     requires room { vec_len entries.old < vec_capacity entries.old }
     ensures items { entries.new.items ≡ insert entries.old.items place entry }

@@ -8,10 +8,9 @@ use Rattle.pps_types.specs.declared.found.Found.TheVariants.{Object as FoundObje
 use Rattle.pps_types.specs.History.{Entry}
 use Rattle.pps_types.specs.Reading.{Open, visible, concerns, is_directory_kind}
 use Rattle.pps_types.specs.Rests.{Seen}
-use Rattle.pps_types.specs.Content.{news}
+use Rattle.pps_types.specs.Content.{news, is_waiting, learns}
 use Rattle.service_laws.proofs.Finds.{and-both}
 use Rattle.pps_types.specs.Rising.{AllAbove, IsRising}
-use Rattle.service_laws.specs.Told.{is_waiting, learns}
 use Rattle.engine_targets.specs.Woken.{woken_by}
 use Rattle.open_handles.specs.Whole.{is_on}
 use Rattle.open_handles.specs.United.{united_from, united}

@@ -9,17 +9,12 @@ ghost use Rattle.open_options.specs.Word.{with_word};
 
 use crate::word::{Word, read_word};
 use pps_filter::{Filter, first_plain_piece, read_parts};
+use pps_types::limits::{LIMIT_MAX, OPTIONS_MAX};
 use pps_types::{Refusal, after_prefix, number_up_to};
 use std::alloc::Global;
 
-/// The most bytes of options.
-const OPTIONS_MAX: usize = 4_096;
-
 /// The most digits of a limit.
 const LIMIT_DIGITS: usize = 5;
-
-/// The largest limit.
-const LIMIT_MAX: u32 = 65_535;
 
 /// The options of an open, so far.
 #[derive(Debug, Drop)]

@@ -8,18 +8,10 @@ ghost use Rattle.open_options.specs.Elements.{elements_left, path_of, is_path_by
 ghost use Rattle.open_options.specs.Refused.{IsPathRefusal};
 ghost use Rattle.open_options.specs.Seen.{path_seen};
 
+use pps_types::limits::{NAME_MAX, NAMES_MAX, PATH_MAX};
 use pps_types::{Bytes, Refusal};
 use std::alloc::Global;
 use std::marker::Model;
-
-/// The most bytes of a path, `.all` included.
-const PATH_MAX: usize = 1_024;
-
-/// The most names of a path. `.all` is none.
-const NAMES_MAX: usize = 32;
-
-/// The most bytes of a name.
-const NAME_MAX: usize = 255;
 
 /// The names on the way from the root, which has none, to an object or a directory.
 #[derive(Debug, Drop)]

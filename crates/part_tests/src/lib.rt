@@ -1,6 +1,6 @@
-//! Tests of the parts that the service is made of, of objects and directories with their handles, and of names,
-//! connections and requests, by the public calls of each crate: with ample memory, what they answer at the edges, and
-//! devices whose calls fail.
+//! Tests of the parts that the service is made of, of objects and directories with their handles, and of names and
+//! connections, by the public calls of each crate: with ample memory, what they answer at the edges, and devices whose
+//! calls fail.
 #![tactic(auto)]
 
 #[cfg(test)]
@@ -10,39 +10,23 @@ mod chains;
 #[cfg(test)]
 mod chance;
 #[cfg(test)]
-mod closes;
-#[cfg(test)]
 mod connections;
 #[cfg(test)]
 mod devices;
-#[cfg(test)]
-mod images;
 #[cfg(test)]
 mod names;
 #[cfg(test)]
 mod objects;
 #[cfg(test)]
-mod opens;
-#[cfg(test)]
 mod queues;
 #[cfg(test)]
 mod replies;
 #[cfg(test)]
-mod restores;
-#[cfg(test)]
 mod samples;
-#[cfg(test)]
-mod scripts;
 #[cfg(test)]
 mod seats;
 #[cfg(test)]
 mod servers;
-#[cfg(test)]
-mod settlings;
-#[cfg(test)]
-mod state_samples;
-#[cfg(test)]
-mod states;
 #[cfg(test)]
 mod steps;
 #[cfg(test)]

@@ -19,8 +19,8 @@ use Rattle.service_laws.specs.SettlingLaws.{EventsAreSettled}
 use Rattle.service_state.specs.declared.beginning.Beginning.{Beginning}
 use Rattle.service_state.specs.Beginning.{moves_of, entries_in, CanBeginAll, is_plain}
 use Rattle.service_state.specs.Refused.{Fails, all_request_checks}
-use Rattle.handle_requests.specs.Begun.{bare, telling}
-use Rattle.handle_requests.proofs.Begins.{bare_moves, bare_plain, bare_able, numbers_begun, told_moves}
+use Rattle.service_state.specs.Begun.{bare, telling}
+use Rattle.service_state.proofs.Begun.{bare_moves, bare_plain, bare_able, numbers_begun, told_moves}
 use Rattle.path_requests.proofs.Checked.{unlink_last}
 use Rattle.path_requests.proofs.Gone.{told_does, removed_does}
 

@@ -12,17 +12,9 @@ ghost use Rattle.path_requests.specs.Asked.{IsAsked, found_by, is_all};
 
 use name_table::{parent, questions_are_told};
 use open_options::OpenSpec;
+use pps_types::limits::{HANDLES_MAX, MEMBERS_MAX, OBJECTS_MAX};
 use pps_types::{Bytes, DirId, Found, Handle, Mode, ObjId, Refusal};
 use service_state::Tables;
-
-/// The most objects in a directory.
-const MEMBERS_MAX: usize = 256;
-
-/// The most objects.
-const OBJECTS_MAX: usize = 65_535;
-
-/// The most open handles.
-const HANDLES_MAX: usize = 65_535;
 
 /// What an open is on.
 #[derive(Clone, Copy, Debug, PartialEq, Eq)]

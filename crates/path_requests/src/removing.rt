@@ -9,9 +9,9 @@ ghost use Rattle.pps_types.specs.Checks.{unlink_checks};
 ghost use Rattle.pps_types.specs.WellFormed.{IsContent};
 ghost use Rattle.name_table.specs.Listed.{objects_at};
 ghost use Rattle.service_state.specs.Beginning.{IsSharedBy};
+ghost use Rattle.service_state.specs.Begun.{bare, telling};
 ghost use Rattle.service_state.specs.Tables.{content_in};
 ghost use Rattle.service_state.specs.Refused.{AllPass, Fails, IsCheckedBy, all_checks_in};
-ghost use Rattle.handle_requests.specs.Begun.{bare, telling};
 ghost use Rattle.path_requests.specs.FoundIn.{directory_number_in, find_in, found_in};
 ghost use Rattle.path_requests.specs.Alive.{deletion_in};
 ghost use Rattle.path_requests.specs.Checks.{unlink_found_in};
@@ -20,11 +20,10 @@ ghost use Rattle.path_requests.specs.Removed.{IsReady};
 
 use crate::checks::is_served;
 use crate::paths::read_names;
-use handle_requests::{begin_ready, numbers_are_within, tell};
 use name_table::questions_are_told;
 use pps_types::{Bytes, Conn, DirId, Found, Kind, ObjId, Refusal};
 use service_laws::events_are_settled;
-use service_state::{Beginning, Tables, record_of};
+use service_state::{Beginning, Tables, begin_ready, numbers_are_within, record_of, tell};
 use std::alloc::{AllocError, Global};
 
 /// What an Unlink removes.

@@ -6,6 +6,7 @@ use Rattle.pps_types.specs.Exchange.{output_of, with_output}
 use Rattle.pps_types.specs.Writing.{SendsPart, FailsWithDevice}
 use Rattle.pps_types.specs.declared.exchange.Exchange.{Exchange}
 use Rattle.pps_persist.specs.Files.{Replaced, ReplacesNone}
+use Rattle.pps_script.specs.Served.{ReportsIf}
 use Rattle.pps_cli.specs.declared.command_line.Asked.{Asked}
 use Rattle.pps_cli.specs.declared.command_line.Asked.TheVariants.{Run, Frames, Serve, Text}
 use Rattle.pps_cli.specs.declared.command_line.ServeOptions.{ServeOptions}
@@ -66,17 +67,17 @@ DoesAsked remaining contents held (Serve options) from to old new outcome =
 DoesAsked remaining contents held (Text text) from to old new outcome =
     Prints contents (string_bytes text) from to old new outcome
 
--- of nothing but a script is a line reported
+-- of nothing but a script that goes on after bad lines is a line reported
 abbrev pub ReportsFor : {B : Type 0} → Asked → (old new : B) → Type 0
-ReportsFor (Run options) old new = Unit {0}
+ReportsFor (Run options) old new = ReportsIf options.manner.patient old new
 ReportsFor asked old new = new ≡ old
 
 -- ---- words
 
--- nothing was written of what was done whole, but for bad lines of a script
+-- nothing was written of what was done whole, but for the bad lines of a script that goes on after them
 abbrev pub IsQuiet : {X : Type 0} → Asked → Result X Failure → (before after : Option (List ℕ))
     → Type 0
-IsQuiet (Run options) outcome before after = Unit {0}
+IsQuiet (Run options) (Ok done) before after = options.manner.patient ≡ false → Keeps before after
 IsQuiet asked (Ok done) before after = Keeps before after
 IsQuiet asked (Err failure) before after = Unit {0}
 

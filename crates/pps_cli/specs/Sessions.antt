@@ -2,8 +2,7 @@
 use Rattle.std.specs.Prelude.{◌≡◌, ◌⊎◌, ◌<◌, ℕ, Bool, true, List, [], length, map, slice_index_or, option_map, Option, Result, Ok, Err}
 use Rattle.std.specs.Io.KnownBytes.{Keeps}
 use Rattle.pps_types.specs.Device.{counted_once_more}
-use Rattle.pps_lock.specs.Trace.{Piece}
-use Rattle.pps_dispatch.specs.History.{joined}
+use Rattle.pps_dispatch.specs.History.{Pieces, joined}
 use Rattle.pps_dispatch.specs.Printed.{history_text}
 use Rattle.pps_dispatch.specs.Scripts.{IsSessionOf, TellsFirstBad}
 use Rattle.pps_dispatch.specs.declared.session_fault.SessionFault.TheVariants.{BadLine}
@@ -64,7 +63,7 @@ TellsOfScripts held files failure = Unit {0}
 
 -- of each file in its order, what its session was answered in this history of all
 pub record PrintsFiles (held : List ℕ → Option (List ℕ)) (files : List (List ℕ))
-    (history : List Piece) (before after : Option (List ℕ)) : Type 0 where
+    (history : Pieces) (before after : Option (List ℕ)) : Type 0 where
   pub prints : PrintsAll files history before after
   pub of : AreOfFiles held files prints.sessions
 
@@ -86,7 +85,7 @@ PrintsSomeFiles held files before after =
 -- and by just the text of that history, and no other file was.
 pub record ServesAll (held : List ℕ → Option (List ℕ)) (options : ServeOptions)
     (before after : Option (List ℕ)) (old new : Option (List Replaced)) : Type 0 where
-  pub history : List Piece
+  pub history : Pieces
   pub prints : PrintsFiles held (scripts_of options) history before after
   pub saved : IsSaved
       (option_map (λ name. name.now) options.history) old new (history_text (joined history))
@@ -97,7 +96,7 @@ pub record ServesSome (held : List ℕ → Option (List ℕ)) (options : ServeOp
     : Type 0 where
   pub told : TellsOfScripts held (scripts_of options) failure
   pub prints : PrintsSomeFiles held (scripts_of options) before after
-      ⊎ ((history : List Piece) × PrintsFiles held (scripts_of options) history before after)
+      ⊎ ((history : Pieces) × PrintsFiles held (scripts_of options) history before after)
   pub saved : ReplacesNone old new
 
 -- what became of it

@@ -10,13 +10,11 @@ use crate::fault::Fault;
 use clap::error::ErrorKind;
 use clap::{Arg, ArgAction, ArgMatches, Command, value_parser};
 use pps_script::Manner;
+use pps_types::limits::DEFAULT_LIMIT;
 use std::alloc::{AllocError, Global};
 use std::convert::AsStr;
 use std::marker::Model;
 use std::num::NonZeroU16;
-
-/// The limit of handles that name none, where no other is asked for.
-const DEFAULT_LIMIT: u16 = 256;
 
 /// The most workers.
 const WORKERS_MAX: u16 = 8;
@@ -251,7 +249,9 @@ fn asked_limit(matches: &ArgMatches<'_>) -> Result<NonZeroU16, Fault>
         IsNumber (one_text (found_of matches.now) (codes "limit")) 256 limit.value) }
     ensures fault { IfErr result IsFaultOfWords }
 {
-    let limit = matches.get_one::<u16>("limit").unwrap_or(DEFAULT_LIMIT);
+    let limit = matches
+        .get_one::<u16>("limit")
+        .unwrap_or(DEFAULT_LIMIT as u16);
     NonZeroU16::new(limit).ok_or(Fault::BadCommandLine)
 }
 

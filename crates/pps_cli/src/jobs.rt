@@ -1,6 +1,7 @@
 //! Jobs: a service begins, is used, and is saved, as the command line asks for it.
 ghost use Rattle.std.specs.Prelude.{◌≡◌};
 ghost use Rattle.pps_types.specs.Exchange.{IsFresh};
+ghost use Rattle.pps_script.specs.Served.{ReportsIf};
 ghost use Rattle.pps_cli.specs.Jobs.{Does, RunsOver, ServesOver};
 
 use crate::command_line::{RunOptions, ServiceOptions};
@@ -16,7 +17,7 @@ use std::io::{Read, Write};
 
 /// Runs a script on a service that begins and is saved as it is asked for.
 ///
-/// Nothing is saved if a bad line or a fault ends it.
+/// Nothing is saved if a bad line or a fault ends it. Bad lines are reported only of an interactive script.
 pub(crate) fn run_script<'w, F: ImageFiles, I: Read, O: Write, B: BadLines>(
     alloc: Global,
     files: &mut F,
@@ -25,10 +26,11 @@ pub(crate) fn run_script<'w, F: ImageFiles, I: Read, O: Write, B: BadLines>(
     bad_lines: &mut B,
 ) -> Result<(), Failure<'w>>
     requires { IsFresh exchange.old }
-    ensures { Does (F.held files.old) options.entry.service
+    ensures does { Does (F.held files.old) options.entry.service
         (RunsOver I.remaining O.contents options.entry.manner exchange.old exchange.new)
         (exchange.new ≡ exchange.old)
         (F.replaced files.old) (F.replaced files.new) result }
+    ensures reports { ReportsIf options.entry.manner.patient bad_lines.old bad_lines.new }
 {
     let mut engine = begin(alloc, files, options.service.beginning)?;
     run_exchange(alloc, &mut engine, options.manner, exchange, bad_lines)?;

@@ -11,6 +11,10 @@ use Rattle.pps_lock.specs.declared.book.Receipt.{Receipt}
 use Rattle.pps_lock.specs.Trace.{Piece, Replays, receipt}
 use Rattle.pps_dispatch.specs.Sessions.{Conversation, asked}
 
+-- the pieces of a history
+abbrev pub Pieces : Type 0
+Pieces = List Piece
+
 -- the entries of all segments, one behind the other
 abbrev pub joined : List Piece → List Answered
 joined [] = []

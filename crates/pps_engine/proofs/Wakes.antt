@@ -7,10 +7,10 @@ use Rattle.std.proofs.lemmas.Bool.{eq-eqb, eqb-true}
 use Rattle.pps_types.specs.History.{Entry}
 use Rattle.pps_types.specs.Reading.{Open}
 use Rattle.pps_types.specs.Rests.{Seen}
-use Rattle.pps_types.specs.Content.{Content, handle_numbered, news}
+use Rattle.pps_types.specs.Content.{Content, handle_numbered, news, is_waiting, learns}
 use Rattle.pps_types.specs.Plan.{Move, Attaches, Leaves, Creates, AppendsRecord, Opens, Closes, CatchesUp, Advances, Parks, Arms, Queues, Takes, MakesDirectory, RemovesDirectory}
 use Rattle.service_laws.proofs.Rising.{found-each}
-use Rattle.service_laws.specs.Told.{entries_told, HandlesRise, is_waiting, learns, closes_handle, is_woken}
+use Rattle.service_laws.specs.Told.{entries_told, HandlesRise, closes_handle, is_woken}
 use Rattle.pps_engine.specs.SettlingTold.{handles_closed}
 use Rattle.pps_engine.specs.Behind.{follows_behind, follows_numbered}
 

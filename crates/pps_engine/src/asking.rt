@@ -10,10 +10,9 @@ use crate::doing::Doing;
 use crate::done::{Done, boxed};
 use crate::requests;
 use engine_targets::Pulse;
-use handle_requests::numbers_are_within;
 use pps_types::{Conn, Event, Outcome, Refusal, Request};
 use service_laws::events_are_settled;
-use service_state::Tables;
+use service_state::{Tables, numbers_are_within};
 use std::alloc::Global;
 
 // A connection attaches.

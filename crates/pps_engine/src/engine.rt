@@ -12,14 +12,12 @@ ghost use Rattle.pps_engine.specs.Standing.{coming, HoldsJust, IsSound};
 use crate::planned::{Pending, Planned, carry_out, plan};
 use name_table::questions_are_told;
 use open_options::Path;
+use pps_types::limits::DEFAULT_LIMIT;
 use pps_types::{Event, Handle, Outcome, Refusal};
 use service_state::Tables;
 use std::alloc::{AllocError, Global};
 use std::marker::Model;
 use std::snapshot::Snapshot;
-
-/// The limit of handles that name none, where the engine is made with no other.
-const DEFAULT_LIMIT: u32 = 256;
 
 /// Does nothing. Its contract is the law that just the records are held that have to be kept.
 pub(crate) fn are_cut(tables: &Tables)

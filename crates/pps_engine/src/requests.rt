@@ -11,11 +11,11 @@ ghost use Rattle.pps_engine.specs.EventTold.{number_opened};
 use crate::doing::Doing;
 use crate::done::{Done, boxed};
 use engine_targets::Pulse;
-use handle_requests::{Closing, numbers_are_within};
+use handle_requests::Closing;
 use path_requests::{Opens, Unlinked};
 use pps_types::{Action, Bytes, Conn, Handle, Mode, Outcome, Refusal};
 use service_laws::events_are_settled;
-use service_state::Tables;
+use service_state::{Tables, numbers_are_within};
 use std::alloc::Global;
 
 /// A connection leaves.

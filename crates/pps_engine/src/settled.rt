@@ -6,11 +6,10 @@ ghost use Rattle.pps_engine.specs.EventTold.{closes_in, takes_memory, SettlesSte
 
 use crate::doing::Doing;
 use crate::settling::settle;
-use handle_requests::entries_in;
 use path_requests::Opens;
 use pps_types::Handle;
 use service_laws::{events_are_settled, moves_are_settled};
-use service_state::{Beginning, Tables};
+use service_state::{Beginning, Tables, entries_in};
 use std::alloc::{AllocError, Global};
 use whole_texts::Following;
 

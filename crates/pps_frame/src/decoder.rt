@@ -9,7 +9,7 @@ use crate::ends::Ended;
 use crate::fault::FeedFault;
 use crate::reading::push_event;
 use crate::requests::BODY_MAX;
-use pps_types::Event;
+use pps_types::{Event, drop_front};
 use std::alloc::{AllocError, Global};
 use std::marker::Model;
 
@@ -123,19 +123,6 @@ fn gather(held: &mut Vec<u8>, piece: &[u8]) -> Result<usize, AllocError>
     let first = extend(held, piece)?;
     let second = extend(held, &piece[first..])?;
     Ok(first + second)
-}
-
-// Drops the first bytes.
-fn drop_front(bytes: &mut Vec<u8>, count: usize)
-    requires { count ≤ length bytes.old.items }
-    ensures { bytes.new.items ≡ drop count bytes.old.items }
-{
-    if count == 0 {
-        return;
-    }
-    let left = bytes.len() - count;
-    bytes.copy_within(count.., 0);
-    bytes.truncate(left);
 }
 
 // Takes a piece behind what is held. From a malformed frame on nothing is held. Where memory is wanting, more may be held

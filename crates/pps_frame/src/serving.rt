@@ -10,18 +10,13 @@ use crate::closing::answer_end;
 use crate::decoder::{Decoder, Fed};
 use crate::ends::{Ended, RunError};
 use pps_engine::Engine;
+use pps_types::limits::{PIECE, READS_MAX};
 use pps_types::{Event, Exchange};
 use std::alloc::Global;
 use std::io::{Read, Write};
 
-/// How many bytes are read at once.
-const PIECE: usize = 65_536;
-
 /// How many bytes of room the buffer for answers' frames keeps at most from one answer to the next.
 const KEPT: usize = 65_536;
-
-/// After how many reads an input counts as one that can't be read.
-const READS_MAX: u32 = 4_294_967_295;
 
 // Serves a request. Its answer's frame is made in the buffer, in place of what it held.
 fn serve<R, W: Write>(

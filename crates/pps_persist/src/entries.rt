@@ -8,11 +8,9 @@ use crate::errors::Fault;
 use crate::place::{Loaded, Object};
 use crate::reading::read_attribute;
 use pps_engine::path_order;
+use pps_types::limits::ATTRIBUTES_MAX;
 use pps_types::{Bytes, Refusal};
 use std::alloc::{AllocError, Global};
-
-/// The most attributes of an object.
-const ATTRIBUTES_MAX: u32 = 1_024;
 
 fn copy_names(alloc: Global, names: &[Bytes]) -> Result<Vec<Bytes>, AllocError>
     ensures { IfOk result (λ copy. copy.items ≡ names.now) }
@@ -71,7 +69,7 @@ pub(crate) fn take_object(
     requires path { IsReadPath path.items }
     ensures { AddsObject loaded path.items to_come result }
 {
-    if to_come > ATTRIBUTES_MAX || !path_order(&loaded.last, &path).is_lt() {
+    if to_come > ATTRIBUTES_MAX as u32 || !path_order(&loaded.last, &path).is_lt() {
         return Err(Fault::Refused);
     }
     let names = copy_names(alloc, &path)?;

@@ -7,14 +7,9 @@ use crate::errors::LoadError;
 use crate::pieces::Reading;
 use pps_engine::Engine;
 use pps_types::Device;
+use pps_types::limits::{PIECE, READS_MAX};
 use std::alloc::Global;
 use std::io::Read;
-
-/// How many bytes are read at once.
-const PIECE: usize = 65_536;
-
-/// After how many reads an input counts as one that can't be read.
-const READS_MAX: u32 = 4_294_967_295;
 
 /// Loads an image, of version 1 or 2: an engine for the machine that it starts. The input is read in pieces, to its end.
 ///

@@ -25,6 +25,7 @@ use Rattle.pps_script.specs.declared.fault.ScriptFault.{ScriptFault}
 use Rattle.pps_script.specs.declared.fault.ScriptFault.TheVariants.{BadLine, OutOfMemory, ReadFault, WriteFault}
 use Rattle.pps_script.specs.Faults.{of_answer}
 use Rattle.pps_script.specs.Script.{Script, script, heard, or_nothing, with_line, printed, answers_of}
+use Rattle.pps_script.specs.Served.{ReportsIf}
 use Rattle.pps_script.specs.Lines.{ServesLine, Unanswered, ServesLines, HoldsFirst, SendsFirst, EndsAt, EndsLines}
 use Rattle.pps_script.proofs.Scripts.{joined, script-good, script-bad, script-grows}
 
@@ -287,3 +288,8 @@ serves-shown {a} {b} {held} {left} {old} {new} {lines} {bad} other how same p = 
 pub ends-shown : (count : ℕ) (a b : Option (List ℕ)) (held left : List ℕ) (old new : Content) (lines : List (List ℕ)) (fault : ScriptFault) (other how : Manner) → other ≡ how
     → EndsLines other count a held b left old new lines fault → EndsLines how count a held b left old new lines fault
 ends-shown count a b held left old new lines fault other how same p = subst (λ s. EndsLines s count a held b left old new lines fault) same p
+
+-- what is reported of some lines, and then of others
+pub reports-on : {B : Type 0} (other how : Manner) → other ≡ how → (a b c : B)
+    → ReportsIf how.patient a b → ReportsIf other.patient b c → ReportsIf how.patient a c
+reports-on other how same a b c first then = λ quiet. then (ap (λ m. m.patient) same ∙ quiet) ∙ first quiet

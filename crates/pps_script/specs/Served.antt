@@ -80,6 +80,10 @@ FaultsAre (Err OutOfMemory) r w reads_old reads_new stalls_old stalls_new = (r �
 FaultsAre (Err ReadFault) r w reads_old reads_new stalls_old stalls_new = ((r ≡ true) ⊎ (reads_new ≡ reads_from reads_old most_reads)) × (w ≡ false)
 FaultsAre (Err WriteFault) r w reads_old reads_new stalls_old stalls_new = (r ≡ false) × ((w ≡ true) ⊎ (stalls_new ≡ counted_once_more stalls_old))
 
+-- bad lines are reported only of a script that goes on after them
+abbrev pub ReportsIf : {B : Type 0} → (patient : Bool) → (old new : B) → Type 0
+ReportsIf patient old new = patient ≡ false → new ≡ old
+
 -- ---- over an exchange
 
 -- what became of a script that came in over it

@@ -4,7 +4,11 @@ ghost use Rattle.pps_script.specs.Escapes as escapes;
 
 use crate::chunks::{ROOM, write_piece};
 use pps_types::{Bytes, split_at_first};
+use smallvec::SmallVec;
 use std::alloc::{AllocError, Global};
+
+/// How many bytes of a command are gathered without memory: most writes are no longer.
+const IN_PLACE: usize = 64;
 
 /// Pushes the bytes as answers show them.
 pub(crate) fn push_escaped(out: &mut Vec<u8>, bytes: &[u8]) -> Result<(), AllocError>
@@ -58,11 +62,24 @@ fn read_escape(text: &[u8]) -> Option<(u8, &[u8])>
     }
 }
 
+// The bytes that were gathered. Few are copied, and many are handed on.
+fn into_bytes(alloc: Global, bytes: SmallVec<u8, IN_PLACE>) -> Result<Bytes, AllocError>
+    ensures { IfOk result (λ kept. kept ≡ bytes.items) }
+{
+    if !bytes.spilled() {
+        return Bytes::from_slice(alloc, bytes.as_slice());
+    }
+    match bytes.into_vec() {
+        Ok(bytes) => Ok(Bytes::new(bytes)),
+        Err(_) => Err(AllocError),
+    }
+}
+
 /// Reads bytes as scripts write them. `None` says that an escape is malformed.
 pub(crate) fn read_escaped(alloc: Global, text: &[u8]) -> Result<Option<Bytes>, AllocError>
     ensures { IfOk result (λ read. read ≡ escapes.unescaped text.now) }
 {
-    let mut bytes = Vec::with_capacity(alloc, text.len())?;
+    let mut bytes = SmallVec::<u8, IN_PLACE>::with_capacity(alloc, text.len())?;
     let mut rest = text;
     'escapes: while let Some((plain, escape)) = split_at_first(b'\\', rest) {
         bytes.extend_from_slice(plain)?;
@@ -73,5 +90,5 @@ pub(crate) fn read_escaped(alloc: Global, text: &[u8]) -> Result<Option<Bytes>, 
         rest = behind;
     }
     bytes.extend_from_slice(rest)?;
-    Ok(Some(Bytes::new(bytes)))
+    Ok(Some(into_bytes(alloc, bytes)?))
 }

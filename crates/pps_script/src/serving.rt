@@ -2,7 +2,7 @@
 ghost use Rattle.std.specs.Prelude.{◌≡◌, ◌<◌, [], false, length};
 ghost use Rattle.pps_types.specs.Device.{device_failed};
 ghost use Rattle.pps_types.specs.Exchange.{input_of, output_of, held_in};
-ghost use Rattle.pps_script.specs.Served.{RanOver, AnswersFault};
+ghost use Rattle.pps_script.specs.Served.{RanOver, AnswersFault, ReportsIf};
 ghost use Rattle.pps_script.specs.Lines.{RunsPieces, PieceFaultsAre, count_of, ends_cut_off};
 
 use crate::fault::ScriptFault;
@@ -10,14 +10,9 @@ use crate::manner::{BadLines, Manner};
 use crate::session::Session;
 use pps_engine::Engine;
 use pps_types::Exchange;
+use pps_types::limits::{PIECE, READS_MAX};
 use std::alloc::Global;
 use std::io::{Read, Write};
-
-/// How many bytes are read at once.
-const PIECE: usize = 65_536;
-
-/// After how many reads an input counts as one that can't be read.
-const READS_MAX: u32 = 4_294_967_295;
 
 // Reads to the end. What is answered is sent before each read, since that may have to wait.
 fn run_pieces<R: Read, W: Write, B: BadLines>(
@@ -37,6 +32,7 @@ fn run_pieces<R: Read, W: Write, B: BadLines>(
     ensures runs { RunsPieces R.remaining W.contents session.old.manner exchange.old exchange.new
         engine.old.content engine.new.content result }
     ensures fault { PieceFaultsAre exchange.old exchange.new result }
+    ensures reports { ReportsIf session.old.manner.patient bad_lines.old bad_lines.new }
 {
     'pieces: for _ in 0..READS_MAX {
         exchange.send()?;
@@ -62,7 +58,7 @@ fn is_cut_off(ended: &Result<(), ScriptFault>) -> bool
 /// it where that is asked for. Answers are sent before more is read.
 ///
 /// BadLine is the end at the first line that is none of a script, unless the script is to go on after bad lines: then each
-/// is reported, and asks for nothing. OutOfMemory comes if memory is wanting for what is read or for an answer's line;
+/// is reported, and asks for nothing; else none is reported. OutOfMemory comes if memory is wanting for what is read or for an answer's line;
 /// ReadFault if the reader fails, or was read 4,294,967,295 times: the lines that were whole are answered; WriteFault if
 /// the writer fails, or takes none of some bytes. What was written until then answers the first lines that were read, and
 /// the engine has the state that these leave.
@@ -79,6 +75,7 @@ pub fn serve_script<R: Read, W: Write, B: BadLines>(
     ensures ran { RanOver R.remaining W.contents manner exchange.old exchange.new
         engine.old.content engine.new.content result }
     ensures fault { AnswersFault exchange.old exchange.new result }
+    ensures reports { ReportsIf manner.patient bad_lines.old bad_lines.new }
 {
     let mut buffer = Vec::new(alloc);
     buffer.resize(PIECE, 0u8)?;

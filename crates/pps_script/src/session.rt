@@ -2,6 +2,7 @@
 ghost use Rattle.std.specs.Prelude.{◌≡◌, ◌++◌, [], IfOk, IfErr, OnOk};
 ghost use Rattle.pps_types.specs.Device.{counted_once_more};
 ghost use Rattle.pps_types.specs.Exchange.{input_of};
+ghost use Rattle.pps_script.specs.Served.{ReportsIf};
 ghost use Rattle.pps_script.specs.Lines.{RunsLine, ServesTextOn, EndsTextOn, RunsText, RunsRest, AnswersLineFault, IsPart, count_of};
 
 use crate::fault::ScriptFault;
@@ -50,6 +51,7 @@ impl Session {
         ensures runs { RunsLine W.contents self.old exchange.old exchange.new
             engine.old.content engine.new.content line.now result }
         ensures fault { AnswersLineFault exchange.old exchange.new result }
+        ensures reports { ReportsIf self.old.manner.patient bad_lines.old bad_lines.new }
         ensures input { input_of exchange.new ≡ input_of exchange.old }
     {
         self.lines = self.lines.saturating_add(1);
@@ -83,6 +85,7 @@ impl Session {
         ensures ends { IfErr result (λ fault. EndsTextOn W.contents self.old
             exchange.old exchange.new engine.old.content engine.new.content text.now fault) }
         ensures fault { AnswersLineFault exchange.old exchange.new result }
+        ensures reports { ReportsIf self.old.manner.patient bad_lines.old bad_lines.new }
         ensures input { input_of exchange.new ≡ input_of exchange.old }
     {
         let mut rest = text;
@@ -108,6 +111,7 @@ impl Session {
         ensures runs { RunsText W.contents self.old self.new exchange.old exchange.new
             engine.old.content engine.new.content piece.now part.new.items result }
         ensures fault { AnswersLineFault exchange.old exchange.new result }
+        ensures reports { ReportsIf self.old.manner.patient bad_lines.old bad_lines.new }
         ensures input { input_of exchange.new ≡ input_of exchange.old }
     {
         let rest = self.run_lines(engine, exchange, bad_lines, piece)?;
@@ -131,6 +135,7 @@ impl Session {
             engine.old.content engine.new.content
             (part.old.items ++ piece.now) part.new.items result }
         ensures fault { AnswersLineFault exchange.old exchange.new result }
+        ensures reports { ReportsIf self.old.manner.patient bad_lines.old bad_lines.new }
         ensures input { input_of exchange.new ≡ input_of exchange.old }
     {
         if part.is_empty() {
@@ -157,6 +162,7 @@ impl Session {
         ensures runs { RunsRest W.contents self.old exchange.old exchange.new
             engine.old.content engine.new.content part.now result }
         ensures fault { AnswersLineFault exchange.old exchange.new result }
+        ensures reports { ReportsIf self.old.manner.patient bad_lines.old bad_lines.new }
         ensures input { input_of exchange.new ≡ input_of exchange.old }
     {
         if part.is_empty() {

@@ -8,3 +8,4 @@ pub mod Digits
 pub mod SameBytes
 pub mod RisingPlaces
 pub mod RisingEdits
+pub mod Fitting

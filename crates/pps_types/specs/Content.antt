@@ -1,15 +1,15 @@
 -- What stands now: the names, the alive objects with their attributes, and what each open handle has still to be given.
 -- QNX PPS guide, on objects, on subscribing to all objects in a directory and on server objects.
-use Rattle.std.specs.Prelude.{ℕ, List, [], ◌∷◌, Bool, not, ◌&&◌, ◌==◌, if◌then◌else◌, Option, None, is_none, is_some, option_map, option_and_then, filter, find, map}
+use Rattle.std.specs.Prelude.{ℕ, List, [], ◌∷◌, Bool, not, ◌&&◌, ◌||◌, ◌==◌, if◌then◌else◌, Option, None, is_none, is_some, option_map, option_and_then, filter, find, map}
 use Rattle.std.specs.Option.{option_map_or, option_or}
-use Rattle.std.specs.List.{filter_map}
+use Rattle.std.specs.List.{filter_map, list_any}
 use Rattle.pps_types.specs.declared.found.Found.{Found}
 use Rattle.pps_types.specs.declared.found.Found.TheVariants.{Object as FoundObject, Directory as FoundDirectory}
 use Rattle.pps_types.specs.declared.outcome.Item.{Item}
 use Rattle.pps_types.specs.Bytes.{same}
 use Rattle.pps_types.specs.Names.{Name, Path, same_path, parent, last_name, name_cmp, sorted_by}
-use Rattle.pps_types.specs.History.{Attribute, line_of}
-use Rattle.pps_types.specs.Reading.{Open, is_directory_kind, Member, Answer, everything_of}
+use Rattle.pps_types.specs.History.{Attribute, Entry, line_of}
+use Rattle.pps_types.specs.Reading.{Open, visible, is_directory_kind, Member, Answer, everything_of}
 use Rattle.pps_types.specs.Rests.{Seen, news_in, is_over, answer}
 use Rattle.pps_types.specs.Outbox.{Outbox}
 
@@ -91,6 +91,14 @@ own_handle c conn number = find (λ h. (h.number == number) && (h.connection == 
 
 abbrev pub news : Open Seen → Bool
 news h = news_in h.reads h.seen
+
+-- it has a read parked or a pulse armed
+abbrev pub is_waiting : Open Seen → Bool
+is_waiting h = is_some h.parked || is_some h.armed
+
+-- it had no news, and sees one of the records
+abbrev pub learns : List Entry → Open Seen → Bool
+learns es h = not (news h) && list_any (visible h) es
 
 -- a handle on that object, as publisher, subscriber, server or client
 abbrev pub has_object_handle : Content → ℕ → Bool

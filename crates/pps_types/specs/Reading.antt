@@ -1,7 +1,7 @@
 -- Handles: which records one sees, what each looks like to it, what everything is, and what a read answers by what is owed.
 -- QNX PPS guide, on opening modes, on full and delta mode, on subscribing to all objects and on server objects;
 -- delivery marks, `deltadir`, limits and the reading of blocks are our own.
-use Rattle.std.specs.Prelude.{ℕ, ◌+◌, ◌-◌, List, [], ◌∷◌, ◌++◌, Bool, true, false, not, ◌&&◌, ◌||◌, ◌==◌, nat_le, if◌then◌else◌, Option, Some, None, is_some, filter, map, length, codes}
+use Rattle.std.specs.Prelude.{◌≡◌, ◌<◌, ◌≤◌, ℕ, ◌+◌, ◌-◌, List, [], ◌∷◌, ◌++◌, Bool, true, false, not, ◌&&◌, ◌||◌, ◌==◌, nat_le, if◌then◌else◌, Option, Some, None, is_some, filter, map, length, take, codes}
 use Rattle.std.specs.Option.{option_map_or}
 use Rattle.std.specs.List.{concat, list_any}
 use Rattle.std.specs.Fmt.{decimal}
@@ -209,6 +209,16 @@ with_block b given = (1 + given.0, b ++ given.1)
 abbrev pub fitting : ℕ → List (List ℕ) → ℕ × List ℕ
 fitting room [] = (0, [])
 fitting room (b ∷ bs) = if nat_le (length b) room then with_block b (fitting (room - length b) bs) else (0, [])
+
+-- so many blocks are given, whole and from the first, and one more would not fit
+pub record IsLongestRun (room : ℕ) (blocks : List (List ℕ)) (given : ℕ × List ℕ) : Type 0 where
+  pub within : given.0 ≤ length blocks
+  pub bytes : given.1 ≡ concat (take given.0 blocks)
+  pub fits : length given.1 ≤ room
+  pub longest : given.0 < length blocks → room < length (concat (take (given.0 + 1) blocks))
+
+abbrev pub BlocksFit : Type 0
+BlocksFit = (room : ℕ) (blocks : List (List ℕ)) → IsLongestRun room blocks (fitting room blocks)
 
 abbrev pub blocks_answer : ℕ × List ℕ → Answer
 blocks_answer given = Blocks given.0 given.1

@@ -8,19 +8,27 @@ use std::alloc::{AllocError, Global};
 use std::marker::Model;
 use std::sync::Arc;
 
-/// Bytes that several values share.
+/// Where shared bytes are.
+#[derive(Debug, Drop)]
+enum Held {
+    /// There are none, and no memory is taken for them.
+    Nothing,
+    Shared(Arc<Vec<u8>>),
+}
+
+/// Bytes that several values share. No bytes take no memory.
 #[derive(Debug, Drop)]
 pub struct SharedBytes {
-    content: Arc<Vec<u8>>,
+    held: Held,
 }
 
 impl Model for SharedBytes {
     ghost use Rattle.std.specs.Prelude.{List, ℕ};
-    ghost use Rattle.std.specs.Arc.{arc_value};
+    ghost use Rattle.pps_types.specs.HeldBytes.{shared_bytes};
 
     ghost Value = { List ℕ };
 
-    ghost view = { λ a. (arc_value a.content).items };
+    ghost view = { λ a. shared_bytes a.held };
 }
 
 impl SharedBytes {
@@ -28,34 +36,47 @@ impl SharedBytes {
     pub fn new(alloc: Global, content: Vec<u8>) -> Result<SharedBytes, AllocError>
         ensures { IfOk result (λ shared. shared ≡ content.items) }
     {
+        if content.is_empty() {
+            return Ok(SharedBytes {
+                held: Held::Nothing,
+            });
+        }
         let content = Arc::new(alloc, content)?;
-        Ok(SharedBytes { content })
+        Ok(SharedBytes {
+            held: Held::Shared(content),
+        })
     }
 
     pub fn as_slice(&self) -> &[u8]
         ensures { result.now ≡ self.now }
     {
-        self.content.as_slice()
+        match &self.held {
+            Held::Nothing => &[],
+            Held::Shared(content) => content.as_slice(),
+        }
     }
 
     pub fn len(&self) -> usize
         ensures { result ≡ length self.now }
     {
-        self.content.len()
+        self.as_slice().len()
     }
 
     pub fn is_empty(&self) -> bool
         ensures { IsTrue result ↔ (self.now ≡ []) }
     {
-        self.content.is_empty()
+        self.as_slice().is_empty()
     }
 
     /// One more share of the same bytes. A share may be refused memory.
     pub fn share(&self) -> Result<SharedBytes, AllocError>
         ensures { IfOk result (λ shared. shared ≡ self.now) }
     {
-        let content = Arc::try_clone(&self.content)?;
-        Ok(SharedBytes { content })
+        let held = match &self.held {
+            Held::Nothing => Held::Nothing,
+            Held::Shared(content) => Held::Shared(Arc::try_clone(content)?),
+        };
+        Ok(SharedBytes { held })
     }
 }
 

@@ -22,7 +22,7 @@ use Rattle.pps_types.specs.Reading.{Open, is_directory_kind, Shown, with_lines, 
 use Rattle.pps_types.specs.Rests.{Seen, News, Unread, Over, Owed, answer, is_over}
 use Rattle.pps_types.specs.Content.{LiveObject, Content, object_numbered, attributes_of, members, member, target_members, target_is_dead, everything, read_answer, news}
 use Rattle.pps_types.specs.Plan.{Move, CatchesUp, Advances, Parks, Arms, Queues, fired, late_reply, late_replies, had_news, settling_handle, settling, apply_seen}
-use Rattle.service_laws.proofs.BasicLaws.{fitting-longest}
+use Rattle.pps_types.proofs.Fitting.{fitting-longest}
 use Rattle.service_laws.specs.Bounds.{lines_of, client_of, IsShort, AreShort, IsBoundObject, IsReadSize, IsBoundHandle, IsBoundItem, IsBound}
 use Rattle.service_laws.specs.Fit.{IsFit, AreFit}
 use Rattle.service_laws.proofs.Finds.{all-find, all-filter}

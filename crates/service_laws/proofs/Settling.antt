@@ -7,13 +7,13 @@ use Rattle.std.specs.List.{filter_map, flat_map, AllByRecursion, list_any, list_
 use Rattle.pps_types.specs.History.{Entry}
 use Rattle.pps_types.specs.Reading.{Open, visible}
 use Rattle.pps_types.specs.Rests.{Seen}
-use Rattle.pps_types.specs.Content.{Content, news, handle_numbered, read_answer}
+use Rattle.pps_types.specs.Content.{Content, news, handle_numbered, read_answer, is_waiting, learns}
 use Rattle.pps_types.specs.Plan.{Move, apply_all_seen, settling, settling_handle, had_news, fired, late_replies, late_reply, Arms, Queues}
 use Rattle.pps_types.specs.declared.outcome.Item.TheVariants.{Pulse}
 use Rattle.pps_types.proofs.Lists.{append-nil, all-all, all-weaken}
 use Rattle.service_laws.proofs.Finds.{OfSome, and-both}
 use Rattle.service_laws.proofs.Rising.{found-each}
-use Rattle.service_laws.specs.Told.{entries_told, handle_after, handles_opened, HandlesRise, AreNumbered, is_waiting, learns, only_tells, closes_handle, offer_all, is_woken}
+use Rattle.service_laws.specs.Told.{entries_told, handle_after, handles_opened, HandlesRise, AreNumbered, only_tells, closes_handle, offer_all, is_woken}
 use Rattle.service_laws.proofs.SettlingLists.{flat_map-same, flat_map-filter, flat_map-none, flat_map-filter_map, all-passing}
 use Rattle.service_laws.proofs.SettlingHandles.{handles-after, handle_after-number}
 use Rattle.service_laws.proofs.SettlingSight.{idle-made, handle_after-telling, news-given}

@@ -20,7 +20,7 @@ use Rattle.pps_types.specs.Text.{write_text}
 use Rattle.pps_types.specs.Outbox.{first_of}
 use Rattle.pps_types.specs.Reading.{Open, style, visible, Answer, Everything, Blocks, Needs, TargetGone, Waits, Nothing}
 use Rattle.pps_types.specs.Rests.{Seen}
-use Rattle.pps_types.specs.Content.{Content, LiveObject, Directory, object_numbered, object_at, directory_at, own_handle, handles_of, queue_of, news, read_answer}
+use Rattle.pps_types.specs.Content.{Content, LiveObject, Directory, object_numbered, object_at, directory_at, own_handle, handles_of, queue_of, news, read_answer, is_waiting, learns}
 use Rattle.pps_types.specs.WellFormed.{fits}
 use Rattle.pps_types.specs.Plan.{Move, Attaches, Leaves, Creates, AppendsRecord, Opens, Closes, CatchesUp, Advances, Parks, Arms, Queues, Takes, MakesDirectory, RemovesDirectory, apply_seen, apply_all_seen, effect, settling, preparing, new_handle, written_kind, on_target, closing, closings, parting, unlinking, received, read_effect, with_result, found_object}
 use Rattle.pps_types.proofs.Lists.{all-weaken}
@@ -28,7 +28,7 @@ use Rattle.service_laws.proofs.Finds.{and-both}
 use Rattle.service_laws.proofs.Fits.{Fits, AreFit}
 use Rattle.service_laws.proofs.Orders.{NotOpens, preparing-not, effect-of}
 use Rattle.service_laws.proofs.Settlings.{all-append}
-use Rattle.service_laws.specs.Told.{entries_told, handle_after, opened_by, handles_opened, HandlesRise, IsNumbered, AreNumbered, is_waiting, learns, only_tells, closes_handle, is_woken}
+use Rattle.service_laws.specs.Told.{entries_told, handle_after, opened_by, handles_opened, HandlesRise, IsNumbered, AreNumbered, only_tells, closes_handle, is_woken}
 use Rattle.service_laws.specs.SettlingReplies.{follows_in}
 use Rattle.service_laws.proofs.SettlingLists.{flat_map-same, all-passing}
 use Rattle.service_laws.proofs.SettlingHandles.{next_handle-by}

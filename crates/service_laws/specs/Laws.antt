@@ -1,12 +1,11 @@
 -- The laws of the service, each the contract of a function that does nothing.
-use Rattle.std.specs.Prelude.{◌≡◌, ◌≤◌, ◌<◌, ℕ, ◌+◌, List, [], ◌∷◌, ◌++◌, Bool, true, false, if◌then◌else◌, Option, Some, None, Ok, Err, length, take}
-use Rattle.std.specs.List.{concat}
+use Rattle.std.specs.Prelude.{◌≡◌, ◌≤◌, ℕ, ◌+◌, List, [], ◌∷◌, ◌++◌, Bool, true, false, if◌then◌else◌, Option, Some, None, Ok, Err, length}
 use Rattle.pps_types.specs.declared.event.Event.{Event}
 use Rattle.pps_types.specs.declared.refusal.Refusal.{Refusal}
 use Rattle.pps_types.specs.Outcome.{Reply}
 use Rattle.pps_types.specs.Names.{Path}
 use Rattle.pps_types.specs.History.{Entry}
-use Rattle.pps_types.specs.Reading.{Open, visible, style, is_full_style, fitting}
+use Rattle.pps_types.specs.Reading.{Open, visible, style, is_full_style}
 use Rattle.pps_types.specs.Rests.{seen_with, news_in, is_over, owed_in}
 use Rattle.pps_types.specs.Content.{Content, queue_of, handles_of, read_answer}
 use Rattle.pps_types.specs.Checks.{first_refusal}
@@ -89,16 +88,6 @@ pub record DebtsGrow : Type 0 where
   pub record_more : (h : Open (Option ℕ)) (history : List Entry) (e : Entry) (cursor : ℕ) → cursor ≤ length history
       → owed h (history ++ e ∷ []) (Some cursor) ≡ owed h history (Some cursor) ++ (if visible h e then e ∷ [] else [])
   pub no_cursor : (h : Open (Option ℕ)) (history : List Entry) → owed h history None ≡ []
-
--- so many blocks are given, whole and from the first, and one more would not fit
-pub record IsLongestRun (room : ℕ) (blocks : List (List ℕ)) (given : ℕ × List ℕ) : Type 0 where
-  pub within : given.0 ≤ length blocks
-  pub bytes : given.1 ≡ concat (take given.0 blocks)
-  pub fits : length given.1 ≤ room
-  pub longest : given.0 < length blocks → room < length (concat (take (given.0 + 1) blocks))
-
-abbrev pub BlocksFit : Type 0
-BlocksFit = (room : ℕ) (blocks : List (List ℕ)) → IsLongestRun room blocks (fitting room blocks)
 
 -- ---- private traffic
 

@@ -8,13 +8,13 @@ use Rattle.pps_types.specs.declared.event.Request.TheVariants.{Detach}
 use Rattle.pps_types.specs.History.{Entry}
 use Rattle.pps_types.specs.Reading.{Open, Member, style, visible}
 use Rattle.pps_types.specs.Rests.{Seen, News, seen_of, rest_of}
-use Rattle.pps_types.specs.Content.{Content, news, object_numbered, members, target_members, target_is_dead, handles_of, connection_numbered, queue_of, read_answer}
+use Rattle.pps_types.specs.Content.{Content, news, object_numbered, members, target_members, target_is_dead, handles_of, connection_numbered, queue_of, read_answer, is_waiting}
 use Rattle.pps_types.specs.Owed.{is_past_limit}
 use Rattle.pps_types.specs.Runs.{queued_by}
 use Rattle.pps_types.specs.Plan.{Move, Leaves, apply_all_seen, effect, fired, late_replies, settling, closings, step_seen, plan, all_checks_of, passes_last_number}
 use Rattle.pps_types.specs.Checks.{checks, first_refusal}
 use Rattle.pps_types.specs.WellFormed.{IsContent, AreTold, IsWhole, fits}
-use Rattle.service_laws.specs.Told.{entries_told, handle_after, handles_opened, HandlesRise, AreNumbered, is_waiting, is_woken, names_handle, only_tells, seen_after, offer_all}
+use Rattle.service_laws.specs.Told.{entries_told, handle_after, handles_opened, HandlesRise, AreNumbered, is_woken, names_handle, only_tells, seen_after, offer_all}
 use Rattle.service_laws.specs.SettlingTargets.{object_after, objects_after, NamesAreFree, members_after, target_members_after, target_is_dead_after, last_number_passed_after}
 use Rattle.service_laws.specs.SettlingReplies.{visible_to, late_answer, pulse_and_reply, follows_in, follows, follows_in_turn}
 use Rattle.service_laws.specs.Closings.{closings_behind}

@@ -1,10 +1,10 @@
 -- What moves tell, what they make of one handle by itself, and which handles they wake. Own.
-use Rattle.std.specs.Prelude.{◌≡◌, ℕ, ◌+◌, List, [], ◌∷◌, Bool, true, false, not, ◌&&◌, ◌||◌, ◌==◌, if◌then◌else◌, Option, Some, None, is_some, option_and_then, fold, map}
+use Rattle.std.specs.Prelude.{◌≡◌, ℕ, ◌+◌, List, [], ◌∷◌, Bool, true, false, not, ◌&&◌, ◌==◌, if◌then◌else◌, Option, Some, None, option_and_then, fold, map}
 use Rattle.std.specs.List.{filter_map, cons_option, list_any}
 use Rattle.pps_types.specs.History.{Entry}
-use Rattle.pps_types.specs.Reading.{Open, reseen, style, visible}
+use Rattle.pps_types.specs.Reading.{Open, reseen, style}
 use Rattle.pps_types.specs.Rests.{Seen}
-use Rattle.pps_types.specs.Content.{Content, news}
+use Rattle.pps_types.specs.Content.{Content, is_waiting, learns}
 use Rattle.pps_types.specs.WellFormed.{AreRising}
 use Rattle.pps_types.specs.Plan.{Move, Creates, AppendsRecord, Opens, Closes, CatchesUp, Advances, Parks, Arms, creation, offered, offer, caught_up, left, first_seen}
 
@@ -70,14 +70,6 @@ AreNumbered next [] = Unit {0}
 AreNumbered next (x ∷ xs) = IsNumbered next (opened_by x) × AreNumbered (number_after next (opened_by x)) xs
 
 -- ---- who is woken
-
--- it has a read parked or a pulse armed
-abbrev pub is_waiting : Open Seen → Bool
-is_waiting h = is_some h.parked || is_some h.armed
-
--- it had no news, and sees one of the records
-abbrev pub learns : List Entry → Open Seen → Bool
-learns es h = not (news h) && list_any (visible h) es
 
 -- a move that is of the handle of that number, and so changes or closes it
 abbrev pub names_handle : ℕ → Move → Bool

@@ -1,6 +1,7 @@
 //! The laws of the service's definitions. Each function does nothing: its contract is the law.
+ghost use Rattle.pps_types.specs.Reading.{BlocksFit};
 ghost use Rattle.service_laws.specs.PlanLaws.{NothingIsMissing};
-ghost use Rattle.service_laws.specs.Laws.{MachinesStay, ContentsStay, StepsAreShown, StepsStand, ImagesStart, HandlesAreTold, AnswersAreTold, KeptIsTold, StepsAreDecided, RefusalsKeep, DebtsGrow, BlocksFit, PrivateTraffic};
+ghost use Rattle.service_laws.specs.Laws.{MachinesStay, ContentsStay, StepsAreShown, StepsStand, ImagesStart, HandlesAreTold, AnswersAreTold, KeptIsTold, StepsAreDecided, RefusalsKeep, DebtsGrow, PrivateTraffic};
 
 /// Does nothing. Its contract is the law that the start is a well formed machine, and that each event keeps a
 /// machine well formed.

@@ -10,3 +10,5 @@ pub mod Copied
 pub mod Free
 pub mod Sends
 pub mod Memory
+pub mod Begun
+pub mod Readied

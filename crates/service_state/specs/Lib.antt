@@ -6,5 +6,6 @@ pub mod Entries
 pub mod Places
 pub mod Following
 pub mod Beginning
+pub mod Begun
 pub mod Objects
 pub mod Refused

@@ -9,13 +9,8 @@ ghost use Rattle.service_state.specs.Refused.{IsCheckedBy};
 
 use crate::tables::Tables;
 use name_table::{parent, questions_are_told};
+use pps_types::limits::{DIRECTORIES_MAX, SUBDIRECTORIES_MAX};
 use pps_types::{Bytes, Refusal};
-
-/// The most directories in one.
-const SUBDIRECTORIES_MAX: usize = 256;
-
-/// The most directories, beside the root.
-const DIRECTORIES_MAX: usize = 65_535;
 
 // Whether so many more numbers pass the last one.
 fn is_past(number: u64, more: u64) -> bool

@@ -5,7 +5,8 @@ use Rattle.pps_types.specs.Reading.{Open}
 use Rattle.pps_types.specs.Rests.{Seen}
 use Rattle.service_state.specs.Tables.{content_in}
 use Rattle.handle_requests.specs.Own.{opened_as}
-use Rattle.handle_requests.specs.Begun.{bare, begun}
+use Rattle.service_state.specs.Begun.{bare}
+use Rattle.handle_requests.specs.Begun.{begun}
 use Rattle.handle_requests.proofs.Plans.{IsClosing, closing_known, closing_able, closing_plain, closing_does, closing_refusal, closing_fails, alone_passes, alone_does}
 use Rattle.handle_requests.proofs.closes.close.Goals as goal
 

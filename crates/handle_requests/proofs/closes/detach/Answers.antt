@@ -6,7 +6,8 @@ use Rattle.pps_types.specs.Reading.{Open}
 use Rattle.pps_types.specs.Rests.{Seen}
 use Rattle.pps_types.specs.Content.{handles_of}
 use Rattle.service_state.specs.Tables.{content_in}
-use Rattle.handle_requests.specs.Begun.{bare, begun_behind}
+use Rattle.service_state.specs.Begun.{bare}
+use Rattle.handle_requests.specs.Begun.{begun_behind}
 use Rattle.handle_requests.proofs.Plans.{detach_able, detach_plain, detach_does, detach_refusal, detach_fails}
 use Rattle.handle_requests.proofs.closes.detach.Goals as goal
 

@@ -3,7 +3,8 @@ use Rattle.std.specs.List.{flat_map}
 use Rattle.std.proofs.Common.{◌∙◌, ap}
 use Rattle.notify_box.specs.Standing.{standing_in, handles_of}
 use Rattle.service_state.specs.Tables.{content_in}
-use Rattle.handle_requests.specs.Begun.{bare, begun_behind}
+use Rattle.service_state.specs.Begun.{bare}
+use Rattle.handle_requests.specs.Begun.{begun_behind}
 use Rattle.handle_requests.proofs.Plans.{gathered}
 use Rattle.handle_requests.proofs.gathering.close_all.Goals as goal
 

@@ -2,7 +2,8 @@ use Rattle.std.proofs.Common.{◌≡◌, ◌++◌, drop, map}
 use Rattle.std.specs.List.{AllByRecursion, flat_map}
 use Rattle.service_state.specs.Beginning.{IsSharedBy}
 use Rattle.service_state.specs.Tables.{content_in}
-use Rattle.handle_requests.specs.Begun.{bare, begun_behind}
+use Rattle.service_state.specs.Begun.{bare}
+use Rattle.handle_requests.specs.Begun.{begun_behind}
 use Rattle.handle_requests.proofs.gathering.close_all.Given as goal
 
 -- what is begun, and what is still to come

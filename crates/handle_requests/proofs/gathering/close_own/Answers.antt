@@ -2,7 +2,7 @@ use Rattle.std.specs.Prelude.{◌≡◌, ◌++◌, map, OnOk}
 use Rattle.std.proofs.Common.{subst}
 use Rattle.service_state.specs.Tables.{content_in}
 use Rattle.handle_requests.specs.Own.{opened_as}
-use Rattle.handle_requests.specs.Begun.{bare}
+use Rattle.service_state.specs.Begun.{bare}
 use Rattle.handle_requests.proofs.Plans.{begun_known}
 use Rattle.handle_requests.proofs.gathering.close_own.Goals as goal
 

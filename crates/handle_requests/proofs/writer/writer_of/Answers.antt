@@ -17,8 +17,8 @@ returns-then-not-writes-clause-err c =
     let is : IsOwn c.args.tables.now c.args.conn c.args.handle c.in-Some.own = ap (option_map (opened_as c.args.tables.now)) (sym c.in-Some.is) ∙ c.own_handle.ensures in
     mode_refused c.args.tables.now c.args.conn c.args.handle c.args.bytes.now c.in-Some.own is (sym c.writes.ensures ∙ c.if-not-writes.true)
 
-pub returns-then-len-gt-WRITE_LIMIT-clause-err : goal.returns-then-len-gt-WRITE_LIMIT-clause-err
-returns-then-len-gt-WRITE_LIMIT-clause-err c =
+pub returns-then-len-gt-WRITE_MAX-clause-err : goal.returns-then-len-gt-WRITE_MAX-clause-err
+returns-then-len-gt-WRITE_MAX-clause-err c =
     let is : IsOwn c.args.tables.now c.args.conn c.args.handle c.in-Some.own = ap (option_map (opened_as c.args.tables.now)) (sym c.in-Some.is) ∙ c.own_handle.ensures in
     long_refused c.args.tables.now c.args.conn c.args.handle c.args.bytes.now c.in-Some.own is (sym c.writes.ensures ∙ c.if-not-writes.false) (omega arith)
 

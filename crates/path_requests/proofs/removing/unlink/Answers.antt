@@ -7,7 +7,7 @@ use Rattle.pps_types.specs.Content.{LiveObject, at}
 use Rattle.pps_types.specs.Checks.{first_refusal, unlink_checks}
 use Rattle.pps_types.specs.Plan.{entry_of}
 use Rattle.service_state.specs.Tables.{content_in}
-use Rattle.handle_requests.specs.Begun.{bare, telling}
+use Rattle.service_state.specs.Begun.{bare, telling}
 use Rattle.path_requests.proofs.Checked.{unlink_fails}
 use Rattle.path_requests.proofs.Gone.{removed_does, removed_bare, numbered_there, no_directory_there, object_there}
 use Rattle.path_requests.proofs.Deleted.{deletion_able, deletion_plain, deletion_does, deletion_refusal, deletion_fails, removal_passes}

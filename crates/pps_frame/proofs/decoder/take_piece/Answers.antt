@@ -32,8 +32,8 @@ returns-clause-ok c =
     c.take_frames-2.new.events.items c.in_ok-behind.behind (take_rest piece c.in_ok-cut.cut) refl c.in_ok-behind.ensures in
     let at : ℕ = c.in_ok-cut.cut + c.in_ok-behind.behind.used in
     let rest = take_rest piece at ∙ sym (drop-drop c.in_ok-behind.behind.used c.in_ok-cut.cut piece) in
-    let kept = c.drop_front.ensures
+    let kept = c.drop_front.ensures.items
     ∙ ap (drop c.in_ok-front.front.used) (c.in_ok-extend_from_slice.ensures.items ∙ ap (λ (x : List ℕ). held ++ x) rest) in
-    goes_on c.args.held.now.items piece c.in_ok-cut.cut held c.drop_front.new.bytes.items
+    goes_on c.args.held.now.items piece c.in_ok-cut.cut held c.drop_front.new.items.items
     c.take_frames.new.events.items c.take_frames-2.new.events.items c.in_ok-front.front c.in_ok-behind.behind
     c.in_ok-cut.ensures.ok front c.if-front.false behind c.if-behind.false kept

@@ -39,5 +39,5 @@ returns c =
     let names : c.in_ok-names.names.items ≡ path = c.in_ok-names.ensures ∙ c.deref-2.ensures.value in
     let done = subst (λ (names : Path). OnOk c.restore_object.result (restore_object old.engine.content names ≡ Ok c.restore_object.new.self.content)) names c.restore_object.ensures.done in
     let new : Loaded = record { engine = c.restore_object.new.self; longest = old.longest; count = old.count + 1; last = c.args.path } in
-    λ r held. adds-object r old held new path c.args.to_come (c.requires.path (not-root old.last.items path behind)) c.if-to_come-gt-ATTRIBUTES_MAX.false behind
+    λ r held. adds-object r old held new path c.args.to_come (c.requires.path (not-root old.last.items path behind)) c.if-to_come.false behind
     (judged-done c.restore_object.result _ _ (sym c.judge.ensures ∙ c.in_ok-judge.was) done) c.restore_object.ensures.unused refl refl refl

@@ -9,10 +9,10 @@ escapes-smaller c = rest-shorter c.escapes.rest.now c.in-Some.plain.now c.in-Som
 
 pub escapes-preserved : goal.escapes-preserved
 escapes-preserved c =
-    rw (c.in_ok-push.ensures.items, c.in_ok-extend_from_slice.ensures.items) (
+    rw (c.in_ok-push.ensures.ok, c.in_ok-extend_from_slice.ensures.ok) (
     unescaped-more c.escapes.bytes.items c.escapes.rest.now c.in-Some.plain.now c.in-Some.escape.now c.in-Some-read_escape.behind.now c.in-Some-read_escape.byte _
     c.escapes.invariant c.in-Some.ensures c.in-Some-read_escape.ensures
     )
 
 pub returns : goal.returns
-returns c = rw (c.new.ensures, c.in_ok-extend_from_slice-2.ensures.items) (unescaped-all c.escapes.bytes.items c.escapes.rest.now _ c.escapes.invariant c.in_default.ensures)
+returns c = rw (c.in_ok-into_bytes.ensures, c.in_ok-extend_from_slice-2.ensures.ok) (unescaped-all c.escapes.bytes.items c.escapes.rest.now _ c.escapes.invariant c.in_default.ensures)

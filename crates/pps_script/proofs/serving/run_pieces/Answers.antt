@@ -7,6 +7,7 @@ use Rattle.pps_types.proofs.KnownBytes.{Consumes-none, keeps_itself}
 use Rattle.pps_types.proofs.Writing.{or_false}
 use Rattle.pps_script.specs.Lines.{IsPart, count_of}
 use Rattle.pps_script.proofs.Pieces.{read-none}
+use Rattle.pps_script.proofs.Lines.{reports-on}
 use Rattle.pps_script.proofs.Texts.{so_far-none, so_far-sent, so_far-moved, so_far-unsent, so_far-more, so_far-stop, so_far-whole, so_far-finish, ends-input, text-shown, end-shown}
 use Rattle.pps_script.proofs.serving.run_pieces.Goals as goal
 
@@ -20,6 +21,7 @@ pieces-init g c = rw c.requires.held (record {
   writer = c.requires.output;
   reads = omega arith;
   stalls = refl;
+  reports = (λ quiet. refl);
 })
 
 pub returns-in_err-send-clause-runs : goal.returns-in_err-send-clause-runs
@@ -91,6 +93,7 @@ pieces-preserved g c =
       writer = c.in_ok-feed.ensures.fault.0 ∙ ap device_failed c.read.ensures.output ∙ c.in_ok-send.ensures.fault.0 ∙ c.pieces.invariant.writer;
       reads = omega (arith, ap device_reads c.feed.ensures.input, c.in-Ok.ensures.reads, ap device_reads c.send.ensures.input, c.pieces.invariant.reads);
       stalls = c.in_ok-feed.ensures.fault.1 ∙ ap device_stalls c.read.ensures.output ∙ c.in_ok-send.ensures.fault.1 ∙ c.pieces.invariant.stalls;
+      reports = reports-on _ _ c.pieces.invariant.manner _ _ _ c.pieces.invariant.reports c.feed.ensures.reports;
     }
 
 pub returns-in_err-send-2-clause-runs : goal.returns-in_err-send-2-clause-runs

@@ -1,7 +1,7 @@
 use Rattle.std.proofs.Common.{◌≡◌, ◌<◌, false, length}
 use Rattle.pps_types.specs.Device.{device_inner, device_failed, device_reads, device_stalls}
 use Rattle.pps_types.specs.Exchange.{input_of, output_of, held_in}
-use Rattle.pps_script.specs.Served.{reads_from}
+use Rattle.pps_script.specs.Served.{reads_from, ReportsIf}
 use Rattle.pps_script.specs.Lines.{IsPart, count_of}
 use Rattle.pps_script.proofs.Texts.{SoFar}
 use Rattle.pps_script.proofs.serving.run_pieces.Given as goal
@@ -18,4 +18,5 @@ invariant-pieces g l = record {
   writer : device_failed (output_of l.exchange) ≡ false;
   reads : device_reads (input_of l.exchange) ≡ reads_from (device_reads (input_of l.fn.exchange)) l.counter;
   stalls : device_stalls (output_of l.exchange) ≡ device_stalls (output_of l.fn.exchange);
+  reports : ReportsIf l.fn.session.manner.patient l.fn.bad_lines l.bad_lines;
 }

@@ -2,7 +2,7 @@ use Rattle.std.proofs.Common.{◌++◌, ◌∙◌, Some, take, inl, inr, sym, ap
 use Rattle.std.specs.List.{concat}
 use Rattle.std.proofs.lemmas.Bool.{cases_lt}
 use Rattle.pps_types.specs.declared.refusal.Refusal.TheVariants.{TooSmall}
-use Rattle.service_laws.proofs.BasicLaws.{fitting-longest}
+use Rattle.pps_types.proofs.Fitting.{fitting-longest}
 use Rattle.server_queue.specs.Blocks.{queue_blocks}
 use Rattle.server_queue.proofs.Needs.{needs_more, needs_no_more}
 use Rattle.server_queue.proofs.plan.plan_read.Goals as goal

@@ -22,7 +22,7 @@ pub returns-clause-ok : goal.returns-clause-ok
 returns-clause-ok c = rw (found_new c.args.conn c.self.inside.attached.items c.in-Ok.place (the_view c.attached.inside) (rw c.deref.ensures.value at c.in-Ok.ensures.found) (rw c.attached.view_is c.index_mut-attached.ensures.value) (the_view record { number = c.attached.inside.number; outbox = c.park_ready.new.self; handles = c.attached.inside.handles }) refl) c.park_ready.ensures.ok
 
 pub returns-clause-same : goal.returns-clause-same
-returns-clause-same c = rw (← c.self.view_is) (room_changed c.args.conn _ c.self.inside.attached.items c.in-Ok.place (the_view c.attached.inside) (rw c.deref.ensures.value at c.in-Ok.ensures.found) (rw c.attached.view_is c.index_mut-attached.ensures.value) _ (ap (λ b. record { number = c.attached.inside.number; outbox = b; handles = c.attached.inside.handles.items }) c.park_ready.ensures.same))
+returns-clause-same c = rw (← c.self.view_is) (room_changed c.args.conn _ c.self.inside.attached.items c.in-Ok.place (the_view c.attached.inside) (rw c.deref.ensures.value at c.in-Ok.ensures.found) (rw c.attached.view_is c.index_mut-attached.ensures.value) _ (ap (λ b. record { number = c.attached.inside.number; outbox = b; handles = c.attached.inside.handles.handles }) c.park_ready.ensures.same))
 
 pub returns-clause-handle_rooms : goal.returns-clause-handle_rooms
 returns-clause-handle_rooms c = rw (← c.self.view_is) (each_same c.args.conn c.self.inside.attached.items c.in-Ok.place (the_view c.attached.inside) (rw c.deref.ensures.value at c.in-Ok.ensures.found) (rw c.attached.view_is c.index_mut-attached.ensures.value) (the_view record { number = c.attached.inside.number; outbox = c.park_ready.new.self; handles = c.attached.inside.handles }) refl (λ x. x.handle_room) refl)

@@ -6,7 +6,7 @@ use Rattle.pps_types.specs.Device.{device_inner}
 use Rattle.pps_types.specs.Exchange.{output_of, held_in}
 use Rattle.pps_script.specs.Lines.{count_of}
 use Rattle.pps_script.proofs.Pieces.{found, missing}
-use Rattle.pps_script.proofs.Lines.{serves-shown, ends-shown}
+use Rattle.pps_script.proofs.Lines.{serves-shown, ends-shown, reports-on}
 use Rattle.pps_script.proofs.Texts.{runs-start, runs-line, runs-stop, runs-end}
 use Rattle.pps_script.proofs.session.Session.run_lines.Goals as goal
 
@@ -18,6 +18,7 @@ lines-init g c = record {
   failed = refl;
   stalls = refl;
   input = refl;
+  reports = (λ quiet. refl);
 }
 
 pub returns-in_err-run_line-clause-ends : goal.returns-in_err-run_line-clause-ends
@@ -45,6 +46,7 @@ lines-preserved g c =
       failed = c.in_ok-run_line.ensures.fault.0 ∙ c.lines.invariant.failed;
       stalls = c.in_ok-run_line.ensures.fault.1 ∙ c.lines.invariant.stalls;
       input = c.run_line.ensures.input ∙ c.lines.invariant.input;
+      reports = reports-on _ _ c.lines.invariant.manner _ _ _ c.lines.invariant.reports c.run_line.ensures.reports;
     })
 
 pub returns-clause-part : goal.returns-clause-part

@@ -1,6 +1,6 @@
 use Rattle.std.proofs.Common.{◌≡◌, ◌++◌, drop}
 use Rattle.service_state.specs.Beginning.{entries_in}
-use Rattle.handle_requests.proofs.gathering.entries_in.Given as goal
+use Rattle.service_state.proofs.gathering.entries_in.Given as goal
 
 -- what is gathered, and what is still to come
 abbrev pub invariant-records : goal.invariant-records

@@ -4,8 +4,8 @@ use Rattle.service_laws.specs.SettlingTargets.{last_number_passed}
 use Rattle.open_handles.specs.Whole.{HasRoom}
 use Rattle.service_state.specs.Beginning.{entries_in}
 use Rattle.service_state.specs.Tables.{content_in}
-use Rattle.handle_requests.proofs.Readied.{ArePlaced, ready_begun, records_within}
-use Rattle.handle_requests.proofs.room.begin_ready.Goals as goal
+use Rattle.service_state.proofs.Readied.{ArePlaced, ready_begun, records_within}
+use Rattle.service_state.proofs.begin_room.begin_ready.Goals as goal
 
 pub returns-clause-ready : goal.returns-clause-ready
 returns-clause-ready c =

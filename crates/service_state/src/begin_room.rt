@@ -1,14 +1,15 @@
-//! The room for what closing handles begin with.
+//! The room for what an event begins with.
 ghost use Rattle.std.specs.Prelude.{◌≡◌, true, false, IfErr, OnOk};
 ghost use Rattle.std.specs.List.{AllByRecursion, list_all};
 ghost use Rattle.service_laws.specs.SettlingTargets.{last_number_passed};
 ghost use Rattle.service_state.specs.Beginning.{CanBeginAll, AreReady, IsSharedBy, is_plain};
+ghost use Rattle.service_state.specs.Begun.{passes_last, RefusesRecords};
 ghost use Rattle.service_state.specs.Tables.{content_in};
-ghost use Rattle.handle_requests.specs.Begun.{passes_last, RefusesRecords};
 
+use crate::beginning::Beginning;
 use crate::gathering::entries_in;
+use crate::tables::Tables;
 use pps_types::Refusal;
-use service_state::{Beginning, Tables};
 use std::alloc::Global;
 
 /// Does nothing. Its contract is the law that no number is past the last.

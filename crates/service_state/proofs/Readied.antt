@@ -16,7 +16,7 @@ use Rattle.service_state.specs.Beginning.{entries_in, CanBeginAll, AreReady, IsS
 use Rattle.service_state.specs.Tables.{Tabled, content_in}
 use Rattle.service_state.specs.Tied.{KeepsHandleRoom}
 use Rattle.service_state.proofs.Begins.{shared_stays}
-use Rattle.handle_requests.proofs.Begins.{have_lines}
+use Rattle.service_state.proofs.Begun.{have_lines}
 
 -- the handles of each place are those of all that are on it
 abbrev pub ArePlaced : Whole → Type 0
@@ -56,22 +56,3 @@ records_within c records e =
     let first : nat_lt (2 ^ 64 - 1) (c.records + records) ≡ false =
     left_false (nat_lt (2 ^ 64 - 1) (c.records + records)) (nat_lt (2 ^ 64 - 1) (c.next_object + 0)) (left_false (nat_lt (2 ^ 64 - 1) (c.records + records) || nat_lt (2 ^ 64 - 1) (c.next_object + 0)) (nat_lt (2 ^ 64 - 1) (c.next_directory + 0)) e) in
     grind (arith, nat_tests, first)
-
--- the other numbers do not pass it
-pub passed_is : (c : Content) (records : ℕ) → c.next_object < 2 ^ 64 → c.next_directory < 2 ^ 64 → (b : Bool) → b ≡ nat_lt (2 ^ 64 - 1) (c.records + records) → b ≡ last_number_passed c records 0 0
-passed_is c records objects directories b is =
-    let no_object : nat_lt (2 ^ 64 - 1) (c.next_object + 0) ≡ false = grind (arith, nat_tests, objects) in
-    let no_directory : nat_lt (2 ^ 64 - 1) (c.next_directory + 0) ≡ false = grind (arith, nat_tests, directories) in
-    is ∙ or_none (nat_lt (2 ^ 64 - 1) (c.records + records)) (nat_lt (2 ^ 64 - 1) (c.next_object + 0)) (nat_lt (2 ^ 64 - 1) (c.next_directory + 0)) no_object no_directory
-  where
-    or_none : (a b c : Bool) → b ≡ false → c ≡ false → a ≡ ((a || b) || c)
-    or_none true b c p q = refl
-    or_none false false false p q = refl
-    or_none false true c p q = absurd (let bad = p in cc)
-    or_none false false true p q = absurd (let bad = q in cc)
-
--- none is past it by itself
-pub none_past : (c : Content) → c.records < 2 ^ 64 → c.next_object < 2 ^ 64 → c.next_directory < 2 ^ 64 → last_number_passed c 0 0 0 ≡ false
-none_past c records objects directories =
-    let no_record : false ≡ nat_lt (2 ^ 64 - 1) (c.records + 0) = grind (arith, nat_tests, records) in
-    sym (passed_is c 0 objects directories false no_record)

@@ -1,8 +1,18 @@
 //! Lines of images.
 
-use crate::samples::path;
 use pps_persist::{push_attribute, push_beginning, push_directory, push_end, push_object};
+use pps_types::Bytes;
+use std::alloc::{AllocError, Global};
 use std::test::Fail;
+
+/// The path of these names.
+fn path(alloc: Global, names: &[&[u8]]) -> Result<Vec<Bytes>, AllocError> {
+    let mut path = Vec::new(alloc);
+    for name in names {
+        path.push(Bytes::from_slice(alloc, name)?)?;
+    }
+    Ok(path)
+}
 
 #[test]
 fn images_are_printed(rt: HostRuntime) -> Result<(), Fail> {

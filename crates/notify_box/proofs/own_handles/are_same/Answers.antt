@@ -1,6 +1,6 @@
 use Rattle.std.proofs.lemmas.Bool.Decides.{Decides-eqb}
 use Rattle.std.proofs.lemmas.Slice.Eq.{slice_eq-Decides}
-use Rattle.notify_box.proofs.handle_places.same_handles.Goals as goal
+use Rattle.notify_box.proofs.own_handles.are_same.Goals as goal
 
 pub returns : goal.returns
 returns c = slice_eq-Decides Decides-eqb _ _ _ c.eq.ensures

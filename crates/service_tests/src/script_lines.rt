@@ -1,6 +1,6 @@
 //! The lines of scripts, and the answers to them.
 
-use crate::samples::shared;
+use crate::scripts::shared;
 use pps_script::{
     ScriptLine, answers_are_lines, answers_are_told, commands_are_read, escapes_are_read,
     numbers_are_decimal, print_answer, read_line,
