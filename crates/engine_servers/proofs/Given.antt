@@ -13,25 +13,25 @@ use Rattle.server_queue.specs.OwedTo.{AllVisible}
 use Rattle.server_queue.specs.Reads.{first_len as first_of}
 use Rattle.server_queue.proofs.Columns.{blocks_are}
 use Rattle.engine_targets.specs.Blocks.{owed_blocks, first_len}
-use Rattle.engine_servers.specs.declared.holder.Holder.{Holder}
-use Rattle.engine_servers.specs.Holders.{handle_of, number_in, is_full_client, IsHolder}
+use Rattle.engine_targets.specs.Rows.{number_in}
+use Rattle.engine_servers.specs.QueueRows.{QueueRow, handle_of, is_full_client, IsRowOn}
 use Rattle.engine_servers.proofs.Seen.{all-kept}
 
 all-visible : (h : Open Seen) (xs : List Entry) → AllByRecursion (λ e. visible h e ≡ true) xs → AllVisible h xs
 all-visible h [] all = tt
 all-visible h (x ∷ xs) all = (all.0, all-visible h xs all.1)
 
-module _ (object : ℕ) (name : List ℕ) (x : Holder) (is : IsHolder object x) where
-  pub queue-given : queue_blocks (x.queue.owed ++ []) ≡ owed_blocks (Some (handle_of object name x))
+module _ (object : ℕ) (name : List ℕ) (x : QueueRow) (is : IsRowOn object x) where
+  pub queue-given : queue_blocks (x.progress.owed ++ []) ≡ owed_blocks (Some (handle_of object name x))
   queue-given =
       let h = handle_of object name x in
-      ap queue_blocks (append-nil x.queue.owed)
-      ∙ blocks_are h x.queue.owed (record { kind = is.kind; seen = all-visible h x.queue.owed is.owed })
-      ∙ ap (map (block h)) (sym (all-kept (visible h) x.queue.owed is.owed))
+      ap queue_blocks (append-nil x.progress.owed)
+      ∙ blocks_are h x.progress.owed (record { kind = is.kind; seen = all-visible h x.progress.owed is.owed })
+      ∙ ap (map (block h)) (sym (all-kept (visible h) x.progress.owed is.owed))
 
   -- all that is owed is counted
-  pub count-is : (test : Entry → Bool) → length (filter test x.queue.owed) ≡ count_owed test (handle_of object name x)
-  count-is test = ap (λ xs. length (filter test xs)) (sym (all-kept (visible (handle_of object name x)) x.queue.owed is.owed))
+  pub count-is : (test : Entry → Bool) → length (filter test x.progress.owed) ≡ count_owed test (handle_of object name x)
+  count-is test = ap (λ xs. length (filter test xs)) (sym (all-kept (visible (handle_of object name x)) x.progress.owed is.owed))
 
 pub first-is : (entries : List Entry) → first_of entries ≡ first_len (queue_blocks entries)
 first-is [] = refl
@@ -55,11 +55,11 @@ module _ (object : ℕ) (name : List ℕ) where
   abbrev pub is_full : Open Seen → Bool
   is_full h = is_client h.kind && nat_le h.limit (count_owed is_server_message h)
 
-  full-same : (x : Holder) → IsHolder object x → is_full_client x ≡ is_full (handle_of object name x)
+  full-same : (x : QueueRow) → IsRowOn object x → is_full_client x ≡ is_full (handle_of object name x)
   full-same x is = ap (λ b. is_client x.opening.kind && b)
-      (not-lt (length (filter is_server_message x.queue.owed)) x.queue.limit ∙ (λ i. nat_le (is.limit i) (count-is object name x is is_server_message i)))
+      (not-lt (length (filter is_server_message x.progress.owed)) x.progress.limit ∙ (λ i. nat_le (is.limit i) (count-is object name x is is_server_message i)))
 
-  pub full-found : (xs : List Holder) → AllByRecursion (IsHolder object) xs → option_map number_in (find is_full_client xs) ≡ option_map (λ (h : Open Seen). h.number) (find is_full (map (handle_of object name) xs))
+  pub full-found : (xs : List QueueRow) → AllByRecursion (IsRowOn object) xs → option_map number_in (find is_full_client xs) ≡ option_map (λ (h : Open Seen). h.number) (find is_full (map (handle_of object name) xs))
   full-found [] all = refl
   full-found (x ∷ xs) all =
       ap (λ b. option_map number_in (cond b (Some x) (find is_full_client xs))) (full-same x all.0)

@@ -1,5 +1,7 @@
 pub mod Moves
 pub mod Seen
+pub mod Openings
+pub mod Walks
 pub mod Offering
 pub mod Roomed
 pub mod Given

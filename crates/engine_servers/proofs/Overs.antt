@@ -2,9 +2,8 @@
 use Rattle.std.proofs.Common.{◌≡◌, ℕ, false, List, [], ◌∷◌, map, refl}
 use Rattle.std.specs.List.{AllByRecursion}
 use Rattle.pps_types.specs.Rests.{is_over}
-use Rattle.engine_servers.specs.declared.holder.Holder.{Holder}
-use Rattle.engine_servers.specs.Holders.{handle_of}
+use Rattle.engine_servers.specs.QueueRows.{QueueRow, handle_of}
 
-pub none-over : (object : ℕ) (name : List ℕ) (xs : List Holder) → AllByRecursion (λ h. is_over h.seen ≡ false) (map (handle_of object name) xs)
+pub none-over : (object : ℕ) (name : List ℕ) (xs : List QueueRow) → AllByRecursion (λ h. is_over h.seen ≡ false) (map (handle_of object name) xs)
 none-over object name [] = tt
 none-over object name (x ∷ xs) = (refl, none-over object name xs)

@@ -8,8 +8,8 @@ use Rattle.pps_types.specs.Rests.{Seen}
 use Rattle.pps_types.specs.Owed.{is_of, longest_rest}
 use Rattle.pps_types.specs.Rising.{IsRising, AllAbove}
 use Rattle.engine_targets.specs.Seated.{IsSeated, AreSeated}
-use Rattle.engine_servers.specs.declared.holder.Holder.{Holder}
-use Rattle.engine_servers.specs.Holders.{handle_of, number_in, IsHolder, IsService}
+use Rattle.engine_targets.specs.Rows.{number_in}
+use Rattle.engine_servers.specs.QueueRows.{QueueRow, handle_of, IsRowOn, IsService}
 use Rattle.engine_servers.proofs.Seen.{queue-seen}
 
 flag-is : (k : HandleKind) → style k ≡ Queue → is_directory_kind k ≡ false
@@ -21,39 +21,39 @@ flag-is ServerHandle is = refl
 flag-is ClientHandle is = refl
 
 module _ (object : ℕ) (name : List ℕ) where
-  seated : (x : Holder) → IsHolder object x → IsSeated false object (handle_of object name x)
-  seated x is = record { flag = flag-is x.opening.kind is.kind; on = refl; whole = queue-seen (handle_of object name x) x.queue.owed is.kind }
+  seated : (x : QueueRow) → IsRowOn object x → IsSeated false object (handle_of object name x)
+  seated x is = record { flag = flag-is x.opening.kind is.kind; on = refl; whole = queue-seen (handle_of object name x) x.progress.owed is.kind }
 
-  all-seated : (xs : List Holder) → AllByRecursion (IsHolder object) xs → AllByRecursion (IsSeated false object) (map (handle_of object name) xs)
+  all-seated : (xs : List QueueRow) → AllByRecursion (IsRowOn object) xs → AllByRecursion (IsSeated false object) (map (handle_of object name) xs)
   all-seated [] all = tt
   all-seated (x ∷ xs) all = (seated x all.0, all-seated xs all.1)
 
-  above-seated : (n : ℕ) (xs : List Holder) → AllAbove number_in n xs → AllAbove (λ h. h.number) n (map (handle_of object name) xs)
+  above-seated : (n : ℕ) (xs : List QueueRow) → AllAbove number_in n xs → AllAbove (λ h. h.number) n (map (handle_of object name) xs)
   above-seated n [] all = tt
   above-seated n (x ∷ xs) all = (all.0, above-seated n xs all.1)
 
-  rising-seated : (xs : List Holder) → IsRising number_in xs → IsRising (λ h. h.number) (map (handle_of object name) xs)
+  rising-seated : (xs : List QueueRow) → IsRising number_in xs → IsRising (λ h. h.number) (map (handle_of object name) xs)
   rising-seated [] all = tt
   rising-seated (x ∷ xs) all = (above-seated x.opening.number xs all.0, rising-seated xs all.1)
 
-  pub are-seated : (led : Bool) (xs : List Holder) → IsService object led xs → AreSeated false object (map (handle_of object name) xs)
+  pub are-seated : (led : Bool) (xs : List QueueRow) → IsService object led xs → AreSeated false object (map (handle_of object name) xs)
   are-seated led xs is = record { each = all-seated xs is.each; rising = rising-seated xs is.rising }
 
   -- ---- of which kind they are, and what they are called
 
-  pub all-queued : (xs : List Holder) → AllByRecursion (IsHolder object) xs → AllByRecursion (λ (h : Open Seen). style h.kind ≡ Queue) (map (handle_of object name) xs)
+  pub all-queued : (xs : List QueueRow) → AllByRecursion (IsRowOn object) xs → AllByRecursion (λ (h : Open Seen). style h.kind ≡ Queue) (map (handle_of object name) xs)
   all-queued [] all = tt
   all-queued (x ∷ xs) all = (all.0.kind, all-queued xs all.1)
 
-  pub all-named : (xs : List Holder) → AllByRecursion (λ (h : Open Seen). h.name ≡ name) (map (handle_of object name) xs)
+  pub all-named : (xs : List QueueRow) → AllByRecursion (λ (h : Open Seen). h.name ≡ name) (map (handle_of object name) xs)
   all-named [] = tt
   all-named (x ∷ xs) = (refl, all-named xs)
 
 -- none of them is owed records of a shared list
-no-rest : (object : ℕ) (name : List ℕ) (d : Bool) (t : ℕ) (x : Holder) → IsHolder object x → is_of d t (handle_of object name x) ≡ false
+no-rest : (object : ℕ) (name : List ℕ) (d : Bool) (t : ℕ) (x : QueueRow) → IsRowOn object x → is_of d t (handle_of object name x) ≡ false
 no-rest object name d t x is = rw is.kind refl
 
-pub none-held : (object : ℕ) (name : List ℕ) (d : Bool) (t : ℕ) (xs : List Holder) → AllByRecursion (IsHolder object) xs → longest_rest d t (map (handle_of object name) xs) ≡ []
+pub none-held : (object : ℕ) (name : List ℕ) (d : Bool) (t : ℕ) (xs : List QueueRow) → AllByRecursion (IsRowOn object) xs → longest_rest d t (map (handle_of object name) xs) ≡ []
 none-held object name d t [] all = refl
 none-held object name d t (x ∷ xs) all =
     rw (no-rest object name d t x all.0) (rw (none-held object name d t xs all.1) refl)

@@ -1,5 +1,5 @@
 -- What a server's or a client's handle has seen, by what its queue holds.
-use Rattle.std.proofs.Common.{◌≡◌, ◌<◌, ℕ, zero, suc, arith, get_or, Bool, true, false, cond, eqb, List, [], ◌∷◌, length, map, drop, refl, sym, ap, subst, ◌∙◌, Option, Some}
+use Rattle.std.proofs.Common.{◌≡◌, ℕ, zero, suc, Bool, true, false, cond, eqb, List, [], ◌∷◌, length, map, drop, refl, sym, ap, subst, ◌∙◌, Option, Some}
 use Rattle.std.specs.Prelude.{find, filter, option_map}
 use Rattle.std.specs.List.{AllByRecursion}
 use Rattle.std.proofs.Math.Seq.{drop-length}
@@ -8,8 +8,7 @@ use Rattle.pps_types.specs.Reading.{Open, Queue, style, visible, reseen}
 use Rattle.pps_types.specs.Rests.{Seen, Owed, stand, over_limit, seen_of, from_first, past}
 use Rattle.pps_types.specs.Plan.{left, caught_up}
 use Rattle.engine_targets.specs.Opened.{opened, handle_at}
-use Rattle.engine_servers.specs.declared.holder.Holder.{Holder}
-use Rattle.engine_servers.specs.Holders.{waiting, owed_as, handle_of, IsHolder}
+use Rattle.engine_servers.specs.QueueRows.{QueueRow, waiting, owed_as, handle_of, IsRowOn}
 
 pub queue-seen : {S : Type 0} (h : Open S) (rest : List Entry) → style h.kind ≡ Queue → seen_of h rest ≡ Owed rest
 queue-seen h rest kind = ap (λ s. stand s h.reads (over_limit h rest) rest) kind
@@ -34,25 +33,25 @@ module _ (test : Entry → Bool) where
   all-drop (suc n) [] all = tt
   all-drop (suc n) (x ∷ xs) all = all-drop n xs all.1
 
-module _ (object : ℕ) (name : List ℕ) (x : Holder) (is : IsHolder object x) where
-  pub left-is : (n : ℕ) (owed : List Entry) → owed ≡ drop n x.queue.owed → owed_as object name x owed ≡ reseen (λ h. left h n h.seen) (handle_of object name x)
+module _ (object : ℕ) (name : List ℕ) (x : QueueRow) (is : IsRowOn object x) where
+  pub left-is : (n : ℕ) (owed : List Entry) → owed ≡ drop n x.progress.owed → owed_as object name x owed ≡ reseen (λ h. left h n h.seen) (handle_of object name x)
   left-is n owed same =
       let h = handle_of object name x in
       ap (λ (s : Seen). waiting x (reseen (λ o. s) (opened object name x.opening)))
-      (ap Owed same ∙ sym (queue-seen h (from_first (visible h) (past (visible h) n x.queue.owed)) is.kind
-      ∙ ap (λ xs. Owed (from_first (visible h) xs)) (all-past (visible h) n x.queue.owed is.owed)
-      ∙ ap Owed (all-from (visible h) (drop n x.queue.owed) (all-drop (visible h) n x.queue.owed is.owed))))
+      (ap Owed same ∙ sym (queue-seen h (from_first (visible h) (past (visible h) n x.progress.owed)) is.kind
+      ∙ ap (λ xs. Owed (from_first (visible h) xs)) (all-past (visible h) n x.progress.owed is.owed)
+      ∙ ap Owed (all-from (visible h) (drop n x.progress.owed) (all-drop (visible h) n x.progress.owed is.owed))))
 
-  pub caught-is : (owed : List Entry) → owed ≡ drop (length x.queue.owed) x.queue.owed → owed_as object name x owed ≡ reseen caught_up (handle_of object name x)
+  pub caught-is : (owed : List Entry) → owed ≡ drop (length x.progress.owed) x.progress.owed → owed_as object name x owed ≡ reseen caught_up (handle_of object name x)
   caught-is owed same =
       let h = handle_of object name x in
       ap (λ (s : Seen). waiting x (reseen (λ o. s) (opened object name x.opening)))
-      (ap Owed (same ∙ drop-length x.queue.owed) ∙ sym (queue-seen h [] is.kind))
+      (ap Owed (same ∙ drop-length x.progress.owed) ∙ sym (queue-seen h [] is.kind))
 
 -- ---- the handle of a number
 
 module _ (object : ℕ) (name : List ℕ) where
-  find-see : (n : ℕ) (xs : List Holder) (o : Option Holder) → o ≡ find (λ x. eqb x.opening.number n) xs → option_map (handle_of object name) o ≡ handle_at n (map (handle_of object name) xs)
+  find-see : (n : ℕ) (xs : List QueueRow) (o : Option QueueRow) → o ≡ find (λ x. eqb x.opening.number n) xs → option_map (handle_of object name) o ≡ handle_at n (map (handle_of object name) xs)
   find-see n [] o is = ap (option_map (handle_of object name)) is
   find-see n (x ∷ xs) o is = ap (option_map (handle_of object name)) is ∙ by (eqb x.opening.number n) (find-see n xs (find (λ x. eqb x.opening.number n) xs) refl)
     where
@@ -61,28 +60,15 @@ module _ (object : ℕ) (name : List ℕ) where
       by true rec = refl
       by false rec = rec
 
-  module _ (xs ys : List Holder) (n m : ℕ) (list : ys ≡ xs) (number : m ≡ n) where
-    -- none, or one, is found, as a search in the list that was meant says
-    pub found-handle : (o : Option Holder) → o ≡ find (λ x. eqb x.opening.number m) ys → option_map (handle_of object name) o ≡ handle_at n (map (handle_of object name) xs)
-    found-handle o is = find-see n xs o (is ∙ (λ i. find (λ x. eqb x.opening.number (number i)) (list i)))
+  module _ (xs : List QueueRow) (n : ℕ) where
+    -- none, or one, is found
+    pub found-handle : (o : Option QueueRow) → o ≡ find (λ x. eqb x.opening.number n) xs → option_map (handle_of object name) o ≡ handle_at n (map (handle_of object name) xs)
+    found-handle o is = find-see n xs o is
 
-    pub found-right : (x : Holder) → AllByRecursion (IsHolder object) xs → Some x ≡ find (λ x. eqb x.opening.number m) ys → IsHolder object x
-    found-right x all is = by xs all (is ∙ (λ i. find (λ x. eqb x.opening.number (number i)) (list i)))
+    pub found-right : (x : QueueRow) → AllByRecursion (IsRowOn object) xs → Some x ≡ find (λ x. eqb x.opening.number n) xs → IsRowOn object x
+    found-right x all is = by xs all is
       where
-        by : (xs : List Holder) → AllByRecursion (IsHolder object) xs → Some x ≡ find (λ x. eqb x.opening.number n) xs → IsHolder object x
+        by : (xs : List QueueRow) → AllByRecursion (IsRowOn object) xs → Some x ≡ find (λ x. eqb x.opening.number n) xs → IsRowOn object x
         by [] all is = absurd cc
-        by (y ∷ ys) all is = elim (eqb y.opening.number n) as (λ b. Some x ≡ cond b (Some y) (find (λ x. eqb x.opening.number n) ys) → IsHolder object x)
-            [ true ↦ (λ found. let same : y ≡ x = cc in subst (IsHolder object) same all.0) | false ↦ by ys all.1 ] is
-
--- ---- the first that passes
-
-module _ (test : Holder → Bool) where
-  pub find-here : (xs : List Holder) (i : ℕ) (d : Holder) → i < length xs → test (get_or xs i d) ≡ true → find test (drop i xs) ≡ Some (get_or xs i d)
-  find-here [] i d lt is = absurd (omega arith)
-  find-here (x ∷ xs) zero d lt is = rw is refl
-  find-here (x ∷ xs) (suc i) d lt is = find-here xs i d (omega arith) is
-
-  pub find-behind : (xs : List Holder) (i : ℕ) (d : Holder) → i < length xs → test (get_or xs i d) ≡ false → find test (drop (suc i) xs) ≡ find test (drop i xs)
-  find-behind [] i d lt is = absurd (omega arith)
-  find-behind (x ∷ xs) zero d lt is = rw is refl
-  find-behind (x ∷ xs) (suc i) d lt is = find-behind xs i d (omega arith) is
+        by (y ∷ ys) all is = elim (eqb y.opening.number n) as (λ b. Some x ≡ cond b (Some y) (find (λ x. eqb x.opening.number n) ys) → IsRowOn object x)
+            [ true ↦ (λ found. let same : y ≡ x = cc in subst (IsRowOn object) same all.0) | false ↦ by ys all.1 ] is

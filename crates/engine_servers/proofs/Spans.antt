@@ -1,7 +1,8 @@
--- Runs of handles outside of which none is given a record.
-use Rattle.std.proofs.Common.{◌≡◌, ℕ, zero, suc, ◌<◌, ◌≤◌, eqb, Bool, true, false, cond, not, ◌&&◌, List, [], ◌∷◌, ◌++◌, length, take, drop, get_or, refl, sym, ap, subst, Option, None, arith}
-use Rattle.std.specs.Prelude.{is_some, min, filter}
+-- Runs of slots outside of which no handle is given a record.
+use Rattle.std.proofs.Common.{◌≡◌, ℕ, zero, suc, ◌-◌, ◌<◌, ◌≤◌, eqb, Bool, true, false, cond, not, ◌&&◌, List, [], ◌∷◌, ◌++◌, length, take, drop, get_or, refl, sym, ap, subst, ◌∙◌, Option, None, IsSome, arith}
+use Rattle.std.specs.Prelude.{is_some, filter, slice_range}
 use Rattle.std.specs.List.{AllByRecursion, list_any}
+use Rattle.std.proofs.lemmas.Bool.{false≢true}
 use Rattle.std.proofs.lemmas.Bool.Decides.{nat_tests}
 use Rattle.pps_types.specs.declared.handle_kind.HandleKind.{HandleKind}
 use Rattle.pps_types.specs.declared.handle_kind.HandleKind.TheVariants.{Object as ObjectHandle, Directory as DirectoryHandle, Names as NamesHandle, Server as ServerHandle, Client as ClientHandle}
@@ -13,77 +14,86 @@ use Rattle.pps_types.specs.Filter.{Part}
 use Rattle.pps_types.specs.History.{Entry}
 use Rattle.pps_types.specs.Reading.{Shown, Queue, style, shown, shown_to_server, shown_to_client, with_lines}
 use Rattle.pps_types.specs.Rising.{AllAbove, IsPlaceOf, IsGapFor}
-use Rattle.engine_servers.specs.declared.holder.Holder.{Holder}
-use Rattle.engine_servers.specs.Holders.{number_in, sees, IsQueued, IsOfClient, IsLed}
-use Rattle.engine_servers.specs.Spans.{FirstAre, RestAre, IsSpan, IsOther, IsBlind, IsUnseen}
+use Rattle.engine_targets.specs.declared.row.Slot.TheVariants.{Row, Gap}
+use Rattle.engine_targets.specs.Rows.{number_in, rows_in, row_at, rank}
+use Rattle.engine_targets.proofs.Gaps.{place_within}
+use Rattle.engine_servers.specs.QueueRows.{QueueRow, QueueSlot, sees, IsQueued, IsOfClient, IsLed}
+use Rattle.engine_servers.specs.Spans.{rows_before, rows_from, IsSpan, IsOther, IsBlind, IsUnseen}
 use Rattle.engine_servers.specs.Woken.{waits_at, wakes_at}
 
 -- ---- the handle of a number alone
 
-above-other : (n : ℕ) (xs : List Holder) → AllAbove number_in n xs → AllByRecursion (IsOther n) xs
+above-other : (n : ℕ) (xs : List QueueRow) → AllAbove number_in n xs → AllByRecursion (IsOther n) xs
 above-other n [] above = tt
 above-other n (x ∷ xs) above = ((λ same. omega (arith, same, above.0)), above-other n xs above.1)
 
-other-before : (n i : ℕ) (xs : List Holder) → IsPlaceOf number_in xs n i → FirstAre (IsOther n) i xs
-other-before n zero xs place = tt
-other-before n (suc i) [] place = tt
-other-before n (suc i) (x ∷ xs) place = ((λ same. omega (arith, same, place.0)), other-before n i xs place.1)
+other-before : (n i : ℕ) (ss : List QueueSlot) → IsSome (row_at i ss) → IsPlaceOf number_in (rows_in ss) n (rank i ss) → AllByRecursion (IsOther n) (rows_before i ss)
+other-before n i [] some place = absurd (false≢true some)
+other-before n zero (s ∷ ss) some place = tt
+other-before n (suc i) (Row x ∷ ss) some place = ((λ same. omega (arith, same, place.0)), other-before n i ss some place.1)
+other-before n (suc i) (Gap m ∷ ss) some place = other-before n i ss some place
 
-other-behind : (n i : ℕ) (xs : List Holder) → IsPlaceOf number_in xs n i → RestAre (IsOther n) (suc i) xs
-other-behind n zero [] place = tt
-other-behind n zero (x ∷ xs) place = above-other n xs place.1
-other-behind n (suc i) [] place = tt
-other-behind n (suc i) (x ∷ xs) place = other-behind n i xs place.1
+other-behind : (n i : ℕ) (ss : List QueueSlot) → IsSome (row_at i ss) → IsPlaceOf number_in (rows_in ss) n (rank i ss) → AllByRecursion (IsOther n) (rows_from (suc i) ss)
+other-behind n i [] some place = absurd (false≢true some)
+other-behind n zero (Row x ∷ ss) some place = above-other n (rows_in ss) place.1
+other-behind n zero (Gap m ∷ ss) some place = absurd (false≢true some)
+other-behind n (suc i) (Row x ∷ ss) some place = other-behind n i ss some place.1
+other-behind n (suc i) (Gap m ∷ ss) some place = other-behind n i ss some place
 
-pub place-span : (n i : ℕ) (xs : List Holder) → i < length xs → IsPlaceOf number_in xs n i → IsSpan (IsOther n) i (suc i) xs
-place-span n i xs lt place = record { order = omega arith; bound = omega arith; before = other-before n i xs place; behind = other-behind n i xs place }
+pub place-span : (n i : ℕ) (ss : List QueueSlot) → IsSome (row_at i ss) → IsPlaceOf number_in (rows_in ss) n (rank i ss) → IsSpan (IsOther n) i (suc i) ss
+place-span n i ss some place = record { order = omega arith; bound = omega (arith, place_within ss i some); before = other-before n i ss some place; behind = other-behind n i ss some place }
 
-gap-other : (n i : ℕ) (xs : List Holder) → IsGapFor number_in xs n i → AllByRecursion (IsOther n) xs
+gap-other : (n i : ℕ) (xs : List QueueRow) → IsGapFor number_in xs n i → AllByRecursion (IsOther n) xs
 gap-other n zero xs gap = above-other n xs gap
 gap-other n (suc i) [] gap = tt
 gap-other n (suc i) (x ∷ xs) gap = ((λ same. omega (arith, same, gap.0)), gap-other n i xs gap.1)
 
-pub gap-span : (n i : ℕ) (xs : List Holder) → IsGapFor number_in xs n i → IsSpan (IsOther n) 0 0 xs
-gap-span n i xs gap = record { order = omega arith; bound = omega arith; before = tt; behind = gap-other n i xs gap }
+-- ---- no slots, and all
 
--- ---- all handles, and the first alone
+module _ (Out : QueueRow → Type 0) where
+  pub no-span : (ss : List QueueSlot) → AllByRecursion Out (rows_in ss) → IsSpan Out 0 0 ss
+  no-span ss all = record { order = omega arith; bound = omega arith; before = tt; behind = all }
 
-module _ (Out : Holder → Type 0) where
-  rest-none : (xs : List Holder) → RestAre Out (length xs) xs
+  rest-none : (ss : List QueueSlot) → AllByRecursion Out (rows_from (length ss) ss)
   rest-none [] = tt
-  rest-none (x ∷ xs) = rest-none xs
+  rest-none (s ∷ ss) = rest-none ss
 
-  pub whole-span : (xs : List Holder) → IsSpan Out 0 (length xs) xs
-  whole-span xs = record { order = omega arith; bound = omega arith; before = tt; behind = rest-none xs }
+  pub whole-span : (ss : List QueueSlot) → IsSpan Out 0 (length ss) ss
+  whole-span ss = record { order = omega arith; bound = omega arith; before = tt; behind = rest-none ss }
 
-  pub no-span : (xs : List Holder) → AllByRecursion Out xs → IsSpan Out 0 0 xs
-  no-span xs all = record { order = omega arith; bound = omega arith; before = tt; behind = all }
+pub gap-span : (n i : ℕ) (ss : List QueueSlot) → IsGapFor number_in (rows_in ss) n i → IsSpan (IsOther n) 0 0 ss
+gap-span n i ss gap = no-span (IsOther n) ss (gap-other n i (rows_in ss) gap)
 
-pub first-span : (n : ℕ) (xs : List Holder) → n ≡ min (length xs) 1 → IsLed true xs → IsSpan IsOfClient 0 n xs
-first-span n [] is led = subst (λ m. IsSpan IsOfClient 0 m []) (sym is) (record { order = omega arith; bound = omega arith; before = tt; behind = tt })
-first-span n (x ∷ xs) is led =
-    let one : n ≡ 1 = omega (arith, is) in
-    subst (λ m. IsSpan IsOfClient 0 m (x ∷ xs)) (sym one) (record { order = omega arith; bound = omega arith; before = tt; behind = led })
+-- ---- the first handle alone
+
+led-rest : (xs : List QueueRow) → IsLed true xs → AllByRecursion IsOfClient (drop 1 xs)
+led-rest [] led = tt
+led-rest (x ∷ xs) led = led
+
+pub first-span : (n : ℕ) (ss : List QueueSlot) → n ≤ length ss → rows_from n ss ≡ drop 1 (rows_in ss) → IsLed true (rows_in ss) → IsSpan IsOfClient 0 n ss
+first-span n ss bound rows led = record { order = omega arith; bound = bound; before = tt; behind = subst (AllByRecursion IsOfClient) (sym rows) (led-rest (rows_in ss) led) }
 
 -- ---- who is outside for one reason is for another
 
-module _ (Is P Q : Holder → Type 0) (f : (x : Holder) → Is x → P x → Q x) where
-  all-other : (xs : List Holder) → AllByRecursion Is xs → AllByRecursion P xs → AllByRecursion Q xs
+module _ (Is P Q : QueueRow → Type 0) (f : (x : QueueRow) → Is x → P x → Q x) where
+  all-before : (n : ℕ) (ss : List QueueSlot) → AllByRecursion Is (rows_in ss) → AllByRecursion P (rows_before n ss) → AllByRecursion Q (rows_before n ss)
+  all-before zero ss is all = tt
+  all-before (suc n) [] is all = tt
+  all-before (suc n) (Row x ∷ ss) is all = (f x is.0 all.0, all-before n ss is.1 all.1)
+  all-before (suc n) (Gap m ∷ ss) is all = all-before n ss is all
+
+  all-other : (xs : List QueueRow) → AllByRecursion Is xs → AllByRecursion P xs → AllByRecursion Q xs
   all-other [] is all = tt
   all-other (x ∷ xs) is all = (f x is.0 all.0, all-other xs is.1 all.1)
 
-  first-other : (n : ℕ) (xs : List Holder) → AllByRecursion Is xs → FirstAre P n xs → FirstAre Q n xs
-  first-other zero xs is all = tt
-  first-other (suc n) [] is all = tt
-  first-other (suc n) (x ∷ xs) is all = (f x is.0 all.0, first-other n xs is.1 all.1)
+  all-from : (n : ℕ) (ss : List QueueSlot) → AllByRecursion Is (rows_in ss) → AllByRecursion P (rows_from n ss) → AllByRecursion Q (rows_from n ss)
+  all-from zero ss is all = all-other (rows_in ss) is all
+  all-from (suc n) [] is all = tt
+  all-from (suc n) (Row x ∷ ss) is all = all-from n ss is.1 all
+  all-from (suc n) (Gap m ∷ ss) is all = all-from n ss is all
 
-  rest-other : (n : ℕ) (xs : List Holder) → AllByRecursion Is xs → RestAre P n xs → RestAre Q n xs
-  rest-other zero xs is all = all-other xs is all
-  rest-other (suc n) [] is all = tt
-  rest-other (suc n) (x ∷ xs) is all = rest-other n xs is.1 all
-
-  pub span-other : (from to : ℕ) (xs : List Holder) → AllByRecursion Is xs → IsSpan P from to xs → IsSpan Q from to xs
-  span-other from to xs is span = record { order = span.order; bound = span.bound; before = first-other from xs is span.before; behind = rest-other to xs is span.behind }
+  pub span-other : (from to : ℕ) (ss : List QueueSlot) → AllByRecursion Is (rows_in ss) → IsSpan P from to ss → IsSpan Q from to ss
+  span-other from to ss is span = record { order = span.order; bound = span.bound; before = all-before from ss is span.before; behind = all-from to ss is span.behind }
 
 -- ---- who has no block
 
@@ -103,17 +113,17 @@ to-other NamesHandle n filter id lines is other = absurd cc
 to-other ServerHandle n filter id lines is other = refl
 to-other ClientHandle n filter id lines is other = other-client n id lines other
 
-pub other-blind : (id : ℕ) (lines : Lines) (x : Holder) → IsQueued x → IsOther id x → IsBlind (ToClient id lines) x
+pub other-blind : (id : ℕ) (lines : Lines) (x : QueueRow) → IsQueued x → IsOther id x → IsBlind (ToClient id lines) x
 other-blind id lines x queued other = to-other x.opening.kind x.opening.number x.opening.filter id lines queued other
 
 -- a client has no block for what is its server's
-pub from-blind : (id : ℕ) (lines : Lines) (x : Holder) → IsQueued x → IsOfClient x → IsBlind (FromClient id lines) x
+pub from-blind : (id : ℕ) (lines : Lines) (x : QueueRow) → IsQueued x → IsOfClient x → IsBlind (FromClient id lines) x
 from-blind id lines x queued client = ap (λ k. is_some (shown k x.opening.number x.opening.filter (FromClient id lines))) client
 
-pub opened-blind : (id : ℕ) (x : Holder) → IsQueued x → IsOfClient x → IsBlind (Opened id) x
+pub opened-blind : (id : ℕ) (x : QueueRow) → IsQueued x → IsOfClient x → IsBlind (Opened id) x
 opened-blind id x queued client = ap (λ k. is_some (shown k x.opening.number x.opening.filter (Opened id))) client
 
-pub closed-blind : (id : ℕ) (x : Holder) → IsQueued x → IsOfClient x → IsBlind (Closed id) x
+pub closed-blind : (id : ℕ) (x : QueueRow) → IsQueued x → IsOfClient x → IsBlind (Closed id) x
 closed-blind id x queued client = ap (λ k. is_some (shown k x.opening.number x.opening.filter (Closed id))) client
 
 -- ---- who has no block is given nothing
@@ -123,45 +133,36 @@ and-false true true c is = is
 and-false true false c is = refl
 and-false false b c is = refl
 
-pub blind-unseen : (object : ℕ) (e : Entry) (x : Holder) → IsBlind e.record_of.kind x → sees object e x ≡ false
+pub blind-unseen : (object : ℕ) (e : Entry) (x : QueueRow) → IsBlind e.record_of.kind x → sees object e x ≡ false
 blind-unseen object e x blind = grind (arith, blind)
 
-pub span-is : (Out : Holder → Type 0) (from to a b : ℕ) (xs : List Holder) → from ≡ a → to ≡ b → IsSpan Out a b xs → IsSpan Out from to xs
+pub span-is : (Out : QueueRow → Type 0) (from to a b : ℕ) (xs : List QueueSlot) → from ≡ a → to ≡ b → IsSpan Out a b xs → IsSpan Out from to xs
 span-is Out from to a b xs first last span = subst (λ m. IsSpan Out m to xs) (sym first) (subst (λ m. IsSpan Out a m xs) (sym last) span)
 
--- ---- a run of all handles up to one, behind which none is given one of some records
+-- ---- a run of all slots up to one, after which no handle is given one of some records
 
-module _ (P : Holder → Type 0) where
-  rest-of : (n : ℕ) (xs : List Holder) → AllByRecursion P xs → RestAre P n xs
-  rest-of zero xs all = all
+module _ (P : QueueRow → Type 0) where
+  rest-of : (n : ℕ) (ss : List QueueSlot) → AllByRecursion P (rows_in ss) → AllByRecursion P (rows_from n ss)
+  rest-of zero ss all = all
   rest-of (suc n) [] all = tt
-  rest-of (suc n) (x ∷ xs) all = rest-of n xs all.1
+  rest-of (suc n) (Row x ∷ ss) all = rest-of n ss all.1
+  rest-of (suc n) (Gap m ∷ ss) all = rest-of n ss all
 
-  rest-fewer : (m n : ℕ) (xs : List Holder) → m ≤ n → RestAre P m xs → RestAre P n xs
-  rest-fewer zero n xs le rest = rest-of n xs rest
-  rest-fewer (suc m) zero xs le rest = absurd (omega arith)
+  rest-fewer : (m n : ℕ) (ss : List QueueSlot) → m ≤ n → AllByRecursion P (rows_from m ss) → AllByRecursion P (rows_from n ss)
+  rest-fewer zero n ss le rest = rest-of n ss rest
+  rest-fewer (suc m) zero ss le rest = absurd (omega arith)
   rest-fewer (suc m) (suc n) [] le rest = tt
-  rest-fewer (suc m) (suc n) (x ∷ xs) le rest = rest-fewer m n xs (omega arith) rest
+  rest-fewer (suc m) (suc n) (s ∷ ss) le rest = rest-fewer m n ss (omega arith) rest
 
-module _ (P Q R : Holder → Type 0) (f : (x : Holder) → P x → Q x → R x) where
-  all-of-both : (xs : List Holder) → AllByRecursion P xs → AllByRecursion Q xs → AllByRecursion R xs
-  all-of-both [] p q = tt
-  all-of-both (x ∷ xs) p q = (f x p.0 q.0, all-of-both xs p.1 q.1)
-
-  rest-of-both : (n : ℕ) (xs : List Holder) → RestAre P n xs → RestAre Q n xs → RestAre R n xs
-  rest-of-both zero xs p q = all-of-both xs p q
-  rest-of-both (suc n) [] p q = tt
-  rest-of-both (suc n) (x ∷ xs) p q = rest-of-both n xs p q
-
-unseen-push : (object : ℕ) (es : List Entry) (e : Entry) (x : Holder) → IsUnseen object es x → IsBlind e.record_of.kind x → IsUnseen object (es ++ e ∷ []) x
+unseen-push : (object : ℕ) (es : List Entry) (e : Entry) (x : QueueRow) → IsUnseen object es x → IsBlind e.record_of.kind x → IsUnseen object (es ++ e ∷ []) x
 unseen-push object [] e x out blind = (blind-unseen object e x blind, tt)
 unseen-push object (y ∷ es) e x out blind = (out.0, unseen-push object es e x out.1 blind)
 
 -- one record more
-pub rest-more : (object : ℕ) (es : List Entry) (e : Entry) (m n k : ℕ) (xs : List Holder) → m ≤ k → n ≤ k → RestAre (IsUnseen object es) m xs → RestAre (IsBlind e.record_of.kind) n xs → RestAre (IsUnseen object (es ++ e ∷ [])) k xs
-rest-more object es e m n k xs le lt out blind =
-    rest-of-both (IsUnseen object es) (IsBlind e.record_of.kind) (IsUnseen object (es ++ e ∷ [])) (unseen-push object es e) k xs
-    (rest-fewer (IsUnseen object es) m k xs le out) (rest-fewer (IsBlind e.record_of.kind) n k xs lt blind)
+pub rest-more : (object : ℕ) (es : List Entry) (e : Entry) (m n k : ℕ) (ss : List QueueSlot) → m ≤ k → n ≤ k → AllByRecursion (IsUnseen object es) (rows_from m ss) → AllByRecursion (IsBlind e.record_of.kind) (rows_from n ss) → AllByRecursion (IsUnseen object (es ++ e ∷ [])) (rows_from k ss)
+rest-more object es e m n k ss le lt out blind =
+    all-other (IsUnseen object es) (IsBlind e.record_of.kind) (IsUnseen object (es ++ e ∷ [])) (unseen-push object es e) (rows_from k ss)
+    (rest-fewer (IsUnseen object es) m k ss le out) (rest-fewer (IsBlind e.record_of.kind) n k ss lt blind)
 
 -- ---- what is for nobody
 
@@ -191,12 +192,12 @@ module _ (k : Kind) (deleted : k ≡ Deleted → ⊥) (opened : (id : ℕ) → k
   no-kind ServerHandle n filter is = (no-block n).0
   no-kind ClientHandle n filter is = (no-block n).1
 
-  pub none-span : (xs : List Holder) → AllByRecursion IsQueued xs → IsSpan (IsBlind k) 0 0 xs
-  none-span xs queued = no-span (IsBlind k) xs (all-blind xs queued)
-    where
-      all-blind : (xs : List Holder) → AllByRecursion IsQueued xs → AllByRecursion (IsBlind k) xs
-      all-blind [] queued = tt
-      all-blind (x ∷ xs) queued = (no-kind x.opening.kind x.opening.number x.opening.filter queued.0, all-blind xs queued.1)
+  all-blind : (xs : List QueueRow) → AllByRecursion IsQueued xs → AllByRecursion (IsBlind k) xs
+  all-blind [] queued = tt
+  all-blind (x ∷ xs) queued = (no-kind x.opening.kind x.opening.number x.opening.filter queued.0, all-blind xs queued.1)
+
+  pub none-span : (ss : List QueueSlot) → AllByRecursion IsQueued (rows_in ss) → IsSpan (IsBlind k) 0 0 ss
+  none-span ss queued = no-span (IsBlind k) ss (all-blind (rows_in ss) queued)
 
 pub only-one : (e : Entry) (es : List Entry) → 1 ≤ length es → length es < 2 → e ≡ get_or es 0 e → es ≡ e ∷ []
 only-one e [] some few is = absurd (omega arith)
@@ -205,43 +206,70 @@ only-one e (x ∷ (y ∷ es)) some few is = absurd (omega arith)
 
 -- ---- what passes is within a run
 
-module _ (f : Holder → Bool) where
-  filter-none : (xs : List Holder) → AllByRecursion (λ x. f x ≡ false) xs → filter f xs ≡ []
+module _ (f : QueueRow → Bool) where
+  filter-none : (xs : List QueueRow) → AllByRecursion (λ x. f x ≡ false) xs → filter f xs ≡ []
   filter-none [] out = refl
   filter-none (x ∷ xs) out = rw out.0 (filter-none xs out.1)
 
-  pub filter-before : (n : ℕ) (xs : List Holder) → FirstAre (λ x. f x ≡ false) n xs → filter f (drop n xs) ≡ filter f xs
-  filter-before zero xs out = refl
-  filter-before (suc n) [] out = refl
-  filter-before (suc n) (x ∷ xs) out = rw out.0 (filter-before n xs out.1)
-
-  pub filter-behind : (n : ℕ) (xs : List Holder) → RestAre (λ x. f x ≡ false) n xs → filter f (drop n xs) ≡ []
-  filter-behind zero xs out = filter-none xs out
-  filter-behind (suc n) [] out = refl
-  filter-behind (suc n) (x ∷ xs) out = filter-behind n xs out
-
-  pub filter-first : (n : ℕ) (xs : List Holder) → FirstAre (λ x. f x ≡ false) n xs → filter f (take n xs) ≡ []
-  filter-first zero xs out = refl
+  -- of the first slots
+  filter-first : (n : ℕ) (ss : List QueueSlot) → AllByRecursion (λ x. f x ≡ false) (rows_from n ss) → filter f (rows_in (take n ss)) ≡ filter f (rows_in ss)
+  filter-first zero ss out = sym (filter-none (rows_in ss) out)
   filter-first (suc n) [] out = refl
-  filter-first (suc n) (x ∷ xs) out = rw out.0 (filter-first n xs out.1)
+  filter-first (suc n) (Row x ∷ ss) out = ap (λ ys. cond (f x) (x ∷ ys) ys) (filter-first n ss out)
+  filter-first (suc n) (Gap m ∷ ss) out = filter-first n ss out
 
-  pub filter-all : (n : ℕ) (xs : List Holder) → RestAre (λ x. f x ≡ false) n xs → filter f (take n xs) ≡ filter f xs
-  filter-all zero xs out = sym (filter-none xs out)
-  filter-all (suc n) [] out = refl
-  filter-all (suc n) (x ∷ xs) out = ap (λ ys. cond (f x) (x ∷ ys) ys) (filter-all n xs out)
+  none-taken : (n : ℕ) → filter f (rows_in (take n [])) ≡ []
+  none-taken zero = refl
+  none-taken (suc n) = refl
+
+  filter-past : (x : QueueRow) (xs : List QueueRow) → f x ≡ false → filter f (x ∷ xs) ≡ filter f xs
+  filter-past x xs out = rw out refl
+
+  pub filter-within : (from to : ℕ) (ss : List QueueSlot) → from ≤ to → AllByRecursion (λ x. f x ≡ false) (rows_before from ss) → AllByRecursion (λ x. f x ≡ false) (rows_from to ss)
+      → filter f (rows_in (slice_range ss from to)) ≡ filter f (rows_in ss)
+  filter-within zero to ss order before behind = ap (λ n. filter f (rows_in (take n ss))) (let e : to - 0 ≡ to = omega arith in e) ∙ filter-first to ss behind
+  filter-within (suc from) zero ss order before behind = absurd (omega arith)
+  filter-within (suc from) (suc to) [] order before behind = none-taken (suc to - suc from)
+  filter-within (suc from) (suc to) (Row x ∷ ss) order before behind =
+      ap (λ n. filter f (rows_in (take n (drop from ss)))) (let e : suc to - suc from ≡ to - from = omega arith in e)
+      ∙ filter-within from to ss (omega arith) before.1 behind
+      ∙ sym (filter-past x (rows_in ss) before.0)
+  filter-within (suc from) (suc to) (Gap m ∷ ss) order before behind =
+      ap (λ n. filter f (rows_in (take n (drop from ss)))) (let e : suc to - suc from ≡ to - from = omega arith in e)
+      ∙ filter-within from to ss (omega arith) before behind
+
+-- what is so of all handles is so of those within a run
+module _ (P : QueueRow → Type 0) where
+  all-first : (n : ℕ) (ss : List QueueSlot) → AllByRecursion P (rows_in ss) → AllByRecursion P (rows_in (take n ss))
+  all-first zero ss all = tt
+  all-first (suc n) [] all = tt
+  all-first (suc n) (Row x ∷ ss) all = (all.0, all-first n ss all.1)
+  all-first (suc n) (Gap m ∷ ss) all = all-first n ss all
+
+  pub all-within : (from to : ℕ) (ss : List QueueSlot) → AllByRecursion P (rows_in ss) → AllByRecursion P (rows_in (slice_range ss from to))
+  all-within from to ss all = all-first (to - from) (drop from ss) (rest-of P from ss all)
 
 -- one record is not given to those outside
-pub unseen-span : (object : ℕ) (e : Entry) (from to : ℕ) (xs : List Holder) → AllByRecursion IsQueued xs → IsSpan (IsUnseen object (e ∷ [])) from to xs → IsSpan (λ x. sees object e x ≡ false) from to xs
-unseen-span object e from to xs queued span = span-other IsQueued (IsUnseen object (e ∷ [])) (λ x. sees object e x ≡ false) (λ x is out. out.0) from to xs queued span
+pub unseen-span : (object : ℕ) (e : Entry) (from to : ℕ) (ss : List QueueSlot) → AllByRecursion IsQueued (rows_in ss) → IsSpan (IsUnseen object (e ∷ [])) from to ss → IsSpan (λ x. sees object e x ≡ false) from to ss
+unseen-span object e from to ss queued span = span-other IsQueued (IsUnseen object (e ∷ [])) (λ x. sees object e x ≡ false) (λ x is out. out.0) from to ss queued span
+
+pub seers-within : (object : ℕ) (e : Entry) (from to : ℕ) (ss : List QueueSlot) → AllByRecursion IsQueued (rows_in ss) → IsSpan (IsUnseen object (e ∷ [])) from to ss
+    → filter (sees object e) (rows_in (slice_range ss from to)) ≡ filter (sees object e) (rows_in ss)
+seers-within object e from to ss queued span =
+    let out = unseen-span object e from to ss queued span in
+    filter-within (sees object e) from to ss out.order out.before out.behind
 
 -- ---- they are not woken
 
-none-any : (object : ℕ) (x : Holder) (es : List Entry) → IsUnseen object es x → list_any (λ e. sees object e x) es ≡ false
+none-any : (object : ℕ) (x : QueueRow) (es : List Entry) → IsUnseen object es x → list_any (λ e. sees object e x) es ≡ false
 none-any object x [] out = refl
 none-any object x (e ∷ es) out = rw out.0 (none-any object x es out.1)
 
-asleep : (object : ℕ) (es : List Entry) (x : Holder) → IsUnseen object es x → wakes_at object es x ≡ false
-asleep object es x out = and-false (waits_at x) (not (not (is_empty x.queue.owed))) (list_any (λ e. sees object e x) es) (none-any object x es out)
+asleep : (object : ℕ) (es : List Entry) (x : QueueRow) → IsUnseen object es x → wakes_at object es x ≡ false
+asleep object es x out = and-false (waits_at x) (not (not (is_empty x.progress.owed))) (list_any (λ e. sees object e x) es) (none-any object x es out)
 
-pub asleep-span : (object : ℕ) (es : List Entry) (from to : ℕ) (xs : List Holder) → AllByRecursion IsQueued xs → IsSpan (IsUnseen object es) from to xs → IsSpan (λ x. wakes_at object es x ≡ false) from to xs
-asleep-span object es from to xs queued span = span-other IsQueued (IsUnseen object es) (λ x. wakes_at object es x ≡ false) (λ x is out. asleep object es x out) from to xs queued span
+pub woken-within : (object : ℕ) (es : List Entry) (from to : ℕ) (ss : List QueueSlot) → AllByRecursion IsQueued (rows_in ss) → IsSpan (IsUnseen object es) from to ss
+    → filter (wakes_at object es) (rows_in (slice_range ss from to)) ≡ filter (wakes_at object es) (rows_in ss)
+woken-within object es from to ss queued span =
+    let out = span-other IsQueued (IsUnseen object es) (λ x. wakes_at object es x ≡ false) (λ x is out. asleep object es x out) from to ss queued span in
+    filter-within (wakes_at object es) from to ss out.order out.before out.behind

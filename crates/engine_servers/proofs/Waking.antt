@@ -8,8 +8,8 @@ use Rattle.pps_types.specs.Reading.{Open}
 use Rattle.pps_types.specs.Rests.{Seen}
 use Rattle.pps_types.specs.Content.{is_waiting, learns}
 use Rattle.engine_targets.specs.Woken.{woken_by}
-use Rattle.engine_servers.specs.declared.holder.Holder.{Holder}
-use Rattle.engine_servers.specs.Holders.{handle_of, number_in, sees}
+use Rattle.engine_targets.specs.Rows.{number_in}
+use Rattle.engine_servers.specs.QueueRows.{QueueRow, handle_of, sees}
 use Rattle.engine_servers.specs.Woken.{wakes_at}
 
 some-mapped : {X Y : Type 0} (f : X → Y) (o : Option X) → is_some o ≡ is_some (option_map f o)
@@ -17,14 +17,14 @@ some-mapped f None = refl
 some-mapped f (Some x) = refl
 
 module _ (object : ℕ) (name : List ℕ) (es : List Entry) where
-  wakes-same : (x : Holder) → wakes_at object es x ≡ (is_waiting (handle_of object name x) && learns es (handle_of object name x))
-  wakes-same x = ap (λ b. (is_some x.parked || b) && (not (not (is_empty x.queue.owed)) && list_any (λ e. sees object e x) es)) (some-mapped (λ p. (p.code, p.value)) x.armed)
+  wakes-same : (x : QueueRow) → wakes_at object es x ≡ (is_waiting (handle_of object name x) && learns es (handle_of object name x))
+  wakes-same x = ap (λ b. (is_some x.parked || b) && (not (not (is_empty x.progress.owed)) && list_any (λ e. sees object e x) es)) (some-mapped (λ p. (p.code, p.value)) x.armed)
 
-  pub woken-holders : (xs : List Holder) → map number_in (filter (wakes_at object es) xs) ≡ woken_by es (map (handle_of object name) xs)
-  woken-holders [] = refl
-  woken-holders (x ∷ xs) =
+  pub woken-rows : (xs : List QueueRow) → map number_in (filter (wakes_at object es) xs) ≡ woken_by es (map (handle_of object name) xs)
+  woken-rows [] = refl
+  woken-rows (x ∷ xs) =
       ap (λ b. map number_in (cond b (x ∷ filter (wakes_at object es) xs) (filter (wakes_at object es) xs))) (wakes-same x)
-      ∙ by (is_waiting (handle_of object name x) && learns es (handle_of object name x)) (woken-holders xs)
+      ∙ by (is_waiting (handle_of object name x) && learns es (handle_of object name x)) (woken-rows xs)
     where
       by : (b : Bool) → map number_in (filter (wakes_at object es) xs) ≡ woken_by es (map (handle_of object name) xs)
           → map number_in (cond b (x ∷ filter (wakes_at object es) xs) (filter (wakes_at object es) xs))

@@ -3,7 +3,7 @@ use Rattle.std.specs.Prelude.{ℕ, List, Option}
 use Rattle.pps_types.specs.History.{Entry}
 use Rattle.engine_targets.specs.declared.opening.Opening.{Opening}
 use Rattle.engine_targets.specs.declared.opening.Pulse.{Pulse}
-use Rattle.engine_servers.specs.declared.holder.Holder.{Holder}
+use Rattle.engine_servers.specs.QueueRows.{QueueRow}
 
 pub record Held : Type 0 where
   pub opening : Opening
@@ -12,5 +12,5 @@ pub record Held : Type 0 where
   pub parked : Option ℕ
   pub armed : Option Pulse
 
-abbrev pub held_of : Holder → Held
-held_of x = record { opening = x.opening; limit = x.queue.limit; owed = x.queue.owed; parked = x.parked; armed = x.armed }
+abbrev pub held_of : QueueRow → Held
+held_of x = record { opening = x.opening; limit = x.progress.limit; owed = x.progress.owed; parked = x.parked; armed = x.armed }

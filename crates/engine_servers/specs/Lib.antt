@@ -1,7 +1,8 @@
-pub mod Holders
+pub mod QueueRows
 pub mod Shared
 pub mod Made
 pub mod Standing
+pub mod Walks
 pub mod Offers
 pub mod Rooms
 pub mod Woken

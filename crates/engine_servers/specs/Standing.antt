@@ -8,7 +8,7 @@ use Rattle.pps_types.specs.Owed.{longest_rest}
 use Rattle.server_queue.specs.Senders.{client_messages}
 use Rattle.engine_targets.specs.declared.opening.Opening.{Opening}
 use Rattle.engine_targets.specs.HandleAt.{with_opened}
-use Rattle.engine_servers.specs.declared.holder.Holder.{Holder}
+use Rattle.engine_servers.specs.QueueRows.{QueueRow}
 
 -- for how many more records a handle's queue has memory, and for how many more messages of clients it can count them
 pub record Spare : Type 0 where
@@ -24,8 +24,8 @@ pub record Standing : Type 0 where
   pub spares : List Spare
   pub places : ℕ
 
-abbrev pub spare_of : Holder → Spare
-spare_of x = record { records = x.queue.room; messages = x.queue.counters }
+abbrev pub spare_of : QueueRow → Spare
+spare_of x = record { records = x.progress.room; messages = x.progress.counters }
 
 -- how many of these records are messages of clients
 abbrev pub messages_in : List Entry → ℕ

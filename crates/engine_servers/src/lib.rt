@@ -3,7 +3,7 @@
 #![tactic(auto)]
 
 mod copies;
-mod holder;
+mod full;
 mod made;
 mod offers;
 mod rooms;

@@ -1,61 +1,67 @@
 //! Records that are offered to handles.
-ghost use Rattle.std.specs.Prelude.{◌≡◌, ◌<◌, ◌≤◌, [], ◌∷◌, true, vec_len, vec_capacity};
+ghost use Rattle.std.specs.Prelude.{◌≡◌, ◌<◌, ◌≤◌, [], ◌∷◌, length, IfSome};
 ghost use Rattle.std.specs.List.{AllByRecursion};
-ghost use Rattle.engine_servers.specs.Holders.{IsQueued, sees, seer_count};
-ghost use Rattle.engine_servers.specs.Offers.{IsOffered, AreOffered, RoomIn, RoomInEach, TakesShares};
+ghost use Rattle.engine_targets.specs.Rows.{row_at, rows_in, rows_of};
+ghost use Rattle.engine_servers.specs.QueueRows.{IsQueued, seer_count};
+ghost use Rattle.engine_servers.specs.Offers.{IsOffered, AreOffered, RoomIn, RoomInEach, TakesShareAt, seers_at};
 ghost use Rattle.engine_servers.specs.Spans.{CoversSeers};
+ghost use Rattle.engine_servers.specs.Walks.{GoesAt};
 
-use crate::holder::Holder;
 use crate::shares::Shares;
 use crate::sight::is_given;
 use crate::span::Span;
-use server_queue::Entry;
+use engine_targets::{HandleRows, Slot};
+use server_queue::{Entry, Queue};
 
-/// How many of the handles are given a record, none but those of a span.
-pub(crate) fn count_seers(object: u64, holders: &[Holder], span: Span, entry: &Entry) -> usize
-    requires queue { AllByRecursion IsQueued holders.now }
-    requires span { CoversSeers object (entry.now ∷ []) span holders.now }
-    ensures { result ≡ seer_count object entry.now holders.now }
+/// How many of the handles are given a record.
+pub(crate) fn count_seers(object: u64, slots: &[Slot<Queue>], entry: &Entry) -> usize
+    requires { AllByRecursion IsQueued (rows_in slots.now) }
+    ensures { result ≡ seer_count object entry.now (rows_in slots.now) }
 {
     let mut count = 0;
-    'places: for place in span.from..span.to {
-        if is_given(object, &holders[place].opening, entry) {
-            count += 1;
+    'slots: for slot in slots {
+        if let Slot::Row(row) = slot {
+            if is_given(object, &row.opening, entry) {
+                count += 1;
+            }
         }
     }
     count
 }
 
-// A handle that is given the record gets a share of it into its queue.
-fn offer_one(object: u64, holder: &mut Holder, shares: &mut Shares)
-    requires queue { IsQueued holder.old }
-    requires room { RoomIn object (shares.old.entry ∷ []) holder.old }
-    requires share { sees object shares.old.entry holder.old ≡ true → 0 < shares.old.count }
-    ensures holder { IsOffered object shares.old.entry holder.old holder.new }
+// The handle at a place, if there is one that is given the record, gets a share of it into its queue.
+fn offer_at(object: u64, rows: &mut HandleRows<Queue>, place: usize, shares: &mut Shares)
+    requires place { place < length rows.old.slots }
+    requires queue { IfSome (row_at place rows.old.slots) IsQueued }
+    requires room { IfSome (row_at place rows.old.slots) (RoomIn object (shares.old.entry ∷ [])) }
+    requires enough { seers_at place object shares.old.entry rows.old.slots ≤ shares.old.count }
+    ensures slots { GoesAt (IsOffered object shares.old.entry) place rows.old.slots rows.new.slots }
     ensures entry { shares.new.entry ≡ shares.old.entry }
-    ensures count { TakesShares object (holder.old ∷ []) shares.old shares.new }
+    ensures count { TakesShareAt place object rows.old.slots shares.old shares.new }
+    ensures places { rows.new.places ≡ rows.old.places }
 {
-    if !is_given(object, &holder.opening, shares.entry()) {
+    let Some(row) = rows.at(place) else {
+        return;
+    };
+    if !is_given(object, &row.opening, shares.entry()) {
         return;
     }
     if let Some(share) = shares.take() {
-        holder.queue.push_reserved(share);
+        rows.progress_mut(place).push_reserved(share);
     }
 }
 
 /// Each handle that is given the record, none but those of a span, gets a share of it into its queue, for which there is
 /// room. It takes no memory.
-pub(crate) fn offer_each(object: u64, holders: &mut Vec<Holder>, span: Span, shares: &mut Shares)
-    requires queue { AllByRecursion IsQueued holders.old.items }
-    requires span { CoversSeers object (shares.old.entry ∷ []) span holders.old.items }
-    requires room { RoomInEach object (shares.old.entry ∷ []) holders.old.items }
-    requires enough { seer_count object shares.old.entry holders.old.items ≤ shares.old.count }
-    ensures holders { AreOffered object shares.old.entry holders.old.items holders.new.items }
-    ensures places { vec_capacity holders.new ≡ vec_capacity holders.old }
-    ensures len { vec_len holders.new ≡ vec_len holders.old }
+pub(crate) fn offer_each(object: u64, rows: &mut HandleRows<Queue>, span: Span, shares: &mut Shares)
+    requires queue { AllByRecursion IsQueued (rows_of rows.old) }
+    requires span { CoversSeers object (shares.old.entry ∷ []) span rows.old.slots }
+    requires room { RoomInEach object (shares.old.entry ∷ []) (rows_of rows.old) }
+    requires enough { seer_count object shares.old.entry (rows_of rows.old) ≤ shares.old.count }
+    ensures rows { AreOffered object shares.old.entry (rows_of rows.old) (rows_of rows.new) }
+    ensures places { rows.new.places ≡ rows.old.places }
 {
     'places: for place in span.from..span.to {
-        let holder = &mut holders[place];
-        offer_one(object, holder, shares);
+        offer_at(object, rows, place, shares);
     }
 }

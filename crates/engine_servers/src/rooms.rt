@@ -1,18 +1,19 @@
 //! Room in the queues of handles.
-ghost use Rattle.std.specs.Prelude.{◌≡◌, ◌+◌, ◌<◌, ◌≤◌, IsOk, length, vec_len, vec_capacity, OnOk};
+ghost use Rattle.std.specs.Prelude.{◌≡◌, ◌<◌, IsOk, length, OnOk, IfSome};
 ghost use Rattle.std.specs.List.{AllByRecursion};
 ghost use Rattle.pps_types.specs.Reading as reading;
-ghost use Rattle.engine_servers.specs.Holders.{IsQueued, entries_for};
+ghost use Rattle.engine_targets.specs.Rows.{row_at, rows_of};
+ghost use Rattle.engine_servers.specs.QueueRows.{IsQueued, entries_for};
 ghost use Rattle.engine_servers.specs.Offers.{RoomIn, RoomInEach};
 ghost use Rattle.engine_servers.specs.Rooms.{IsKept, AreKept};
 ghost use Rattle.engine_servers.specs.Spans.{CoversSeers};
 ghost use Rattle.engine_servers.specs.Standing.{messages_in};
+ghost use Rattle.engine_servers.specs.Walks.{GoesAt};
 
-use crate::holder::Holder;
 use crate::sight::is_given;
 use crate::span::Span;
-use engine_targets::Opening;
-use server_queue::Entry;
+use engine_targets::{HandleRows, Opening};
+use server_queue::{Entry, Queue};
 use std::alloc::AllocError;
 
 /// What a handle needs room for.
@@ -43,15 +44,26 @@ fn needs(object: u64, opening: &Opening, entries: &[Entry]) -> Wanted
     needs
 }
 
-// Makes room in a handle's queue for those of the records that are for it.
-fn reserve_one(object: u64, holder: &mut Holder, entries: &[Entry]) -> Result<(), AllocError>
-    requires queue { IsQueued holder.old }
-    ensures kept { IsKept holder.old holder.new }
-    ensures room { OnOk result (RoomIn object entries.now holder.new) }
-    ensures succeeds { RoomIn object entries.now holder.old → IsOk result }
+// Makes room in the queue of the handle at a place, if there is one, for those of the records that are for it.
+fn reserve_at(
+    object: u64,
+    rows: &mut HandleRows<Queue>,
+    place: usize,
+    entries: &[Entry],
+) -> Result<(), AllocError>
+    requires place { place < length rows.old.slots }
+    requires queue { IfSome (row_at place rows.old.slots) IsQueued }
+    ensures kept { GoesAt IsKept place rows.old.slots rows.new.slots }
+    ensures room { OnOk result (IfSome (row_at place rows.new.slots) (RoomIn object entries.now)) }
+    ensures succeeds { IfSome (row_at place rows.old.slots) (RoomIn object entries.now) → IsOk result }
+    ensures places { rows.new.places ≡ rows.old.places }
 {
-    let needs = needs(object, &holder.opening, entries);
-    match holder.queue.reserve(needs.records, needs.messages) {
+    let Some(row) = rows.at(place) else {
+        return Ok(());
+    };
+    let needs = needs(object, &row.opening, entries);
+    let queue = rows.progress_mut(place);
+    match queue.reserve(needs.records, needs.messages) {
         Ok(()) => Ok(()),
         Err(_) => Err(AllocError),
     }
@@ -61,21 +73,19 @@ fn reserve_one(object: u64, holder: &mut Holder, entries: &[Entry]) -> Result<()
 /// fails only where there was not as much.
 pub(crate) fn reserve_each(
     object: u64,
-    holders: &mut Vec<Holder>,
+    rows: &mut HandleRows<Queue>,
     span: Span,
     entries: &[Entry],
 ) -> Result<(), AllocError>
-    requires queue { AllByRecursion IsQueued holders.old.items }
-    requires span { CoversSeers object entries.now span holders.old.items }
-    ensures kept { AreKept holders.old.items holders.new.items }
-    ensures room { OnOk result (RoomInEach object entries.now holders.new.items) }
-    ensures succeeds { RoomInEach object entries.now holders.old.items → IsOk result }
-    ensures places { vec_capacity holders.new ≡ vec_capacity holders.old }
-    ensures len { vec_len holders.new ≡ vec_len holders.old }
+    requires queue { AllByRecursion IsQueued (rows_of rows.old) }
+    requires span { CoversSeers object entries.now span rows.old.slots }
+    ensures kept { AreKept (rows_of rows.old) (rows_of rows.new) }
+    ensures room { OnOk result (RoomInEach object entries.now (rows_of rows.new)) }
+    ensures succeeds { RoomInEach object entries.now (rows_of rows.old) → IsOk result }
+    ensures places { rows.new.places ≡ rows.old.places }
 {
     'places: for place in span.from..span.to {
-        let holder = &mut holders[place];
-        reserve_one(object, holder, entries)?;
+        reserve_at(object, rows, place, entries)?;
     }
     Ok(())
 }

@@ -9,6 +9,7 @@ ghost use Rattle.engine_targets.specs.Blocks.{owed_blocks_at, GivesFitting, Refu
 ghost use Rattle.engine_targets.specs.Opened.{armed_pulse, IsOpeningAt};
 ghost use Rattle.engine_targets.specs.HandleAt.{parked_at, armed_at, has_news_at, owed_at, AreBelow};
 ghost use Rattle.engine_targets.specs.HandleAt.{with_offered, with_caught_up, with_passed, with_parked, with_armed};
+ghost use Rattle.engine_targets.specs.Rows.{rows_of};
 ghost use Rattle.engine_targets.specs.Seated.{AreSeated, HaveName};
 ghost use Rattle.engine_targets.specs.Woken.{woken_by};
 ghost use Rattle.engine_servers.specs.Standing.{IsReady, KeepsRoom, UsesRoomFor, handles_with, IsSameObject, AreSame};
@@ -17,13 +18,13 @@ ghost use Rattle.engine_servers.specs.Shared.{seer_count, shares_for};
 ghost use Rattle.engine_servers.specs.Backlogs.{is_server_full_at, is_client_full_at, full_client_in};
 
 use crate::copies::{copy_all, same_all};
-use crate::holder::{Holder, find_full, find_holder, search};
+use crate::full::find_full;
 use crate::offers::{count_seers, offer_each};
 use crate::rooms::reserve_each;
 use crate::shares::Shares;
-use crate::span::find_span;
+use crate::span::{find_span, within};
 use crate::woken::find_woken;
-use engine_targets::{Opening, Pulse};
+use engine_targets::{HandleRow, HandleRows, Opening, Pulse};
 use pps_types::{Bytes, Handle, HandleKind, ObjId, Refusal};
 use server_queue::{Entry, GivenBlocks, Queue, Sender};
 use std::alloc::{AllocError, Global};
@@ -35,14 +36,15 @@ use std::slice::from_ref;
 pub struct Service {
     object: ObjId,
     name: Bytes,
-    holders: Vec<Holder>,
+    rows: HandleRows<Queue>,
     /// All but the first of them are known to be clients'.
     led: bool,
 }
 
 impl Model for Service {
-    ghost use Rattle.std.specs.Prelude.{◌-◌, map, vec_len, vec_capacity};
-    ghost use Rattle.engine_servers.specs.Holders.{handle_of, IsService};
+    ghost use Rattle.std.specs.Prelude.{map};
+    ghost use Rattle.engine_targets.specs.Rows.{rows_of};
+    ghost use Rattle.engine_servers.specs.QueueRows.{handle_of, IsService};
     ghost use Rattle.engine_servers.specs.Standing.{Standing, spare_of};
 
     ghost Value = { Standing };
@@ -50,12 +52,12 @@ impl Model for Service {
     ghost view = { λ s. record {
       object = s.object;
       name = s.name;
-      handles = map (handle_of s.object s.name) s.holders.items;
-      spares = map spare_of s.holders.items;
-      places = vec_capacity s.holders - vec_len s.holders;
+      handles = map (handle_of s.object s.name) (rows_of s.rows);
+      spares = map spare_of (rows_of s.rows);
+      places = s.rows.places;
     } };
 
-    ghost invariant = { λ s. IsService s.object s.led s.holders.items };
+    ghost invariant = { λ s. IsService s.object s.led (rows_of s.rows) };
 }
 
 // Whether both are of the same number and name.
@@ -66,10 +68,10 @@ fn is_of_same(one: &Service, other: &Service) -> bool
 }
 
 // Whether all but the first are known to be clients' once a handle of that kind is put behind them.
-fn stays_led(holders: &[Holder], led: bool, kind: HandleKind) -> bool
-    ensures { result ≡ (led && (is_empty holders.now || checking.is_client kind)) }
+fn stays_led(rows: &HandleRows<Queue>, led: bool, kind: HandleKind) -> bool
+    ensures { result ≡ (led && (is_empty (rows_of rows.now) || checking.is_client kind)) }
 {
-    led && (holders.is_empty() || matches!(kind, HandleKind::Client))
+    led && (rows.is_empty() || matches!(kind, HandleKind::Client))
 }
 
 impl Service {
@@ -82,7 +84,7 @@ impl Service {
         Service {
             object,
             name,
-            holders: Vec::new(alloc),
+            rows: HandleRows::new(alloc),
             led: true,
         }
     }
@@ -98,14 +100,14 @@ impl Service {
     pub fn is_empty(&self) -> bool
         ensures { IsTrue result ↔ (self.now.handles ≡ []) }
     {
-        self.holders.is_empty()
+        self.rows.is_empty()
     }
 
     /// How many handles it has.
     pub fn len(&self) -> usize
         ensures { result ≡ length self.now.handles }
     {
-        self.holders.len()
+        self.rows.len()
     }
 
     /// Makes room for one more handle. What stands stays, and so does room that was made before.
@@ -117,7 +119,7 @@ impl Service {
         ensures kept { self.old.places ≤ self.new.places }
         ensures lacking { OnErr result (self.old.places ≡ 0) }
     {
-        self.holders.reserve(1)
+        self.rows.reserve()
     }
 
     /// Opens a handle of the server or of a client, for which there is room. Its number is above those of all others, and
@@ -131,11 +133,11 @@ impl Service {
         ensures handles { self.new.handles ≡ handles_with opening self.old }
         ensures places { self.new.places + 1 ≡ self.old.places }
     {
-        let queue = Queue::new(*self.holders.allocator(), opening.limit);
-        self.led = stays_led(&self.holders, self.led, opening.kind);
-        self.holders.push_reserved(Holder {
+        let progress = Queue::new(*self.rows.allocator(), opening.limit);
+        self.led = stays_led(&self.rows, self.led, opening.kind);
+        self.rows.push_reserved(HandleRow {
             opening,
-            queue,
+            progress,
             parked: None,
             armed: None,
         });
@@ -155,8 +157,8 @@ impl Service {
         ensures succeeds { IsReady entries.now self.old → IsOk result }
     {
         let object = self.object.number();
-        let span = find_span(&self.holders, self.led, entries);
-        reserve_each(object, &mut self.holders, span, entries)
+        let span = find_span(&self.rows, self.led, entries);
+        reserve_each(object, &mut self.rows, span, entries)
     }
 
     /// Shares of a record, one for each handle that is given it.
@@ -165,8 +167,9 @@ impl Service {
     pub fn shares(&self, alloc: Global, entry: Entry) -> Result<Shares, AllocError>
         ensures { IfOk result (λ shares. shares ≡ shares_for entry self.now.handles) }
     {
-        let span = find_span(&self.holders, self.led, from_ref(&entry));
-        let count = count_seers(self.object.number(), &self.holders, span, &entry);
+        let span = find_span(&self.rows, self.led, from_ref(&entry));
+        let slots = within(self.rows.slots(), span);
+        let count = count_seers(self.object.number(), slots, &entry);
         Shares::new(alloc, entry, count)
     }
 
@@ -182,8 +185,8 @@ impl Service {
         ensures places { self.new.places ≡ self.old.places }
     {
         let object = self.object.number();
-        let span = find_span(&self.holders, self.led, from_ref(shares.entry()));
-        offer_each(object, &mut self.holders, span, &mut shares);
+        let span = find_span(&self.rows, self.led, from_ref(shares.entry()));
+        offer_each(object, &mut self.rows, span, &mut shares);
     }
 
     /// A read of that size waits on a handle, or none any more. It takes no memory.
@@ -194,11 +197,10 @@ impl Service {
         ensures spares { self.new.spares ≡ self.old.spares }
         ensures places { self.new.places ≡ self.old.places }
     {
-        let Ok(index) = search(&self.holders, number.number()) else {
+        let Some(place) = self.rows.find(number) else {
             return;
         };
-        let holder = &mut self.holders[index];
-        holder.parked = size;
+        self.rows.park(place, size);
     }
 
     /// A pulse waits on a handle, or none any more. It takes no memory.
@@ -209,11 +211,10 @@ impl Service {
         ensures spares { self.new.spares ≡ self.old.spares }
         ensures places { self.new.places ≡ self.old.places }
     {
-        let Ok(index) = search(&self.holders, number.number()) else {
+        let Some(place) = self.rows.find(number) else {
             return;
         };
-        let holder = &mut self.holders[index];
-        holder.armed = pulse;
+        self.rows.arm(place, pulse);
     }
 
     /// Closes a handle. It takes no memory.
@@ -224,10 +225,10 @@ impl Service {
         ensures ready { KeepsRoom self.old self.new }
         ensures places { self.old.places ≤ self.new.places }
     {
-        let Ok(index) = search(&self.holders, number.number()) else {
+        let Some(place) = self.rows.find(number) else {
             return;
         };
-        let _ = self.holders.remove(index);
+        let _ = self.rows.take(place);
     }
 
     /// A handle has read everything. It takes no memory.
@@ -237,12 +238,12 @@ impl Service {
         ensures handles { self.new.handles ≡ with_caught_up number self.old.handles }
         ensures places { self.new.places ≡ self.old.places }
     {
-        let Ok(index) = search(&self.holders, number.number()) else {
+        let Some(place) = self.rows.find(number) else {
             return;
         };
-        let holder = &mut self.holders[index];
-        let count = holder.queue.owed_count();
-        holder.queue.pass(count);
+        let queue = self.rows.progress_mut(place);
+        let count = queue.owed_count();
+        queue.pass(count);
     }
 
     /// A handle was given so many of the records that it is owed. It takes no memory.
@@ -252,20 +253,19 @@ impl Service {
         ensures handles { self.new.handles ≡ with_passed number count self.old.handles }
         ensures places { self.new.places ≡ self.old.places }
     {
-        let Ok(index) = search(&self.holders, number.number()) else {
+        let Some(place) = self.rows.find(number) else {
             return;
         };
-        let holder = &mut self.holders[index];
-        holder.queue.pass(count);
+        self.rows.progress_mut(place).pass(count);
     }
 
     /// What the open of a handle fixed, where it is here.
     pub fn opening(&self, number: Handle) -> Option<&Opening>
         ensures { IsOpeningAt number self.now.object self.now.name self.now.handles result }
     {
-        match find_holder(&self.holders, number.number()) {
+        match self.rows.get(number) {
             None => None,
-            Some(holder) => Some(&holder.opening),
+            Some(row) => Some(&row.opening),
         }
     }
 
@@ -273,9 +273,9 @@ impl Service {
     pub fn parked(&self, number: Handle) -> Option<u32>
         ensures { result ≡ parked_at number self.now.handles }
     {
-        match find_holder(&self.holders, number.number()) {
+        match self.rows.get(number) {
             None => None,
-            Some(holder) => holder.parked,
+            Some(row) => row.parked,
         }
     }
 
@@ -283,9 +283,9 @@ impl Service {
     pub fn armed(&self, number: Handle) -> Option<Pulse>
         ensures { armed_pulse result ≡ armed_at number self.now.handles }
     {
-        match find_holder(&self.holders, number.number()) {
+        match self.rows.get(number) {
             None => None,
-            Some(holder) => holder.armed,
+            Some(row) => row.armed,
         }
     }
 
@@ -300,16 +300,16 @@ impl Service {
     pub fn none_is_over(&self)
         ensures { AreWithinLimits self.now.handles }
     {
-        let _count = self.holders.len();
+        let _count = self.rows.len();
     }
 
     /// Whether a handle is here that a read would give something.
     pub fn has_news(&self, number: Handle) -> bool
         ensures { result ≡ has_news_at number self.now.handles }
     {
-        match find_holder(&self.holders, number.number()) {
+        match self.rows.get(number) {
             None => false,
-            Some(holder) => holder.queue.news(),
+            Some(row) => row.progress.news(),
         }
     }
 
@@ -320,17 +320,18 @@ impl Service {
     pub fn woken_by(&self, alloc: Global, entries: &[Entry]) -> Result<Vec<Handle>, AllocError>
         ensures { IfOk result (λ woken. woken.items ≡ woken_by entries.now self.now.handles) }
     {
-        let span = find_span(&self.holders, self.led, entries);
-        find_woken(alloc, self.object.number(), &self.holders, span, entries)
+        let span = find_span(&self.rows, self.led, entries);
+        let slots = within(self.rows.slots(), span);
+        find_woken(alloc, self.object.number(), slots, entries)
     }
 
     /// How many records a handle is owed, where it is here.
     pub fn owed(&self, number: Handle) -> Option<usize>
         ensures { result ≡ owed_at number self.now.handles }
     {
-        match find_holder(&self.holders, number.number()) {
+        match self.rows.get(number) {
             None => None,
-            Some(holder) => Some(holder.queue.owed_count()),
+            Some(row) => Some(row.progress.owed_count()),
         }
     }
 
@@ -345,19 +346,19 @@ impl Service {
         ensures memory { ChecksSizeFirst max (owed_blocks_at number self.now.handles) result }
         ensures some { NeedsMemoryForBlocks (owed_blocks_at number self.now.handles) result }
     {
-        let Some(holder) = find_holder(&self.holders, number.number()) else {
+        let Some(row) = self.rows.get(number) else {
             return Ok(GivenBlocks::nothing(alloc));
         };
-        holder.queue.read_plan(&[], max)
+        row.progress.read_plan(&[], max)
     }
 
     /// Whether the server's handle, if it is here, is owed as many messages of a client as its limit.
     pub fn is_server_full(&self, server: Handle, client: Handle) -> bool
         ensures { result ≡ is_server_full_at server client self.now.handles }
     {
-        match find_holder(&self.holders, server.number()) {
+        match self.rows.get(server) {
             None => false,
-            Some(holder) => !holder.queue.can_take(Sender::Client(client)),
+            Some(row) => !row.progress.can_take(Sender::Client(client)),
         }
     }
 
@@ -365,9 +366,9 @@ impl Service {
     pub fn is_client_full(&self, client: Handle) -> bool
         ensures { result ≡ is_client_full_at client self.now.handles }
     {
-        match find_holder(&self.holders, client.number()) {
+        match self.rows.get(client) {
             None => false,
-            Some(holder) => !holder.queue.can_take(Sender::Server),
+            Some(row) => !row.progress.can_take(Sender::Server),
         }
     }
 
@@ -375,14 +376,14 @@ impl Service {
     pub fn full_client(&self) -> Option<Handle>
         ensures { result ≡ full_client_in self.now.handles }
     {
-        find_full(&self.holders)
+        find_full(self.rows.slots())
     }
 
     /// Does nothing. Its contract is the law that its handles are on it, and stand in rising number.
     pub fn handles_are_seated(&self)
         ensures { AreSeated false self.now.object self.now.handles }
     {
-        let _count = self.holders.len();
+        let _count = self.rows.len();
     }
 
     /// Does nothing. Its contract is the law that its handles are its server's and its clients', and have its name.
@@ -390,14 +391,14 @@ impl Service {
         ensures queued { AreQueued self.now.handles }
         ensures named { HaveName self.now.name self.now.handles }
     {
-        let _count = self.holders.len();
+        let _count = self.rows.len();
     }
 
     /// Does nothing. Its contract is the law that none of its handles is owed records of a list that handles share.
     pub fn shares_no_list(&self)
         ensures { ShareNoList self.now.handles }
     {
-        let _count = self.holders.len();
+        let _count = self.rows.len();
     }
 
     /// A server object of the same number and name, with the same handles, without room.
@@ -410,11 +411,11 @@ impl Service {
         ensures err { IfErr result (λ r. r ≡ OutOfMemory) }
     {
         let name = self.name.copy()?;
-        let holders = copy_all(*self.holders.allocator(), &self.holders)?;
+        let rows = copy_all(*self.rows.allocator(), &self.rows)?;
         Ok(Service {
             object: self.object,
             name,
-            holders,
+            rows,
             led: self.led,
         })
     }
@@ -424,6 +425,6 @@ impl Service {
     pub fn same(&self, other: &Service) -> bool
         ensures { IsTrue result ↔ AreSame self.now other.now }
     {
-        is_of_same(self, other) && same_all(&self.holders, &other.holders)
+        is_of_same(self, other) && same_all(self.rows.slots(), other.rows.slots())
     }
 }

@@ -1,59 +1,58 @@
 //! Whom records wake.
 ghost use Rattle.std.specs.Prelude.{◌≡◌, IfOk};
 ghost use Rattle.std.specs.List.{AllByRecursion, list_any};
-ghost use Rattle.engine_servers.specs.Holders.{IsQueued, sees};
-ghost use Rattle.engine_servers.specs.Spans.{CoversSeers};
+ghost use Rattle.engine_targets.specs.Rows.{rows_in};
+ghost use Rattle.engine_servers.specs.QueueRows.{IsQueued, sees};
 ghost use Rattle.engine_servers.specs.Woken.{waits_at, wakes_at, woken_among};
 
-use crate::holder::Holder;
 use crate::sight::is_given;
-use crate::span::Span;
+use engine_targets::{HandleRow, Slot};
 use pps_types::Handle;
-use server_queue::Entry;
+use server_queue::{Entry, Queue};
 use std::alloc::{AllocError, Global};
 
 // Whether a read or a pulse waits on it.
-fn waits(holder: &Holder) -> bool
-    ensures { result ≡ waits_at holder.now }
+fn waits(row: &HandleRow<Queue>) -> bool
+    ensures { result ≡ waits_at row.now }
 {
-    holder.parked.is_some() || holder.armed.is_some()
+    row.parked.is_some() || row.armed.is_some()
 }
 
 // Whether a handle on the object of that number is given one of the records.
-fn sees_any(object: u64, holder: &Holder, entries: &[Entry]) -> bool
-    requires { IsQueued holder.now }
-    ensures { result ≡ list_any (λ e. sees object e holder.now) entries.now }
+fn sees_any(object: u64, row: &HandleRow<Queue>, entries: &[Entry]) -> bool
+    requires { IsQueued row.now }
+    ensures { result ≡ list_any (λ e. sees object e row.now) entries.now }
 {
     entries
         .iter()
-        .any(|entry| is_given(object, &holder.opening, entry))
+        .any(|entry| is_given(object, &row.opening, entry))
 }
 
 // Whether it waits, is owed nothing, and is given one of the records.
-fn wakes(object: u64, holder: &Holder, entries: &[Entry]) -> bool
-    requires { IsQueued holder.now }
-    ensures { result ≡ wakes_at object entries.now holder.now }
+fn wakes(object: u64, row: &HandleRow<Queue>, entries: &[Entry]) -> bool
+    requires { IsQueued row.now }
+    ensures { result ≡ wakes_at object entries.now row.now }
 {
-    waits(holder) && !holder.queue.news() && sees_any(object, holder, entries)
+    waits(row) && !row.progress.news() && sees_any(object, row, entries)
 }
 
-/// The numbers of those that records wake, none but those of a span, on the object of that number.
+/// The numbers of those that records wake, on the object of that number.
 pub(crate) fn find_woken(
     alloc: Global,
     object: u64,
-    holders: &[Holder],
-    span: Span,
+    slots: &[Slot<Queue>],
     entries: &[Entry],
 ) -> Result<Vec<Handle>, AllocError>
-    requires queue { AllByRecursion IsQueued holders.now }
-    requires span { CoversSeers object entries.now span holders.now }
-    ensures { IfOk result (λ woken. woken.items ≡ woken_among object entries.now holders.now) }
+    requires { AllByRecursion IsQueued (rows_in slots.now) }
+    ensures { IfOk result (λ woken. woken.items
+        ≡ woken_among object entries.now (rows_in slots.now)) }
 {
     let mut woken = Vec::new(alloc);
-    'places: for place in span.from..span.to {
-        let holder = &holders[place];
-        if wakes(object, holder, entries) {
-            woken.push(holder.opening.number)?;
+    'slots: for slot in slots {
+        if let Slot::Row(row) = slot {
+            if wakes(object, row, entries) {
+                woken.push(row.opening.number)?;
+            }
         }
     }
     Ok(woken)

@@ -8,7 +8,7 @@ use Rattle.pps_types.proofs.RisingEdits.{find_gap, find_place}
 use Rattle.engine_targets.specs.declared.row.HandleRow.{HandleRow}
 use Rattle.engine_targets.specs.declared.row.Slot.{Slot}
 use Rattle.engine_targets.specs.declared.row.Slot.TheVariants.{Row, Gap}
-use Rattle.engine_targets.specs.Rows.{number_at, number_in, is_row, row_of, row_at, rows_in, rank, on_row, ends_in_row, EndsInRow, IsAbsent, IsSound, most_handles}
+use Rattle.engine_targets.specs.Rows.{number_at, number_in, is_row, row_of, row_at, rows_in, rank, on_row, changed_at, ends_in_row, EndsInRow, IsAbsent, IsSound, most_handles}
 use Rattle.engine_targets.proofs.Edits.{rising_set, rising_push}
 
 -- what there is
@@ -125,6 +125,11 @@ module _ {P : Type 0} where
   pub none_found : (ss xs : List (Slot P)) (n m : ℕ) → xs ≡ ss → m ≡ n → IsAbsent m (rows_in xs) → None ≡ find (λ r. number_in r == n) (rows_in ss)
   none_found ss xs n m list number absent = subst (λ l. None ≡ find (λ r. number_in r == n) (rows_in l)) list (subst (λ k. None ≡ find (λ r. number_in r == k) (rows_in xs)) number (sym (find_gap number_in m (rows_in xs) absent.0 absent.1)))
 
+  -- a place that has a handle is a small number
+  pub few_looked : (ss : List (Slot P)) (r : Option ℕ) → length ss ≤ most_handles → IfSome r (λ i. IsSome (row_at i ss)) → IfSome r (λ i. i < most_handles)
+  few_looked ss None few row = tt
+  few_looked ss (Some i) few row = omega (arith, few, place_within ss i row)
+
   -- ---- a handle changes
 
   pub rows_set : (ss : List (Slot P)) (i : ℕ) (change : HandleRow P → HandleRow P) (s : Slot P) (d : HandleRow P) → IsSome (row_at i ss)
@@ -147,6 +152,19 @@ module _ {P : Type 0} where
   set_same (Row x ∷ ss) zero change r d is same = let e : r ≡ x = cc in ap (λ y. Row y ∷ ss) (sym e ∙ sym same ∙ ap change e)
   set_same (Gap m ∷ ss) zero change r d is same = refl
   set_same (s ∷ ss) (suc i) change r d is same = ap (λ xs. s ∷ xs) (set_same ss i change r d is same)
+
+  -- the same change, without a default
+  pub changed_is : (ss : List (Slot P)) (i : ℕ) (change : HandleRow P → HandleRow P) (d : Slot P) → changed_at i change ss ≡ set ss i (on_row change (get_or ss i d))
+  changed_is [] i change d = refl
+  changed_is (s ∷ ss) zero change d = refl
+  changed_is (s ∷ ss) (suc i) change d = ap (λ xs. s ∷ xs) (changed_is ss i change d)
+
+  pub rows_changed : (ss : List (Slot P)) (i : ℕ) (change : HandleRow P → HandleRow P) (r : HandleRow P) → Some r ≡ row_at i ss → rows_in (changed_at i change ss) ≡ set (rows_in ss) (rank i ss) (change r)
+  rows_changed [] i change r is = absurd (cc)
+  rows_changed (Row x ∷ ss) zero change r is = let e : r ≡ x = cc in ap (λ y. change y ∷ rows_in ss) (sym e)
+  rows_changed (Gap m ∷ ss) zero change r is = absurd (cc)
+  rows_changed (Row x ∷ ss) (suc i) change r is = ap (λ rs. x ∷ rs) (rows_changed ss i change r is)
+  rows_changed (Gap m ∷ ss) (suc i) change r is = rows_changed ss i change r is
 
   -- two changes that do the same to the handle at a place
   pub set_alike : (ss : List (Slot P)) (i : ℕ) (f g : HandleRow P → HandleRow P) (r : HandleRow P) (d : Slot P) → Some r ≡ row_at i ss → f r ≡ g r → set ss i (on_row f (get_or ss i d)) ≡ set ss i (on_row g (get_or ss i d))

@@ -1,6 +1,7 @@
 -- The handles on an object or a directory in rising number, and the gaps that closed ones leave among them.
 use Rattle.std.specs.Prelude.{◌≡◌, ℕ, zero, suc, ◌+◌, ◌*◌, ◌-◌, ◌<◌, ◌≤◌, ◌^◌, Bool, true, false, List, [], ◌∷◌, length, min, Option, Some, None, IsSome, slice_set, slice_index_or}
 use Rattle.std.specs.List.{AllByRecursion}
+use Rattle.std.specs.Option.{option_map}
 use Rattle.pps_types.specs.Rising.{IsRising, IsGapFor, IsPlaceOf}
 use Rattle.engine_targets.specs.declared.opening.Pulse.{Pulse}
 use Rattle.engine_targets.specs.declared.row.HandleRow.{HandleRow}
@@ -52,6 +53,14 @@ module _ {P : Type 0} where
   on_row change (Row r) = Row (change r)
   on_row change (Gap n) = Gap n
 
+  -- how far the handle has read, if there is one
+  abbrev pub progress_of : Slot P → Option P
+  progress_of s = option_map (λ r. r.progress) (row_of s)
+
+  -- the slot once the handle, if there is one, has read so far
+  abbrev pub slot_with_progress : Slot P → P → Slot P
+  slot_with_progress s progress = on_row (with_progress progress) s
+
   -- ---- all slots
 
   abbrev pub row_before : Slot P → List (HandleRow P) → List (HandleRow P)
@@ -68,6 +77,12 @@ module _ {P : Type 0} where
   row_at place [] = None
   row_at zero (s ∷ ss) = row_of s
   row_at (suc place) (s ∷ ss) = row_at place ss
+
+  -- the slots once the handle at a place, if there is one, has changed
+  abbrev pub changed_at : ℕ → (HandleRow P → HandleRow P) → List (Slot P) → List (Slot P)
+  changed_at place change [] = []
+  changed_at zero change (s ∷ ss) = on_row change s ∷ ss
+  changed_at (suc place) change (s ∷ ss) = s ∷ changed_at place change ss
 
   abbrev pub rank_past : Slot P → ℕ → ℕ
   rank_past (Row r) n = suc n
@@ -116,6 +131,14 @@ module _ {P : Type 0} where
   -- that handle, whatever the default is
   abbrev pub IsRowAt : ℕ → Rows P → HandleRow P → Type 0
   IsRowAt place rows r = (d : HandleRow P) → r ≡ slice_index_or (rows_of rows) (rank place rows.slots) d
+
+  -- how far that handle has read
+  abbrev pub progress_at : ℕ → Rows P → Option P
+  progress_at place rows = option_map (λ r. r.progress) (row_at place rows.slots)
+
+  -- the rows once it has read so far
+  abbrev pub with_progress_at : Rows P → ℕ → P → Rows P
+  with_progress_at rows place progress = record rows { slots = changed_at place (with_progress progress) rows.slots }
 
   -- it is the handle of a number, alone
   abbrev pub IsRowOf : ℕ → Rows P → ℕ → Type 0

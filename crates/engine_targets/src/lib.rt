@@ -26,4 +26,5 @@ pub use opening::{Opening, Pulse};
 pub use row::{HandleRow, Slot};
 pub use rows::HandleRows;
 pub use sight::{given_block, is_visible};
+pub use slots::{First, first_row};
 pub use target::Target;

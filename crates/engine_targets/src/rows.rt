@@ -122,6 +122,7 @@ impl<P> HandleRows<P> {
     pub fn find(&self, number: Handle) -> Option<usize>
         ensures found { IfSome result (IsRowOf number self.now) }
         ensures row { IfSome result (λ i. HasRowAt i self.now) }
+        ensures few { IfSome result (λ i. i < most_handles) }
         ensures absent { IfNone result (IsAbsent number (rows_of self.now)) }
     {
         find_row(&self.slots, number.number())
@@ -176,6 +177,23 @@ impl<P> HandleRows<P> {
     {
         let slot = &mut self.slots[place];
         arm_in(slot, pulse);
+    }
+}
+
+impl<P> HandleRows<P> {
+    ghost use Rattle.std.specs.Prelude.{Some};
+    ghost use Rattle.std.specs.Borrow.{Lends, sem};
+    ghost use Rattle.engine_targets.specs.Rows.{progress_at, with_progress_at};
+    ghost use Rattle.engine_targets.specs.contracts.rows.HandleRows.{the_row};
+
+    /// How far the handle at a place has read, to be changed in place. It takes no memory.
+    pub fn progress_mut(&mut self, place: usize) -> &mut P
+        requires { HasRowAt place self.old }
+        ensures* writes_back { sem 𝓛 (Lends (the_row P.row) P.row self.entry result
+            (with_progress_at self.old place)) }
+        ensures value { progress_at place self.old ≡ Some result.now }
+    {
+        self.slots[place].progress_mut()
     }
 }
 

@@ -1,10 +1,14 @@
-use Rattle.std.proofs.Common.{◌≡◌, map, take, vec_len, vec_capacity}
+use Rattle.std.proofs.Common.{◌≡◌, ◌≤◌, ◌++◌, length, map}
+use Rattle.engine_targets.specs.Rows.{rows_in, rows_of}
 use Rattle.engine_servers.specs.Held.{held_of}
 use Rattle.engine_servers.proofs.copies.copy_all.Given as goal
 
-abbrev pub invariant-loop-one : goal.invariant-loop-one
-invariant-loop-one l = record {
-  copied : map held_of l.copy.items ≡ map held_of (take l.one-index l.holders);
-  len : vec_len l.copy ≡ l.one-index;
-  capacity : vec_capacity l.copy ≡ l.one-index-end;
+-- the copy holds the same of the handles so far, and has room for those that are left
+abbrev pub invariant-loop-first : goal.invariant-loop-first
+invariant-loop-first l = record {
+  held : map held_of (rows_of l.copy) ++ map held_of (rows_in l.rest) ≡ map held_of (rows_of l.rows);
+  room : length (rows_in l.rest) ≤ l.copy.places;
 }
+
+abbrev pub decreases-loop-first : goal.decreases-loop-first
+decreases-loop-first l = length (rows_in l.rest)

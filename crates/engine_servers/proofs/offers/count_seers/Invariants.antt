@@ -1,10 +1,13 @@
 use Rattle.std.proofs.Common.{◌≡◌, ◌+◌, ◌≤◌, length, drop}
 use Rattle.std.specs.Prelude.{filter}
-use Rattle.engine_servers.specs.Holders.{sees}
+use Rattle.std.specs.List.{AllByRecursion}
+use Rattle.engine_targets.specs.Rows.{rows_in}
+use Rattle.engine_servers.specs.QueueRows.{IsQueued, sees}
 use Rattle.engine_servers.proofs.offers.count_seers.Given as goal
 
-abbrev pub invariant-places : goal.invariant-places
-invariant-places l = record {
-  few : l.count ≤ l.place;
-  count : l.count + length (filter (sees l.object l.entry) (drop l.place l.holders)) ≡ length (filter (sees l.object l.entry) l.holders);
+abbrev pub invariant-slots : goal.invariant-slots
+invariant-slots l = record {
+  few : l.count ≤ l.slot-index;
+  queued : AllByRecursion IsQueued (rows_in (drop l.slot-index l.slots));
+  count : l.count + length (filter (sees l.object l.entry) (rows_in (drop l.slot-index l.slots))) ≡ length (filter (sees l.object l.entry) (rows_in l.slots));
 }

@@ -1,88 +1,86 @@
-use Rattle.std.proofs.Common.{◌≡◌, ◌<◌, ◌∙◌, true, [], ◌∷◌, length, drop, get_or, set, refl, sym, ap, subst, arith}
+use Rattle.std.proofs.Common.{◌≡◌, ◌<◌, ◌∙◌, false, [], ◌∷◌, length, refl, sym, ap, subst, arith, IfSome}
 use Rattle.std.specs.Prelude.{filter}
+use Rattle.std.specs.Option.{option_map_or}
 use Rattle.std.proofs.Math.Numerals.{add-one}
 use Rattle.pps_types.specs.History.{Entry}
-use Rattle.engine_targets.proofs.Tallies.{all-at}
-use Rattle.engine_servers.specs.declared.holder.Holder.{Holder}
-use Rattle.engine_servers.specs.Holders.{IsQueued, sees}
-use Rattle.engine_servers.specs.Offers.{RoomIn, IsOffered}
-use Rattle.engine_servers.proofs.Offering.{Mixed, mixed-at, mixed-step, mixed-before, mixed-behind, count-at, count-one}
-use Rattle.engine_servers.proofs.Spans.{unseen-span, filter-before}
+use Rattle.engine_targets.specs.Rows.{row_at}
+use Rattle.engine_servers.specs.QueueRows.{QueueRow, IsQueued, sees, seer_count}
+use Rattle.engine_servers.specs.Offers.{RoomIn, IsOffered, seers_at}
+use Rattle.engine_servers.specs.Spans.{rows_from}
+use Rattle.engine_servers.specs.Walks.{GoesAt}
+use Rattle.engine_servers.proofs.Offering.{unseen-offered, count-at, count-behind}
+use Rattle.engine_servers.proofs.Spans.{unseen-span}
+use Rattle.engine_servers.proofs.Walks.{Went, row-all, went-at, went-length, went-before, went-on, went-all}
 use Rattle.engine_servers.proofs.offers.offer_each.Goals as goal
 
 pub places-init : goal.places-init
 places-init c =
-    let olds = c.args.holders.now.items in
+    let olds = c.args.rows.now.slots in
     let e = c.args.shares.now.entry in
-    let span = unseen-span c.args.object e c.args.span.from c.args.span.to olds c.requires.queue c.requires.span in
+    let object = c.args.object in
+    let span = unseen-span object e c.args.span.from c.args.span.to olds c.requires.queue c.requires.span in
     record {
-      mixed = mixed-before c.args.object e c.args.span.from olds span.before;
+      went = went-before (IsOffered object e) (λ x. sees object e x ≡ false) (unseen-offered object e) c.args.span.from olds span.before;
       entry = refl;
-      enough = omega (arith, ap length (filter-before (sees c.args.object e) c.args.span.from olds span.before), c.requires.enough);
+      enough = omega (arith, count-behind object e c.args.span.from olds, c.requires.enough);
       places = refl;
-      len = refl;
     }
 
-pub offer_one-requires-clause-queue : goal.offer_one-requires-clause-queue
-offer_one-requires-clause-queue c =
-    let olds = c.args.holders.now.items in
-    let e = c.args.shares.now.entry in
-    let cur = c.places.holders.items in
-    let i = c.places.place in
-    let x = c.index_mut-holder.result.now in
-    let lt : i < length olds = omega (arith, c.requires.span.bound) in
-    subst IsQueued (sym (c.index_mut-holder.ensures.value ∙ mixed-at c.args.object e i olds cur x c.places.invariant.mixed)) (all-at IsQueued olds i x c.requires.queue lt)
+pub offer_at-requires-clause-place : goal.offer_at-requires-clause-place
+offer_at-requires-clause-place c =
+    let olds = c.args.rows.now.slots in
+    omega (arith, c.requires.span.bound, went-length (IsOffered c.args.object c.args.shares.now.entry) c.places.place olds c.places.rows.slots c.places.invariant.went)
 
-pub offer_one-requires-clause-room : goal.offer_one-requires-clause-room
-offer_one-requires-clause-room c =
-    let olds = c.args.holders.now.items in
-    let e = c.args.shares.now.entry in
-    let cur = c.places.holders.items in
+pub offer_at-requires-clause-queue : goal.offer_at-requires-clause-queue
+offer_at-requires-clause-queue c =
+    let olds = c.args.rows.now.slots in
     let i = c.places.place in
-    let x = c.index_mut-holder.result.now in
-    let lt : i < length olds = omega (arith, c.requires.span.bound) in
-    subst (λ (y : Entry). RoomIn c.args.object (y ∷ []) x) (sym c.places.invariant.entry)
-    (subst (RoomIn c.args.object (e ∷ [])) (sym (c.index_mut-holder.ensures.value ∙ mixed-at c.args.object e i olds cur x c.places.invariant.mixed)) (all-at (RoomIn c.args.object (e ∷ [])) olds i x c.requires.room lt))
+    subst (λ o. IfSome o IsQueued) (sym (went-at (IsOffered c.args.object c.args.shares.now.entry) i olds c.places.rows.slots c.places.invariant.went)) (row-all IsQueued i olds c.requires.queue)
 
-pub offer_one-requires-clause-share : goal.offer_one-requires-clause-share
-offer_one-requires-clause-share c seen =
-    let olds = c.args.holders.now.items in
+pub offer_at-requires-clause-room : goal.offer_at-requires-clause-room
+offer_at-requires-clause-room c =
+    let olds = c.args.rows.now.slots in
     let e = c.args.shares.now.entry in
-    let cur = c.places.holders.items in
     let i = c.places.place in
-    let x = c.index_mut-holder.result.now in
+    subst (λ (y : Entry). IfSome (row_at i c.places.rows.slots) (RoomIn c.args.object (y ∷ []))) (sym c.places.invariant.entry)
+    (subst (λ o. IfSome o (RoomIn c.args.object (e ∷ []))) (sym (went-at (IsOffered c.args.object e) i olds c.places.rows.slots c.places.invariant.went)) (row-all (RoomIn c.args.object (e ∷ [])) i olds c.requires.room))
+
+pub offer_at-requires-clause-enough : goal.offer_at-requires-clause-enough
+offer_at-requires-clause-enough c =
+    let olds = c.args.rows.now.slots in
+    let e = c.args.shares.now.entry in
+    let object = c.args.object in
+    let i = c.places.place in
     let lt : i < length olds = omega (arith, c.requires.span.bound) in
-    let same : x ≡ get_or olds i x = c.index_mut-holder.ensures.value ∙ mixed-at c.args.object e i olds cur x c.places.invariant.mixed in
-    let there : sees c.args.object e (get_or olds i x) ≡ true = sym (λ j. sees c.args.object (c.places.invariant.entry j) (same j)) ∙ seen in
-    omega (arith, c.places.invariant.enough, count-at (sees c.args.object e) olds i x lt, count-one (sees c.args.object e) (get_or olds i x) there)
+    let same : seers_at i object c.places.shares.entry c.places.rows.slots ≡ seers_at i object e olds =
+    λ j. option_map_or (λ (x : QueueRow). seer_count object (c.places.invariant.entry j) (x ∷ [])) (went-at (IsOffered object e) i olds c.places.rows.slots c.places.invariant.went j) 0 in
+    omega (arith, same, c.places.invariant.enough, count-at object e i olds lt)
 
 pub places-preserved : goal.places-preserved
 places-preserved c =
-    let olds = c.args.holders.now.items in
+    let olds = c.args.rows.now.slots in
     let e = c.args.shares.now.entry in
-    let f = sees c.args.object e in
-    let cur = c.places.holders.items in
+    let object = c.args.object in
+    let cur = c.places.rows.slots in
+    let new = c.offer_at.new.rows.slots in
     let i = c.places.place in
-    let x = c.index_mut-holder.result.now in
-    let new = c.offer_one.new.holder in
     let lt : i < length olds = omega (arith, c.requires.span.bound) in
-    let same : x ≡ get_or olds i x = c.index_mut-holder.ensures.value ∙ mixed-at c.args.object e i olds cur x c.places.invariant.mixed in
-    let one : IsOffered c.args.object e (get_or olds i x) new = subst (λ (y : Holder). IsOffered c.args.object e y new) same (subst (λ (y : Entry). IsOffered c.args.object y x new) c.places.invariant.entry c.offer_one.ensures.holder) in
-    let counted : length (filter (sees c.args.object c.places.shares.entry) (x ∷ [])) ≡ length (filter f (get_or olds i x ∷ [])) = λ j. length (filter (sees c.args.object (c.places.invariant.entry j)) (same j ∷ [])) in
+    let same : seers_at i object c.places.shares.entry cur ≡ seers_at i object e olds =
+    λ j. option_map_or (λ (x : QueueRow). seer_count object (c.places.invariant.entry j) (x ∷ [])) (went-at (IsOffered object e) i olds cur c.places.invariant.went j) 0 in
     record {
-      mixed = subst (λ n. Mixed c.args.object e n olds (set cur i new)) (sym (add-one i)) (mixed-step c.args.object e i olds cur x new c.places.invariant.mixed lt one);
-      entry = c.offer_one.ensures.entry ∙ c.places.invariant.entry;
-      enough = omega (arith, c.places.invariant.enough, count-at f olds i x lt, counted, c.offer_one.ensures.count, ap (λ n. length (filter f (drop n olds))) (add-one i));
-      places = c.places.invariant.places;
-      len = c.places.invariant.len;
+      went = subst (λ n. Went (IsOffered object e) n olds new) (sym (add-one i)) (went-on (IsOffered object e) i olds cur new c.places.invariant.went (subst (λ (y : Entry). GoesAt (IsOffered object y) i cur new) c.places.invariant.entry c.offer_at.ensures.slots));
+      entry = c.offer_at.ensures.entry ∙ c.places.invariant.entry;
+      enough = omega (arith, same, c.places.invariant.enough, count-at object e i olds lt, c.offer_at.ensures.count, ap (λ n. length (filter (sees object e) (rows_from n olds))) (add-one i));
+      places = c.offer_at.ensures.places ∙ c.places.invariant.places;
     }
 
-pub returns-clause-holders : goal.returns-clause-holders
-returns-clause-holders c =
-    let olds = c.args.holders.now.items in
+pub returns-clause-rows : goal.returns-clause-rows
+returns-clause-rows c =
+    let olds = c.args.rows.now.slots in
     let e = c.args.shares.now.entry in
-    let cur = c.places.holders.items in
-    let span = unseen-span c.args.object e c.args.span.from c.args.span.to olds c.requires.queue c.requires.span in
+    let object = c.args.object in
+    let cur = c.places.rows.slots in
+    let span = unseen-span object e c.args.span.from c.args.span.to olds c.requires.queue c.requires.span in
     let order = c.requires.span.order in
     let end : c.places.place ≡ c.args.span.to = omega (arith, order) in
-    mixed-behind c.args.object e c.args.span.to olds cur (subst (λ n. Mixed c.args.object e n olds cur) end c.places.invariant.mixed) span.behind
+    went-all (IsOffered object e) (λ x. sees object e x ≡ false) (unseen-offered object e) c.args.span.to olds cur (subst (λ n. Went (IsOffered object e) n olds cur) end c.places.invariant.went) span.behind

@@ -1,14 +1,15 @@
-use Rattle.std.proofs.Common.{◌≡◌, ◌≤◌, length, drop, vec_len, vec_capacity}
+use Rattle.std.proofs.Common.{◌≡◌, ◌≤◌, length}
 use Rattle.std.specs.Prelude.{filter}
-use Rattle.engine_servers.specs.Holders.{sees}
-use Rattle.engine_servers.proofs.Offering.{Mixed}
+use Rattle.engine_servers.specs.QueueRows.{sees}
+use Rattle.engine_servers.specs.Offers.{IsOffered}
+use Rattle.engine_servers.specs.Spans.{rows_from}
+use Rattle.engine_servers.proofs.Walks.{Went}
 use Rattle.engine_servers.proofs.offers.offer_each.Given as goal
 
 abbrev pub invariant-places : goal.invariant-places
 invariant-places l = record {
-  mixed : Mixed l.object l.fn.shares.entry l.place l.fn.holders.items l.holders.items;
+  went : Went (IsOffered l.object l.fn.shares.entry) l.place l.fn.rows.slots l.rows.slots;
   entry : l.shares.entry ≡ l.fn.shares.entry;
-  enough : length (filter (sees l.object l.fn.shares.entry) (drop l.place l.fn.holders.items)) ≤ l.shares.count;
-  places : vec_capacity l.holders ≡ vec_capacity l.fn.holders;
-  len : vec_len l.holders ≡ vec_len l.fn.holders;
+  enough : length (filter (sees l.object l.fn.shares.entry) (rows_from l.place l.fn.rows.slots)) ≤ l.shares.count;
+  places : l.rows.places ≡ l.fn.rows.places;
 }

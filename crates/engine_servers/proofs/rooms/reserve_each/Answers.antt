@@ -1,73 +1,81 @@
-use Rattle.std.proofs.Common.{◌≡◌, ◌<◌, ◌∙◌, true, false, length, get_or, set, refl, sym, ap, subst, arith}
+use Rattle.std.proofs.Common.{◌≡◌, ◌∙◌, suc, true, false, refl, sym, subst, arith, IfSome}
 use Rattle.std.proofs.Math.Numerals.{add-one}
-use Rattle.pps_types.specs.Reading.{style}
-use Rattle.engine_targets.proofs.Tallies.{all-at}
-use Rattle.engine_servers.specs.declared.holder.Holder.{Holder}
-use Rattle.engine_servers.specs.Holders.{IsQueued}
+use Rattle.engine_targets.specs.Rows.{rows_in}
+use Rattle.engine_servers.specs.QueueRows.{IsQueued}
 use Rattle.engine_servers.specs.Offers.{RoomIn}
 use Rattle.engine_servers.specs.Rooms.{IsKept}
-use Rattle.engine_servers.proofs.Roomed.{FirstHave, kept-all, kept-length, kept-set, kept-at, kept-room, first-set, first-before, first-behind}
+use Rattle.engine_servers.specs.Spans.{rows_from, IsUnseen}
+use Rattle.engine_servers.proofs.Roomed.{IsRoomed, kept-refl, unseen-roomed}
+use Rattle.engine_servers.proofs.Walks.{Went, row-all, all-such, went-at, went-length, went-before, went-on, went-all, went-weak, zip-weak, zip-second, goes-and}
 use Rattle.engine_servers.proofs.rooms.reserve_each.Goals as goal
 
 pub places-init : goal.places-init
 places-init c =
-    let olds = c.args.holders.now.items in
-    record { kept = kept-all olds; have = first-before c.args.object c.args.entries.now c.args.span.from olds c.requires.span.before; places = refl; len = refl }
+    let es = c.args.entries.now in
+    record {
+      went = went-before (IsRoomed c.args.object es) (IsUnseen c.args.object es) (unseen-roomed c.args.object es) c.args.span.from c.args.rows.now.slots c.requires.span.before;
+      places = refl;
+    }
 
-pub reserve_one-requires : goal.reserve_one-requires
-reserve_one-requires c =
-    let olds = c.args.holders.now.items in
-    let cur = c.places.holders.items in
-    let i = c.places.place in
-    let x = c.index_mut-holder.result.now in
-    let lt : i < length olds = omega (arith, c.requires.span.bound) in
-    let inside : i < length cur = omega (arith, lt, kept-length olds cur c.places.invariant.kept) in
-    let same : style x.opening.kind ≡ style (get_or olds i x).opening.kind = ap (λ (y : Holder). style y.opening.kind) c.index_mut-holder.ensures.value ∙ ap (λ o. style o.kind) (kept-at olds cur i x c.places.invariant.kept inside).opening in
-    record { queue = same ∙ all-at IsQueued olds i x c.requires.queue lt }
+pub reserve_at-requires-clause-place : goal.reserve_at-requires-clause-place
+reserve_at-requires-clause-place c =
+    omega (arith, c.requires.span.bound, went-length (IsRoomed c.args.object c.args.entries.now) c.places.place c.args.rows.now.slots c.places.rows.slots c.places.invariant.went)
 
-pub returns-in_err-reserve_one-clause-kept : goal.returns-in_err-reserve_one-clause-kept
-returns-in_err-reserve_one-clause-kept c =
-    let olds = c.args.holders.now.items in
-    let cur = c.places.holders.items in
+pub reserve_at-requires-clause-queue : goal.reserve_at-requires-clause-queue
+reserve_at-requires-clause-queue c =
+    let olds = c.args.rows.now.slots in
     let i = c.places.place in
-    let x = c.index_mut-holder.result.now in
-    let new = c.reserve_one.new.holder in
-    let lt : i < length olds = omega (arith, c.requires.span.bound) in
-    let inside : i < length cur = omega (arith, lt, kept-length olds cur c.places.invariant.kept) in
-    kept-set olds cur i x new c.places.invariant.kept inside (subst (λ (y : Holder). IsKept y new) c.index_mut-holder.ensures.value c.reserve_one.ensures.kept)
+    subst (λ o. IfSome o IsQueued) (sym (went-at (IsRoomed c.args.object c.args.entries.now) i olds c.places.rows.slots c.places.invariant.went)) (row-all IsQueued i olds c.requires.queue)
 
-pub returns-in_err-reserve_one-clause-succeeds : goal.returns-in_err-reserve_one-clause-succeeds
-returns-in_err-reserve_one-clause-succeeds c room =
-    let olds = c.args.holders.now.items in
-    let cur = c.places.holders.items in
+pub returns-in_err-reserve_at-clause-kept : goal.returns-in_err-reserve_at-clause-kept
+returns-in_err-reserve_at-clause-kept c =
+    let olds = c.args.rows.now.slots in
+    let cur = c.places.rows.slots in
+    let new = c.reserve_at.new.rows.slots in
     let i = c.places.place in
-    let x = c.index_mut-holder.result.now in
-    let lt : i < length olds = omega (arith, c.requires.span.bound) in
-    let inside : i < length cur = omega (arith, lt, kept-length olds cur c.places.invariant.kept) in
-    let here : RoomIn c.args.object c.args.entries.now (get_or cur i x) = kept-room c.args.object c.args.entries.now (get_or olds i x) (get_or cur i x) (kept-at olds cur i x c.places.invariant.kept inside) (all-at (RoomIn c.args.object c.args.entries.now) olds i x room lt) in
-    let bad : false ≡ true = c.in_err-reserve_one.ensures.succeeds (subst (RoomIn c.args.object c.args.entries.now) (sym c.index_mut-holder.ensures.value) here) in
+    let before = went-weak (IsRoomed c.args.object c.args.entries.now) IsKept (λ x y so. so.0) i olds cur c.places.invariant.went in
+    let all = went-on IsKept i olds cur new before c.reserve_at.ensures.kept in
+    went-all IsKept (λ x. Unit {0}) (λ x out. kept-refl x) (suc i) olds new all (all-such (λ x. Unit {0}) (λ x. tt) (rows_from (suc i) olds))
+
+pub returns-in_err-reserve_at-clause-succeeds : goal.returns-in_err-reserve_at-clause-succeeds
+returns-in_err-reserve_at-clause-succeeds c room =
+    let olds = c.args.rows.now.slots in
+    let i = c.places.place in
+    let P = RoomIn c.args.object c.args.entries.now in
+    let bad : false ≡ true = c.in_err-reserve_at.ensures.succeeds (subst (λ o. IfSome o P) (sym (went-at (IsRoomed c.args.object c.args.entries.now) i olds c.places.rows.slots c.places.invariant.went)) (row-all P i olds room)) in
     absurd cc
 
 pub places-preserved : goal.places-preserved
 places-preserved c =
-    let olds = c.args.holders.now.items in
-    let cur = c.places.holders.items in
+    let olds = c.args.rows.now.slots in
+    let cur = c.places.rows.slots in
+    let new = c.reserve_at.new.rows.slots in
     let i = c.places.place in
-    let x = c.index_mut-holder.result.now in
-    let new = c.reserve_one.new.holder in
-    let lt : i < length olds = omega (arith, c.requires.span.bound) in
-    let inside : i < length cur = omega (arith, lt, kept-length olds cur c.places.invariant.kept) in
+    let P = RoomIn c.args.object c.args.entries.now in
+    let Goes = IsRoomed c.args.object c.args.entries.now in
     record {
-      kept = kept-set olds cur i x new c.places.invariant.kept inside (subst (λ (y : Holder). IsKept y new) c.index_mut-holder.ensures.value c.reserve_one.ensures.kept);
-      have = subst (λ n. FirstHave c.args.object c.args.entries.now n (set cur i new)) (sym (add-one i)) (first-set c.args.object c.args.entries.now i cur new c.places.invariant.have c.in_ok-reserve_one.ensures.room);
-      places = c.places.invariant.places;
-      len = c.places.invariant.len;
+      went = subst (λ n. Went Goes n olds new) (sym (add-one i)) (went-on Goes i olds cur new c.places.invariant.went (goes-and IsKept P i cur new c.reserve_at.ensures.kept c.in_ok-reserve_at.ensures.room));
+      places = c.reserve_at.ensures.places ∙ c.places.invariant.places;
     }
+
+pub returns-clause-kept : goal.returns-clause-kept
+returns-clause-kept c =
+    let olds = c.args.rows.now.slots in
+    let cur = c.places.rows.slots in
+    let object = c.args.object in
+    let es = c.args.entries.now in
+    let order = c.requires.span.order in
+    let end : c.places.place ≡ c.args.span.to = omega (arith, order) in
+    let all = went-all (IsRoomed object es) (IsUnseen object es) (unseen-roomed object es) c.args.span.to olds cur (subst (λ n. Went (IsRoomed object es) n olds cur) end c.places.invariant.went) c.requires.span.behind in
+    zip-weak (IsRoomed object es) IsKept (λ x y so. so.0) (rows_in olds) (rows_in cur) all
 
 pub returns-clause-room : goal.returns-clause-room
 returns-clause-room c =
-    let olds = c.args.holders.now.items in
-    let cur = c.places.holders.items in
+    let olds = c.args.rows.now.slots in
+    let cur = c.places.rows.slots in
+    let object = c.args.object in
+    let es = c.args.entries.now in
     let order = c.requires.span.order in
     let end : c.places.place ≡ c.args.span.to = omega (arith, order) in
-    first-behind c.args.object c.args.entries.now c.args.span.to olds cur c.places.invariant.kept (subst (λ n. FirstHave c.args.object c.args.entries.now n cur) end c.places.invariant.have) c.requires.span.behind
+    let all = went-all (IsRoomed object es) (IsUnseen object es) (unseen-roomed object es) c.args.span.to olds cur (subst (λ n. Went (IsRoomed object es) n olds cur) end c.places.invariant.went) c.requires.span.behind in
+    zip-second (IsRoomed object es) (RoomIn object es) (λ x y so. so.1) (rows_in olds) (rows_in cur) all

@@ -4,9 +4,9 @@ use Rattle.engine_servers.specs.Spans.{IsSpan, IsOther}
 use Rattle.engine_servers.proofs.Spans.{place-span, gap-span}
 use Rattle.engine_servers.proofs.span.span_of_one.Goals as goal
 
-pub returns-in-Ok : goal.returns-in-Ok
-returns-in-Ok c = subst (λ n. IsSpan (IsOther c.args.number) c.in-Ok.index n c.args.holders.now) (sym (add-one c.in-Ok.index))
-    (place-span c.args.number c.in-Ok.index c.args.holders.now c.in-Ok.ensures.place c.in-Ok.ensures.found)
+pub returns-in-None : goal.returns-in-None
+returns-in-None c = gap-span c.args.number c.in-None.ensures.absent.0 c.args.rows.now.slots c.in-None.ensures.absent.1
 
-pub returns-in-Err : goal.returns-in-Err
-returns-in-Err c = gap-span c.args.number c.in-Err.field-0 c.args.holders.now c.in-Err.ensures.absent
+pub returns-in-Some : goal.returns-in-Some
+returns-in-Some c = subst (λ n. IsSpan (IsOther c.args.number) c.in-Some.place n c.args.rows.now.slots) (sym (add-one c.in-Some.place))
+    (place-span c.args.number c.in-Some.place c.args.rows.now.slots c.in-Some.ensures.row c.in-Some.ensures.found)

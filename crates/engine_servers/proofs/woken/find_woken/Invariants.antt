@@ -1,8 +1,14 @@
-use Rattle.std.proofs.Common.{◌≡◌, take}
+use Rattle.std.proofs.Common.{◌≡◌, ◌++◌, drop}
 use Rattle.std.specs.Prelude.{filter, map}
-use Rattle.engine_servers.specs.Holders.{number_in}
+use Rattle.std.specs.List.{AllByRecursion}
+use Rattle.engine_targets.specs.Rows.{number_in, rows_in}
+use Rattle.engine_servers.specs.QueueRows.{IsQueued}
 use Rattle.engine_servers.specs.Woken.{wakes_at}
 use Rattle.engine_servers.proofs.woken.find_woken.Given as goal
 
-abbrev pub invariant-places : goal.invariant-places
-invariant-places l = l.woken.items ≡ map number_in (filter (wakes_at l.object l.entries) (take l.place l.holders))
+abbrev pub invariant-slots : goal.invariant-slots
+invariant-slots l = record {
+  queued : AllByRecursion IsQueued (rows_in (drop l.slot-index l.slots));
+  woken : l.woken.items ++ map number_in (filter (wakes_at l.object l.entries) (rows_in (drop l.slot-index l.slots)))
+      ≡ map number_in (filter (wakes_at l.object l.entries) (rows_in l.slots));
+}

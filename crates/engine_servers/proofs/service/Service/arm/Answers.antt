@@ -1,39 +1,50 @@
-use Rattle.std.proofs.Common.{◌<◌, length, sym, ap, subst, ◌∙◌, arith}
+use Rattle.std.proofs.Common.{◌≡◌, set, sym, ap, ◌∙◌, refl}
 use Rattle.pps_types.specs.Plan.{on_numbered}
 use Rattle.engine_targets.specs.Opened.{armed_pulse}
-use Rattle.engine_servers.specs.declared.holder.Holder.{Holder}
-use Rattle.engine_servers.specs.Holders.{armed_with, handle_of, IsHolder}
-use Rattle.engine_servers.specs.Standing.{spare_of}
-use Rattle.engine_servers.proofs.Moves.{place-at, gap-at, set-seen, same-nowhere, set-is, holder-at, spares-set}
+use Rattle.engine_targets.specs.Rows.{armed_with, rows_of, row_at, rank}
+use Rattle.engine_targets.proofs.Gaps.{some_of, rank_row}
+use Rattle.engine_servers.specs.QueueRows.{QueueRow, IsRowOn}
+use Rattle.engine_servers.proofs.Moves.{same-nowhere, right-at, changed-is, changed-seen, changed-spares}
 use Rattle.engine_servers.proofs.service.Service.arm.Goals as goal
 
 pub returns-in_default-clause-handles : goal.returns-in_default-clause-handles
 returns-in_default-clause-handles c =
     let s = c.self.inside in
     ap (λ v. v.handles) (sym c.self.view_is)
-    ∙ same-nowhere s.object s.name s.holders.items c.args.number c.in_default.field-0 (λ h. record h { armed = armed_pulse c.args.pulse }) (gap-at s.holders.items c.deref.result.now c.args.number c.number.result c.in_default.field-0 c.deref.ensures.value c.number.ensures.same c.in_default.ensures.absent)
+    ∙ same-nowhere s.object s.name (rows_of s.rows) c.args.number c.in_default.ensures.absent.0 (λ h. record h { armed = armed_pulse c.args.pulse }) c.in_default.ensures.absent.1
     ∙ ap (λ v. on_numbered c.args.number (λ h. record h { armed = armed_pulse c.args.pulse }) v.handles) c.self.view_is
 
 pub invariant_of-self : goal.invariant_of-self
 invariant_of-self c =
     let s = c.self.inside in
-    let x = c.index_mut-holder.result.now in
-    let lt : c.in-Ok.index < length s.holders.items = omega (arith, ap length c.deref.ensures.value, c.in-Ok.ensures.place) in
-    let old : IsHolder s.object x = subst (IsHolder s.object) (sym c.index_mut-holder.ensures.value) (holder-at s.object s.led s.holders.items c.self.invariant c.in-Ok.index x lt) in
-    set-is s.object s.led s.holders.items c.self.invariant c.in-Ok.index (armed_with c.args.pulse x) x lt (ap (λ (y : Holder). y.opening) c.index_mut-holder.ensures.value)
-    (record { kind = old.kind; limit = old.limit; owed = old.owed })
+    let ss = s.rows.slots in
+    let i = c.in-Some.place in
+    let one = some_of (row_at i ss) c.in-Some.ensures.row in
+    let x = one.0 in
+    let y = armed_with c.args.pulse x in
+    let new : rows_of c.arm.new.self ≡ set (rows_of s.rows) (rank i ss) y = c.arm.ensures.rows x ∙ ap (λ (r : QueueRow). set (rows_of s.rows) (rank i ss) (armed_with c.args.pulse r)) (sym (rank_row ss i x x one.1)) in
+    let old : IsRowOn s.object x = right-at s.object s.name ss i x y one.1 (rows_of c.arm.new.self) new c.self.invariant.each in
+    changed-is s.object s.name ss i x y one.1 (rows_of c.arm.new.self) new s.led c.self.invariant refl (record { kind = old.kind; limit = old.limit; owed = old.owed })
 
 pub returns-clause-handles : goal.returns-clause-handles
 returns-clause-handles c =
     let s = c.self.inside in
-    let x = c.index_mut-holder.result.now in
-    let lt : c.in-Ok.index < length s.holders.items = omega (arith, ap length c.deref.ensures.value, c.in-Ok.ensures.place) in
-    set-seen s.object s.name s.holders.items c.args.number c.in-Ok.index (λ h. record h { armed = armed_pulse c.args.pulse }) (armed_with c.args.pulse x) x (place-at s.holders.items c.deref.result.now c.args.number c.number.result c.in-Ok.index c.deref.ensures.value c.number.ensures.same c.in-Ok.ensures.found) lt
-    (ap (λ y. handle_of s.object s.name (armed_with c.args.pulse y)) c.index_mut-holder.ensures.value)
+    let ss = s.rows.slots in
+    let i = c.in-Some.place in
+    let one = some_of (row_at i ss) c.in-Some.ensures.row in
+    let x = one.0 in
+    let y = armed_with c.args.pulse x in
+    let new : rows_of c.arm.new.self ≡ set (rows_of s.rows) (rank i ss) y = c.arm.ensures.rows x ∙ ap (λ (r : QueueRow). set (rows_of s.rows) (rank i ss) (armed_with c.args.pulse r)) (sym (rank_row ss i x x one.1)) in
+    changed-seen s.object s.name ss i x y one.1 (rows_of c.arm.new.self) new c.args.number (λ h. record h { armed = armed_pulse c.args.pulse }) c.in-Some.ensures.found refl
     ∙ ap (λ v. on_numbered c.args.number (λ h. record h { armed = armed_pulse c.args.pulse }) v.handles) c.self.view_is
 
 pub returns-clause-spares : goal.returns-clause-spares
 returns-clause-spares c =
     let s = c.self.inside in
-    let x = c.index_mut-holder.result.now in
-    spares-set s.holders.items c.in-Ok.index (armed_with c.args.pulse x) x (ap spare_of c.index_mut-holder.ensures.value) ∙ ap (λ v. v.spares) c.self.view_is
+    let ss = s.rows.slots in
+    let i = c.in-Some.place in
+    let one = some_of (row_at i ss) c.in-Some.ensures.row in
+    let x = one.0 in
+    let y = armed_with c.args.pulse x in
+    let new : rows_of c.arm.new.self ≡ set (rows_of s.rows) (rank i ss) y = c.arm.ensures.rows x ∙ ap (λ (r : QueueRow). set (rows_of s.rows) (rank i ss) (armed_with c.args.pulse r)) (sym (rank_row ss i x x one.1)) in
+    changed-spares s.object s.name ss i x y one.1 (rows_of c.arm.new.self) new refl ∙ ap (λ v. v.spares) c.self.view_is

@@ -1,9 +1,11 @@
-use Rattle.std.proofs.Common.{◌<◌, ◌∙◌, drop, length, sym, ap, subst, arith}
+use Rattle.std.proofs.Common.{◌≡◌, ◌∙◌, drop, length, refl, sym, ap, subst}
 use Rattle.pps_types.specs.Reading.{reseen, visible}
 use Rattle.pps_types.specs.Plan.{on_numbered, caught_up}
-use Rattle.engine_servers.specs.declared.holder.Holder.{Holder}
-use Rattle.engine_servers.specs.Holders.{handle_of, IsHolder, IsFor}
-use Rattle.engine_servers.proofs.Moves.{place-at, gap-at, set-seen, same-nowhere, set-is, holder-at}
+use Rattle.server_queue.specs.Queued.{Queued}
+use Rattle.engine_targets.specs.Rows.{with_progress, rows_of, rows_in, row_at, changed_at}
+use Rattle.engine_targets.proofs.Gaps.{some_of, rows_changed}
+use Rattle.engine_servers.specs.QueueRows.{handle_of, IsRowOn, IsFor}
+use Rattle.engine_servers.proofs.Moves.{same-nowhere, progress-is, right-at, changed-is, changed-seen}
 use Rattle.engine_servers.proofs.Seen.{all-drop, caught-is}
 use Rattle.engine_servers.proofs.service.Service.catch_up.Goals as goal
 
@@ -11,30 +13,42 @@ pub returns-in_default-clause-handles : goal.returns-in_default-clause-handles
 returns-in_default-clause-handles c =
     let s = c.self.inside in
     ap (λ v. v.handles) (sym c.self.view_is)
-    ∙ same-nowhere s.object s.name s.holders.items c.args.number c.in_default.field-0 (reseen caught_up) (gap-at s.holders.items c.deref.result.now c.args.number c.number.result c.in_default.field-0 c.deref.ensures.value c.number.ensures.same c.in_default.ensures.absent)
+    ∙ same-nowhere s.object s.name (rows_of s.rows) c.args.number c.in_default.ensures.absent.0 (reseen caught_up) c.in_default.ensures.absent.1
     ∙ ap (λ v. on_numbered c.args.number (reseen caught_up) v.handles) c.self.view_is
 
 pub invariant_of-self : goal.invariant_of-self
 invariant_of-self c =
     let s = c.self.inside in
-    let x = c.index_mut-holder.result.now in
-    let y : Holder = record { opening = x.opening; queue = c.pass.new.self; parked = x.parked; armed = x.armed } in
-    let lt : c.in-Ok.index < length s.holders.items = omega (arith, ap length c.deref.ensures.value, c.in-Ok.ensures.place) in
-    let old : IsHolder s.object x = subst (IsHolder s.object) (sym c.index_mut-holder.ensures.value) (holder-at s.object s.led s.holders.items c.self.invariant c.in-Ok.index x lt) in
-    set-is s.object s.led s.holders.items c.self.invariant c.in-Ok.index y x lt (ap (λ (z : Holder). z.opening) c.index_mut-holder.ensures.value)
+    let ss = s.rows.slots in
+    let i = c.in-Some.place in
+    let one = some_of (row_at i ss) c.in-Some.ensures.row in
+    let x = one.0 in
+    let y = with_progress c.pass.new.self x in
+    let new = rows_changed ss i (with_progress c.pass.new.self) x one.1 in
+    let rows = rows_in (changed_at i (with_progress c.pass.new.self) ss) in
+    let same : x.progress ≡ c.progress_mut-queue.result.now = progress-is (row_at i ss) x c.progress_mut-queue.result.now one.1 c.progress_mut-queue.ensures.value in
+    let old : IsRowOn s.object x = right-at s.object s.name ss i x y one.1 rows new c.self.invariant.each in
+    let owed : c.pass.new.self.owed ≡ drop c.owed_count-count.result x.progress.owed = c.pass.ensures.owed ∙ ap (λ (q : Queued). drop c.owed_count-count.result q.owed) (sym same) in
+    changed-is s.object s.name ss i x y one.1 rows new s.led c.self.invariant refl
     (record {
       kind = old.kind;
-      limit = c.pass.ensures.limit ∙ old.limit;
-      owed = subst (IsFor s.object x.opening) (sym c.pass.ensures.owed) (all-drop (visible (handle_of s.object s.name x)) c.owed_count-count.result x.queue.owed old.owed);
+      limit = c.pass.ensures.limit ∙ ap (λ (q : Queued). q.limit) (sym same) ∙ old.limit;
+      owed = subst (IsFor s.object x.opening) (sym owed) (all-drop (visible (handle_of s.object s.name x)) c.owed_count-count.result x.progress.owed old.owed);
     })
 
 pub returns-clause-handles : goal.returns-clause-handles
 returns-clause-handles c =
     let s = c.self.inside in
-    let x = c.index_mut-holder.result.now in
-    let y : Holder = record { opening = x.opening; queue = c.pass.new.self; parked = x.parked; armed = x.armed } in
-    let lt : c.in-Ok.index < length s.holders.items = omega (arith, ap length c.deref.ensures.value, c.in-Ok.ensures.place) in
-    let old : IsHolder s.object x = subst (IsHolder s.object) (sym c.index_mut-holder.ensures.value) (holder-at s.object s.led s.holders.items c.self.invariant c.in-Ok.index x lt) in
-    set-seen s.object s.name s.holders.items c.args.number c.in-Ok.index (reseen caught_up) y x (place-at s.holders.items c.deref.result.now c.args.number c.number.result c.in-Ok.index c.deref.ensures.value c.number.ensures.same c.in-Ok.ensures.found) lt
-    (caught-is s.object s.name x old c.pass.new.self.owed (c.pass.ensures.owed ∙ ap (λ n. drop n x.queue.owed) c.owed_count-count.ensures) ∙ ap (λ z. (reseen caught_up) (handle_of s.object s.name z)) c.index_mut-holder.ensures.value)
+    let ss = s.rows.slots in
+    let i = c.in-Some.place in
+    let one = some_of (row_at i ss) c.in-Some.ensures.row in
+    let x = one.0 in
+    let y = with_progress c.pass.new.self x in
+    let new = rows_changed ss i (with_progress c.pass.new.self) x one.1 in
+    let rows = rows_in (changed_at i (with_progress c.pass.new.self) ss) in
+    let same : x.progress ≡ c.progress_mut-queue.result.now = progress-is (row_at i ss) x c.progress_mut-queue.result.now one.1 c.progress_mut-queue.ensures.value in
+    let old : IsRowOn s.object x = right-at s.object s.name ss i x y one.1 rows new c.self.invariant.each in
+    let owed : c.pass.new.self.owed ≡ drop c.owed_count-count.result x.progress.owed = c.pass.ensures.owed ∙ ap (λ (q : Queued). drop c.owed_count-count.result q.owed) (sym same) in
+    changed-seen s.object s.name ss i x y one.1 rows new c.args.number (reseen caught_up) c.in-Some.ensures.found
+    (caught-is s.object s.name x old c.pass.new.self.owed (owed ∙ ap (λ n. drop n x.progress.owed) (c.owed_count-count.ensures ∙ ap (λ (q : Queued). length q.owed) (sym same))))
     ∙ ap (λ v. on_numbered c.args.number (reseen caught_up) v.handles) c.self.view_is

@@ -4,7 +4,8 @@ use Rattle.pps_types.specs.History.{Entry}
 use Rattle.pps_types.specs.Reading.{Open, visible}
 use Rattle.pps_types.specs.Rests.{Seen}
 use Rattle.pps_types.specs.Plan.{offer}
-use Rattle.engine_servers.specs.Holders.{sees}
+use Rattle.engine_targets.specs.Rows.{rows_of}
+use Rattle.engine_servers.specs.QueueRows.{sees}
 use Rattle.engine_servers.specs.Standing.{IsReady}
 use Rattle.engine_servers.specs.Offers.{RoomInEach, AreOffered}
 use Rattle.engine_servers.specs.Spans.{IsSpan, IsUnseen}
@@ -15,42 +16,41 @@ pub offer_each-requires-clause-span : goal.offer_each-requires-clause-span
 offer_each-requires-clause-span c =
     let span = c.find_span-span.result in
     let object = c.number-object.result in
-    let told : IsSpan (IsUnseen object (c.args.shares.entry ∷ [])) span.from span.to c.deref.result.now = subst (λ es. IsSpan (IsUnseen object es) span.from span.to c.deref.result.now) (c.from_ref.ensures.value ∙ ap (λ (e : Entry). e ∷ []) c.entry.ensures) (c.find_span-span.ensures object) in
-    subst (IsSpan (IsUnseen object (c.args.shares.entry ∷ [])) span.from span.to) c.deref.ensures.value told
+    subst (λ es. IsSpan (IsUnseen object es) span.from span.to c.self.inside.rows.slots) (c.from_ref.ensures.value ∙ ap (λ (e : Entry). e ∷ []) c.entry.ensures) (c.find_span-span.ensures object)
 
 pub offer_each-requires-clause-room : goal.offer_each-requires-clause-room
 offer_each-requires-clause-room c =
     let s = c.self.inside in
     let e = c.args.shares.entry in
-    subst (λ n. RoomInEach n (e ∷ []) s.holders.items) (sym c.number-object.ensures.same) (room-each s.object s.name (e ∷ []) s.holders.items (subst (IsReady (e ∷ [])) (sym c.self.view_is) c.requires.room))
+    subst (λ n. RoomInEach n (e ∷ []) (rows_of s.rows)) (sym c.number-object.ensures.same) (room-each s.object s.name (e ∷ []) (rows_of s.rows) (subst (IsReady (e ∷ [])) (sym c.self.view_is) c.requires.room))
 
 pub offer_each-requires-clause-enough : goal.offer_each-requires-clause-enough
 offer_each-requires-clause-enough c =
     let s = c.self.inside in
     let e = c.args.shares.entry in
-    let same = ap (λ n. length (filter (sees n e) s.holders.items)) c.number-object.ensures.same ∙ count-handles s.object s.name e s.holders.items ∙ ap (λ v. length (filter (λ (h : Open Seen). visible h e) v.handles)) c.self.view_is in
+    let same = ap (λ n. length (filter (sees n e) (rows_of s.rows))) c.number-object.ensures.same ∙ count-handles s.object s.name e (rows_of s.rows) ∙ ap (λ v. length (filter (λ (h : Open Seen). visible h e) v.handles)) c.self.view_is in
     omega (arith, same, c.requires.enough)
 
 pub invariant_of-self : goal.invariant_of-self
 invariant_of-self c =
     let s = c.self.inside in
     let e = c.args.shares.entry in
-    let new = c.offer_each.new.holders.items in
-    let all : AreOffered s.object e s.holders.items new = subst (λ n. AreOffered n e s.holders.items new) c.number-object.ensures.same c.offer_each.ensures.holders in
-    offers-is s.object e s.led s.holders.items new c.self.invariant all
+    let new = rows_of c.offer_each.new.rows in
+    let all : AreOffered s.object e (rows_of s.rows) new = subst (λ n. AreOffered n e (rows_of s.rows) new) c.number-object.ensures.same c.offer_each.ensures.rows in
+    offers-is s.object e s.led (rows_of s.rows) new c.self.invariant all
 
 pub returns-clause-handles : goal.returns-clause-handles
 returns-clause-handles c =
     let s = c.self.inside in
     let e = c.args.shares.entry in
-    let new = c.offer_each.new.holders.items in
-    let all : AreOffered s.object e s.holders.items new = subst (λ n. AreOffered n e s.holders.items new) c.number-object.ensures.same c.offer_each.ensures.holders in
-    offers-seen s.object s.name e s.holders.items new c.self.invariant.each all ∙ ap (λ v. map (offer e) v.handles) c.self.view_is
+    let new = rows_of c.offer_each.new.rows in
+    let all : AreOffered s.object e (rows_of s.rows) new = subst (λ n. AreOffered n e (rows_of s.rows) new) c.number-object.ensures.same c.offer_each.ensures.rows in
+    offers-seen s.object s.name e (rows_of s.rows) new c.self.invariant.each all ∙ ap (λ v. map (offer e) v.handles) c.self.view_is
 
 pub returns-clause-ready : goal.returns-clause-ready
 returns-clause-ready c entries ready =
     let s = c.self.inside in
     let e = c.args.shares.entry in
-    let new = c.offer_each.new.holders.items in
-    let all : AreOffered s.object e s.holders.items new = subst (λ n. AreOffered n e s.holders.items new) c.number-object.ensures.same c.offer_each.ensures.holders in
-    room-all s.object s.name entries new (room-after s.object e entries s.holders.items new all (room-each s.object s.name (e ∷ entries) s.holders.items (subst (IsReady (e ∷ entries)) (sym c.self.view_is) ready)))
+    let new = rows_of c.offer_each.new.rows in
+    let all : AreOffered s.object e (rows_of s.rows) new = subst (λ n. AreOffered n e (rows_of s.rows) new) c.number-object.ensures.same c.offer_each.ensures.rows in
+    room-all s.object s.name entries new (room-after s.object e entries (rows_of s.rows) new all (room-each s.object s.name (e ∷ entries) (rows_of s.rows) (subst (IsReady (e ∷ entries)) (sym c.self.view_is) ready)))
