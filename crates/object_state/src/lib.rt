@@ -11,6 +11,7 @@ mod noted;
 mod object;
 mod places;
 mod print;
+mod room;
 
 pub use lent::AttributeRef;
 pub use object::Object;

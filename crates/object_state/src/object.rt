@@ -14,6 +14,7 @@ use crate::lent::AttributeRef;
 use crate::lines::{copies_of, len_with};
 use crate::marks::resolve;
 use crate::print::{matching_len, push_all, push_matching};
+use crate::room::make_room;
 use attr_text::passes_limits;
 use indexmap::IndexMap;
 use pps_filter::{Filter, Name};
@@ -220,7 +221,7 @@ impl Object {
     {
         self.ready = None;
         let copies = self.checked_copies(lines)?;
-        self.map.reserve(copies.len())?;
+        make_room(&mut self.map, copies.len())?;
         self.ready = Some(copies);
         Ok(())
     }

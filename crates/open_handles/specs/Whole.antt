@@ -149,6 +149,10 @@ site_of s = record { name = name_of s; service = is_service s }
 abbrev pub directory_site : Site
 directory_site = record { name = []; service = false }
 
+-- that of a plain object of this name
+abbrev pub plain_site : List ℕ → Site
+plain_site name = record { name = name; service = false }
+
 -- an object that is to be added
 pub record Fresh : Type 0 where
   pub object : ℕ

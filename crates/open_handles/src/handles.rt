@@ -12,7 +12,7 @@ ghost use Rattle.engine_targets.specs.Woken.{woken_by};
 ghost use Rattle.pps_types.specs.Plan.{offer, without_number};
 ghost use Rattle.pps_types.specs.WellFormed.{AreRising};
 ghost use Rattle.open_handles.specs.Lookups.{ShowsOpening, ShowsGlance};
-ghost use Rattle.open_handles.specs.Whole.{Whole, handles_in, handles_at, seated_at, site_at, directory_site, name_at, room_at, kept_at, is_on, is_told, with_opened_on, with_changed, HasSite, IfServed, IsObject, IsPlaceOf, IsShared, IsSharedAt, HasRoom, HasRoomIn, HasEachInPlace, HasRisingNumbers, HoldsJustWhatIsOwed, UsesRoom, UsesRoomIn, IsReadyAt, IsReadyFor, IsReserved, AreOfSame, SuitsAt, GoesIfUnused, StaysIfUsed, KeepsOthers, KeepsSites, KeepsPlaces, KeepsRecords, KeepsTable};
+ghost use Rattle.open_handles.specs.Whole.{Whole, handles_in, handles_at, seated_at, site_at, directory_site, plain_site, name_at, room_at, kept_at, is_on, is_told, with_opened_on, with_changed, HasSite, IfServed, IsObject, IsPlaceOf, IsShared, IsSharedAt, HasRoom, HasRoomIn, HasEachInPlace, HasRisingNumbers, HoldsJustWhatIsOwed, UsesRoom, UsesRoomIn, IsReadyAt, IsReadyFor, IsReserved, AreOfSame, SuitsAt, GoesIfUnused, StaysIfUsed, KeepsOthers, KeepsSites, KeepsPlaces, KeepsRecords, KeepsTable};
 
 use crate::change::{
     Change, change_in, close_in, offer_in, open_in, reserve_in, reserve_records_in,
@@ -24,7 +24,7 @@ use crate::woken::unite;
 use engine_servers::{Seats, Shares};
 use engine_targets::{Glance, Opening, Pulse};
 use number_table::Table;
-use pps_types::{DirId, Found, Handle, ObjId, Refusal};
+use pps_types::{Bytes, DirId, Found, Handle, ObjId, Refusal};
 use server_queue::Entry;
 use std::alloc::{AllocError, Global};
 use std::marker::Model;
@@ -186,6 +186,25 @@ impl Handles {
         ensures records { KeepsRecords self.old self.new }
     {
         let NewSite { object, seats } = fresh;
+        self.places.objects.push_reserved(object.number(), seats);
+    }
+
+    /// Adds a plain object that handles can be opened on, into room that was made before. Its number is above all so far. Room
+    /// for a handle on it is not made. It takes no memory.
+    pub fn add_bare_object(&mut self, alloc: Global, object: ObjId, name: Bytes)
+        requires room { 0 < self.old.objects.room }
+        requires above { self.old.objects.next ≤ object }
+        requires last { object + 1 < 2 ^ 64 }
+        ensures handles { handles_in self.new ≡ handles_in self.old }
+        ensures added { site_at (FoundObject object) self.new ≡ Some (plain_site name) }
+        ensures others { KeepsOthers (FoundObject object) self.old self.new }
+        ensures next { self.new.objects.next ≡ object + 1 }
+        ensures rows { self.new.rows ≡ self.old.rows }
+        ensures directories { KeepsTable self.old.directories self.new.directories }
+        ensures places { KeepsPlaces self.old self.new }
+        ensures records { KeepsRecords self.old self.new }
+    {
+        let seats = Seats::of_object(alloc, object, name);
         self.places.objects.push_reserved(object.number(), seats);
     }
 

@@ -13,3 +13,4 @@ pub mod Gone
 pub mod Deleted
 pub mod RestoreChecked
 pub mod LineChecks
+pub mod Few

@@ -28,7 +28,7 @@ use Rattle.service_state.specs.declared.creating.NewObject.{NewObject}
 use Rattle.service_state.specs.declared.creating.Replacement.{Replacement}
 use Rattle.service_state.specs.Beginning.{AreReady, is_keeping, moves_of as beginning_of}
 use Rattle.service_state.specs.Lines.{HasLines, HasLinesFor, deletes, is_change}
-use Rattle.service_state.specs.Objects.{object_of, CanCreate, replacing_object, CanReplace}
+use Rattle.service_state.specs.Objects.{object_of, CanCreate, CanCreateUnheard, replacing_object, CanReplace}
 use Rattle.service_state.specs.Tables.{Tabled, content_in}
 use Rattle.service_state.specs.Tied.{KeepsHandleRoom, CanOpen}
 use Rattle.path_requests.specs.Planned.{IsReadyOn, IsReadyToCreate, IsReadyToReplace, CanOpenNew, opens_new}
@@ -130,6 +130,24 @@ created_ready t n o told same is ready above last place number site entry room s
       record_is = entry ∙ ap (λ (k : ℕ). creation (object_of o k)) (sym next);
       room = room;
       shared = shared;
+      records = rw counted records;
+    }
+
+-- the same where nobody is told of it
+pub unheard_ready : (t n : Tabled) (path : Path) (directory : ℕ) (name : List ℕ) → QuestionsAreTold → content_in n ≡ content_in t → IsContent (content_in t) → IsPathReady n.names path
+    → find_at (at (content_in t)) (parent path) ≡ Ok (FoundDirectory directory) → (content_in t).next_object + 1 < 2 ^ 64 → 0 < n.handles.objects.room → name ≡ last_name path
+    → (content_in t).handles ≡ [] → t.records + 1 < 2 ^ 64 → CanCreateUnheard path directory name n
+unheard_ready t n path directory name told same is ready above last place named nobody records =
+    let next : (content_in n).next_object ≡ (content_in t).next_object = ap (λ (c : Content). c.next_object) same in
+    let counted : n.records ≡ t.records = ap (λ (c : Content). c.records) same in
+    record {
+      order = subst (λ (c : Content). AreRising 0 (map (λ (o : LiveObject). o.object.number) c.objects) c.next_object) (sym same) is.order.objects_rise;
+      ready = ready;
+      above = ap (λ (a : Path → Option Found). find_at a (parent path)) (told.at (content_in n) ∙ ap at same) ∙ above;
+      last = rw next last;
+      place = place;
+      named = named;
+      nobody = ap (λ (c : Content). c.handles) same ∙ nobody;
       records = rw counted records;
     }
 

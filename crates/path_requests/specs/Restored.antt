@@ -1,11 +1,12 @@
 -- The calls that restore an image, over the tables.
-use Rattle.std.specs.Prelude.{◌≡◌, ◌⊎◌, List, ◌++◌, Result, Ok, Err, Some}
+use Rattle.std.specs.Prelude.{◌≡◌, ◌⊎◌, List, [], ◌∷◌, ◌++◌, Result, Ok, Err, Some}
 use Rattle.pps_types.specs.declared.line.Line.{Line}
 use Rattle.pps_types.specs.declared.refusal.Refusal.{Refusal}
 use Rattle.pps_types.specs.declared.refusal.Refusal.TheVariants.{OutOfMemory}
 use Rattle.pps_types.specs.Names.{Path, new_refusal}
 use Rattle.pps_types.specs.Content.{Content, at}
 use Rattle.pps_types.specs.Checks.{Check, first_refusal, refused, object_checks}
+use Rattle.pps_types.specs.Plan.{Move, Creates}
 use Rattle.pps_types.specs.Image.{restored_object}
 use Rattle.pps_types.specs.Restore as restoring
 use Rattle.service_state.specs.declared.creating.NewObject.{NewObject}
@@ -41,6 +42,10 @@ new_object_checks t path = refused (new_refusal (at (content_in t)) path) ++ obj
 -- it is the object that is restored at that path
 abbrev pub IsRestored : NewObject → Path → Tabled → Tabled → Type 0
 IsRestored o path old new = new_object o new ≡ restored_object (content_in old) path
+
+-- the move by which the object is restored at that path
+abbrev pub creation_of : Tabled → Path → List Move
+creation_of t path = Creates (restored_object (content_in t) path) ∷ []
 
 -- ---- lines
 

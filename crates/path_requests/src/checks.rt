@@ -1,16 +1,18 @@
 //! What an open is refused for.
-ghost use Rattle.std.specs.Prelude.{◌≡◌, true, false, None, IfOk};
+ghost use Rattle.std.specs.Prelude.{◌≡◌, ◌<◌, nat_le, length, true, false, None, IfOk};
 ghost use Rattle.pps_types.specs.declared.found.Found.TheVariants.{Object as FoundObject};
 ghost use Rattle.pps_types.specs.Content as content;
 ghost use Rattle.pps_types.specs.Checks as checking;
 ghost use Rattle.pps_types.specs.Checks.{handle_checks, object_checks, all_checks, name_checks, open_checks};
+ghost use Rattle.name_table.specs.Listed.{objects_at};
+ghost use Rattle.name_table.specs.Standing.{named_content};
 ghost use Rattle.service_state.specs.Tables.{content_in};
 ghost use Rattle.service_state.specs.Refused.{IsCheckedBy};
 ghost use Rattle.path_requests.specs.Alive.{is_served_in};
 ghost use Rattle.path_requests.specs.Checks.{alive_checks_in};
 ghost use Rattle.path_requests.specs.Asked.{IsAsked, found_by, is_all};
 
-use name_table::{parent, questions_are_told};
+use name_table::{Names, parent, questions_are_told};
 use open_options::OpenSpec;
 use pps_types::limits::{HANDLES_MAX, MEMBERS_MAX, OBJECTS_MAX};
 use pps_types::{Bytes, DirId, Found, Handle, Mode, ObjId, Refusal};
@@ -63,12 +65,32 @@ fn new_number(tables: &Tables) -> Result<Handle, Refusal>
     }
 }
 
+// Whether so few stand in the directory at a path that its objects need not be counted.
+fn has_few(names: &Names, directory: &[Bytes]) -> bool
+    ensures { result ≡ true → length (objects_at (named_content names.now) directory.now) < 256 }
+{
+    match names.members_lent(directory) {
+        Err(_) => false,
+        Ok(members) => members.len() < MEMBERS_MAX,
+    }
+}
+
+// Whether there may be no more objects in the directory at a path.
+fn is_full(names: &Names, directory: &[Bytes]) -> bool
+    ensures { result ≡ nat_le 256 (length (objects_at (named_content names.now) directory.now)) }
+{
+    if has_few(names, directory) {
+        return false;
+    }
+    names.objects_in(directory) >= MEMBERS_MAX
+}
+
 /// TableFull where there is no room for one more object at the path.
 pub(crate) fn check_room(tables: &Tables, path: &[Bytes]) -> Result<(), Refusal>
     ensures { IsCheckedBy result (object_checks (content_in tables.now) path.now) }
 {
     let names = tables.names();
-    if names.objects_in(parent(path)) >= MEMBERS_MAX {
+    if is_full(names, parent(path)) {
         return Err(Refusal::TableFull);
     }
     if names.object_count() >= OBJECTS_MAX {

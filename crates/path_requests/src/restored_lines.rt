@@ -20,6 +20,7 @@ use pps_filter::Name;
 use pps_types::{Bytes, Found, Kind, Line, Lines, ObjId, Refusal};
 use service_state::{Tables, record_of};
 use std::alloc::{AllocError, Global};
+use std::slice::from_ref;
 
 // The object at a path.
 fn object_at(tables: &Tables, path: &[Bytes]) -> Result<ObjId, Refusal>
@@ -116,13 +117,11 @@ pub fn restore_line(
     ensures kept { OnErr result (content_in tables.new ≡ content_in tables.old) }
 {
     let name = name_of(&line)?;
-    let mut lines = Vec::with_capacity(alloc, 1)?;
-    lines.push_reserved(line);
     let object = object_at(tables, path)?;
     if has_attribute(tables, object, &name) {
         return Err(Refusal::Exists);
     }
-    lines_ready(tables, object, &lines)?;
+    lines_ready(tables, object, from_ref(&line))?;
     if tables.passes_last_number(1, 0, 0) {
         return Err(Refusal::TableFull);
     }
@@ -131,6 +130,8 @@ pub fn restore_line(
         tables.change_unheard(object);
         return Ok(());
     }
+    let mut lines = Vec::with_capacity(alloc, 1)?;
+    lines.push_reserved(line);
     let told = change_told(tables, alloc, object, lines)?;
     tables.happen(told);
     Ok(())

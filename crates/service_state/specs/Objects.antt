@@ -1,13 +1,13 @@
 -- Objects that are created.
-use Rattle.std.specs.Prelude.{◌≡◌, ◌+◌, ◌<◌, ◌^◌, ℕ, Ok, [], ◌∷◌, is_some, IfSome, IsSomeAnd, map}
+use Rattle.std.specs.Prelude.{◌≡◌, ◌+◌, ◌<◌, ◌^◌, ℕ, Ok, List, [], ◌∷◌, false, None, is_some, IfSome, IsSomeAnd, map}
 use Rattle.pps_types.specs.declared.found.Found.TheVariants.{Directory as FoundDirectory}
 use Rattle.pps_types.specs.declared.record.Kind.TheVariants.{Deleted}
-use Rattle.pps_types.specs.Names.{find_at, parent, last_name}
+use Rattle.pps_types.specs.Names.{Path, find_at, parent, last_name}
 use Rattle.pps_types.specs.Content.{Object, LiveObject, at}
 use Rattle.pps_types.specs.WellFormed.{AreRising}
 use Rattle.pps_types.specs.Plan.{Creates, AppendsRecord, creation}
 use Rattle.name_table.specs.Standing.{Placed, placed_at, standing_of, content_of, IsReadyToCreate}
-use Rattle.open_handles.specs.Whole.{HasRoom, IsShared}
+use Rattle.open_handles.specs.Whole.{HasRoom, IsShared, handles_in}
 use Rattle.service_state.specs.declared.creating.NewObject.{NewObject}
 use Rattle.service_state.specs.declared.creating.Replacement.{Replacement}
 use Rattle.service_state.specs.Tables.{Tabled, content_in}
@@ -33,6 +33,24 @@ pub record CanCreate (o : NewObject) (t : Tabled) : Type 0 where
   pub record_is : o.creation.entry ≡ creation (new_object o t)
   pub room : HasRoom (o.creation.entry ∷ []) t.handles
   pub shared : IsShared o.creation.count o.creation.entry t.handles
+  pub records : t.records + 1 < 2 ^ 64
+
+-- ---- where no handle is open
+
+-- the plain object that is created at that path, in that directory
+abbrev pub plain_object : Path → ℕ → Tabled → Object
+plain_object path directory t = record { number = (content_in t).next_object; directory = directory; name = last_name path; nopersist = false; server = None }
+
+-- It can be created there, and nobody is told: its path is ready and leads through its directory, there is room for its place, and the
+-- name is that of the path.
+pub record CanCreateUnheard (path : Path) (directory : ℕ) (name : List ℕ) (t : Tabled) : Type 0 where
+  pub order : AreRising 0 (map (λ (o : LiveObject). o.object.number) (content_in t).objects) (content_in t).next_object
+  pub ready : IsReadyToCreate t.names path
+  pub above : find_at (at (content_of (standing_of t.names))) (parent path) ≡ Ok (FoundDirectory directory)
+  pub last : (content_in t).next_object + 1 < 2 ^ 64
+  pub place : 0 < t.handles.objects.room
+  pub named : name ≡ last_name path
+  pub nobody : handles_in t.handles ≡ []
   pub records : t.records + 1 < 2 ^ 64
 
 -- ---- in another's place

@@ -15,6 +15,7 @@ mod room;
 mod tables;
 mod telling;
 mod unheard;
+mod unheard_objects;
 mod waiting;
 
 pub use begin_room::{begin_ready, numbers_are_within};

@@ -9,7 +9,7 @@ use Rattle.service_laws.proofs.Finds.{find-true}
 use Rattle.pps_types.specs.Plan.{entry_of}
 use Rattle.pps_types.specs.Restore.{line_checks, line_moves}
 use Rattle.pps_types.specs.declared.line.Line.{Line}
-use Rattle.name_table.specs.Standing.{Named, Placed, known_of, placed_at, lines_ready as named_ready}
+use Rattle.name_table.specs.Standing.{Named, Placed, known_of, placed_at, lines_ready as named_ready, AreReadyFor}
 use Rattle.service_state.specs.Lines.{change_of}
 use Rattle.service_state.specs.Tables.{content_in}
 use Rattle.path_requests.proofs.RestoreChecked.{refused_by}
@@ -36,15 +36,15 @@ returns-in_err-lines_ready-clause-refused c =
     let before = content_in c.args.tables.now in
     let p = err_from_is_err_and c.from_residual-in_err-lines_ready.result c.from_residual-in_err-lines_ready.ensures.1 in
     let none = sym c.if-has_attribute.false ∙ has_told before c.requires c.args.path.now c.args.line c.in_ok-object.object c.in_ok-object.ensures.ok c.has_attribute.result c.in_ok-name.name c.in_ok-name.ensures c.has_attribute.ensures in
-    let one = c.deref.ensures.value ∙ c.push_reserved.ensures.items ∙ ap (λ ls. ls ++ c.args.line ∷ []) c.in_ok-lines.ensures.items in
-    rw (p.1, p.2) (limited_or before c.requires c.args.path.now c.args.line c.in_ok-object.object c.in_ok-object.ensures.ok c.deref.result.now c.in_err-lines_ready.field-0.0 one none c.in_err-lines_ready.ensures.err)
+    let one = c.from_ref.ensures.value in
+    rw (p.1, p.2) (limited_or before c.requires c.args.path.now c.args.line c.in_ok-object.object c.in_ok-object.ensures.ok c.from_ref.result.now c.in_err-lines_ready.field-0.0 one none c.in_err-lines_ready.ensures.err)
 
 pub returns-then-passes_last_number-clause-refused : goal.returns-then-passes_last_number-clause-refused
 returns-then-passes_last_number-clause-refused c =
     let before = content_in c.args.tables.now in
     let none = sym c.if-has_attribute.false ∙ has_told before c.requires c.args.path.now c.args.line c.in_ok-object.object c.in_ok-object.ensures.ok c.has_attribute.result c.in_ok-name.name c.in_ok-name.ensures c.has_attribute.ensures in
-    let one = c.deref.ensures.value ∙ c.push_reserved.ensures.items ∙ ap (λ ls. ls ++ c.args.line ∷ []) c.in_ok-lines.ensures.items in
-    let passes = passes_told before c.requires c.args.path.now c.args.line c.in_ok-object.object c.in_ok-object.ensures.ok c.deref.result.now one c.in_ok-lines_ready.ensures.passes in
+    let one = c.from_ref.ensures.value in
+    let passes = passes_told before c.requires c.args.path.now c.args.line c.in_ok-object.object c.in_ok-object.ensures.ok c.from_ref.result.now one c.in_ok-lines_ready.ensures.passes in
     let past = past_told before c.requires c.args.path.now c.args.line c.in_ok-object.object c.in_ok-object.ensures.ok (content_in c.lines_ready.new.tables) c.passes_last_number.result c.lines_ready.ensures.content c.passes_last_number.ensures in
     inl (line_last before c.requires c.args.path.now c.args.line c.in_ok-object.object c.in_ok-object.ensures.ok true none passes (sym c.if-passes_last_number.true ∙ past))
 
@@ -72,33 +72,38 @@ pub change_unheard-requires-clause-lines : goal.change_unheard-requires-clause-l
 change_unheard-requires-clause-lines c =
     let alive = subst (λ (d : Content). IsSome (object_numbered d c.in_ok-object.object)) (sym c.lines_ready.ensures.content) (alive_there (content_in c.args.tables.now) c.requires c.args.path.now c.args.line c.in_ok-object.object c.in_ok-object.ensures.ok) in
     subst IsSome
-    (sym (ready_there c.lines_ready.new.tables.names (content_in c.lines_ready.new.tables) c.in_ok-object.object c.deref.result.now c.objects_are_placed.ensures alive c.in_ok-lines_ready.ensures.ready)) refl
+    (sym (ready_there c.lines_ready.new.tables.names (content_in c.lines_ready.new.tables) c.in_ok-object.object c.from_ref.result.now c.objects_are_placed.ensures alive c.in_ok-lines_ready.ensures.ready)) refl
 
 pub returns-then-len-eq0-clause-done : goal.returns-then-len-eq0-clause-done
 returns-then-len-eq0-clause-done c =
     let before = content_in c.args.tables.now in
     let there = alive_there before c.requires c.args.path.now c.args.line c.in_ok-object.object c.in_ok-object.ensures.ok in
     let alive = subst (λ (d : Content). IsSome (object_numbered d c.in_ok-object.object)) (sym c.lines_ready.ensures.content) there in
-    let ready = ready_there c.lines_ready.new.tables.names (content_in c.lines_ready.new.tables) c.in_ok-object.object c.deref.result.now c.objects_are_placed.ensures alive c.in_ok-lines_ready.ensures.ready in
+    let ready = ready_there c.lines_ready.new.tables.names (content_in c.lines_ready.new.tables) c.in_ok-object.object c.from_ref.result.now c.objects_are_placed.ensures alive c.in_ok-lines_ready.ensures.ready in
     let none = sym c.if-has_attribute.false ∙ has_told before c.requires c.args.path.now c.args.line c.in_ok-object.object c.in_ok-object.ensures.ok c.has_attribute.result c.in_ok-name.name c.in_ok-name.ensures c.has_attribute.ensures in
-    let one = c.deref.ensures.value ∙ c.push_reserved.ensures.items ∙ ap (λ ls. ls ++ c.args.line ∷ []) c.in_ok-lines.ensures.items in
-    let passes = passes_told before c.requires c.args.path.now c.args.line c.in_ok-object.object c.in_ok-object.ensures.ok c.deref.result.now one c.in_ok-lines_ready.ensures.passes in
+    let one = c.from_ref.ensures.value in
+    let passes = passes_told before c.requires c.args.path.now c.args.line c.in_ok-object.object c.in_ok-object.ensures.ok c.from_ref.result.now one c.in_ok-lines_ready.ensures.passes in
     let past = past_told before c.requires c.args.path.now c.args.line c.in_ok-object.object c.in_ok-object.ensures.ok (content_in c.lines_ready.new.tables) c.passes_last_number.result c.lines_ready.ensures.content c.passes_last_number.ensures in
-    told_there before c.in_ok-object.object c.deref.result.now there
+    told_there before c.in_ok-object.object c.from_ref.result.now there
     (λ e object kind told.
-    let left = done_told before c.requires c.args.path.now c.args.line c.in_ok-object.object c.in_ok-object.ensures.ok c.deref.result.now e (content_in c.lines_ready.new.tables) (content_in c.change_unheard.new.self) one c.lines_ready.ensures.content told (c.change_unheard.ensures.moves e object (ready ∙ kind)) in
+    let left = done_told before c.requires c.args.path.now c.args.line c.in_ok-object.object c.in_ok-object.ensures.ok c.from_ref.result.now e (content_in c.lines_ready.new.tables) (content_in c.change_unheard.new.self) one c.lines_ready.ensures.content told (c.change_unheard.ensures.moves e object (ready ∙ kind)) in
     line_last before c.requires c.args.path.now c.args.line c.in_ok-object.object c.in_ok-object.ensures.ok false none passes (sym c.if-passes_last_number.false ∙ past) ∙ ap Ok (sym left))
 
 pub change_told-requires-clause-alive : goal.change_told-requires-clause-alive
 change_told-requires-clause-alive c =
     subst (λ (d : Content). IsSome (object_numbered d c.in_ok-object.object)) (sym c.lines_ready.ensures.content) (alive_there (content_in c.args.tables.now) c.requires c.args.path.now c.args.line c.in_ok-object.object c.in_ok-object.ensures.ok)
 
+pub change_told-requires-clause-lines : goal.change_told-requires-clause-lines
+change_told-requires-clause-lines c =
+    let held = c.push_reserved.ensures.items ∙ ap (λ ls. ls ++ c.args.line ∷ []) c.in_ok-lines.ensures.items in
+    subst (λ ls. AreReadyFor c.in_ok-object.object ls c.lines_ready.new.tables.names) (c.from_ref.ensures.value ∙ sym held) c.in_ok-lines_ready.ensures.ready
+
 pub returns-clause-done : goal.returns-clause-done
 returns-clause-done c =
     let before = content_in c.args.tables.now in
     let none = sym c.if-has_attribute.false ∙ has_told before c.requires c.args.path.now c.args.line c.in_ok-object.object c.in_ok-object.ensures.ok c.has_attribute.result c.in_ok-name.name c.in_ok-name.ensures c.has_attribute.ensures in
     let held = c.push_reserved.ensures.items ∙ ap (λ ls. ls ++ c.args.line ∷ []) c.in_ok-lines.ensures.items in
-    let passes = passes_told before c.requires c.args.path.now c.args.line c.in_ok-object.object c.in_ok-object.ensures.ok c.deref.result.now (c.deref.ensures.value ∙ held) c.in_ok-lines_ready.ensures.passes in
+    let passes = passes_told before c.requires c.args.path.now c.args.line c.in_ok-object.object c.in_ok-object.ensures.ok c.from_ref.result.now c.from_ref.ensures.value c.in_ok-lines_ready.ensures.passes in
     let past = past_told before c.requires c.args.path.now c.args.line c.in_ok-object.object c.in_ok-object.ensures.ok (content_in c.lines_ready.new.tables) c.passes_last_number.result c.lines_ready.ensures.content c.passes_last_number.ensures in
     let told = subst (λ (d : Content). IfSome (object_numbered d c.in_ok-object.object) (λ o. c.in_ok-told.told.entry ≡ entry_of o.object (Change c.push_reserved.new.self.items) None)) c.lines_ready.ensures.content c.in_ok-told.ensures.entry in
     let left = done_told before c.requires c.args.path.now c.args.line c.in_ok-object.object c.in_ok-object.ensures.ok c.push_reserved.new.self.items c.in_ok-told.told.entry (content_in c.change_told.new.tables) (content_in c.happen.new.self) held (c.change_told.ensures.content ∙ c.lines_ready.ensures.content) told c.happen.ensures.moves in
