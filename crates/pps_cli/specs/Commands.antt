@@ -1,5 +1,5 @@
 -- What becomes of a command line: what it asks for is done, and the program ends with a status.
-use Rattle.std.specs.Prelude.{◌≡◌, ℕ, List, Option, Result, Ok, Err, IfOk, string_bytes}
+use Rattle.std.specs.Prelude.{◌≡◌, ℕ, false, List, Option, Result, Ok, Err, IfOk, string_bytes}
 use Rattle.std.specs.Io.KnownBytes.{Appends, Keeps}
 use Rattle.pps_types.specs.Device.{device_inner}
 use Rattle.pps_types.specs.Exchange.{output_of, with_output}
