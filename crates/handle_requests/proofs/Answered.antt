@@ -12,7 +12,7 @@ use Rattle.pps_types.specs.Reading.{Open, is_directory_kind, Member}
 use Rattle.pps_types.specs.Rests.{Seen, is_over, answer}
 use Rattle.pps_types.specs.WellFormed.{AreRising}
 use Rattle.pps_types.specs.Content.{Content, LiveObject, own_handle, object_numbered, attributes_of, member, members, everything, target_is_dead, read_answer}
-use Rattle.engine_targets.specs.Opened.{handle_at, as_opened, number_of}
+use Rattle.sub_reader.specs.Opened.{handle_at, as_opened, number_of}
 use Rattle.open_handles.specs.Whole.{name_at}
 use Rattle.service_state.specs.Tables.{Tabled, content_in}
 use Rattle.whole_texts.specs.Whole.{Source, source_of}
@@ -46,7 +46,7 @@ module _ (law : AnswersAreRead) (c : Content) (next : ℕ) (rise : AreRising 0 (
       by (Some h) e reader =
           let at : handle_at n c.handles ≡ Some h = own_numbered c.handles next rise conn n h e in
           let owes-it : h.reads ≡ true → Owes size h h.seen owed = subst (λ o. IfSome o (λ h. h.reads ≡ true → Owes size h h.seen owed)) at owes in
-          law c h size owed (owes-it reader.reads) ∙ ap (λ s. answer_by s h.wait size owed) (sym reader.source) ∙ ap (λ b. answer_by w b size owed) reader.wait
+          law c h size owed (owes-it reader.reads) ∙ ap (λ s. answer_by s h.options.wait size owed) (sym reader.source) ∙ ap (λ b. answer_by w b size owed) reader.wait
 
   -- so is what refuses it
   pub owed_told : (r : Refusal) → IfSome (handle_at n c.handles) (λ h. h.reads ≡ true → (text : List ℕ) (dead : Bool) → Refuses (answer h h.seen text dead size) r)
@@ -95,28 +95,28 @@ alive_told None = refl
 alive_told (Some x) = refl
 
 object_source : (c : Content) (h : Open Seen) → is_directory_kind h.kind ≡ false
-    → source_of c h ≡ record { kind = h.kind; parts = h.filter; over = is_over h.seen; alive = is_some (object_numbered c h.target); members = record { name = h.name; lines = map line_of (attributes_of c h.target) } ∷ [] }
+    → source_of c h ≡ record { kind = h.kind; parts = h.options.filter; over = is_over h.seen; alive = is_some (object_numbered c h.target); members = record { name = h.name; lines = map line_of (attributes_of c h.target) } ∷ [] }
 object_source c h plain =
-    ap (λ (b : Bool). record { kind = h.kind; parts = h.filter; over = is_over h.seen; alive = not (not b && is_none (object_numbered c h.target)); members = if b then map member (members c h.target) else record { name = h.name; lines = map line_of (attributes_of c h.target) } ∷ [] }) plain
-    ∙ ap (λ (b : Bool). record { kind = h.kind; parts = h.filter; over = is_over h.seen; alive = b; members = record { name = h.name; lines = map line_of (attributes_of c h.target) } ∷ [] }) (alive_told (object_numbered c h.target))
+    ap (λ (b : Bool). record { kind = h.kind; parts = h.options.filter; over = is_over h.seen; alive = not (not b && is_none (object_numbered c h.target)); members = if b then map member (members c h.target) else record { name = h.name; lines = map line_of (attributes_of c h.target) } ∷ [] }) plain
+    ∙ ap (λ (b : Bool). record { kind = h.kind; parts = h.options.filter; over = is_over h.seen; alive = b; members = record { name = h.name; lines = map line_of (attributes_of c h.target) } ∷ [] }) (alive_told (object_numbered c h.target))
 
 -- ---- what everything of a directory is read from
 
 directory_source_of : (c : Content) (h : Open Seen) → is_directory_kind h.kind ≡ true
-    → source_of c h ≡ record { kind = h.kind; parts = h.filter; over = is_over h.seen; alive = true; members = map member (members c h.target) }
+    → source_of c h ≡ record { kind = h.kind; parts = h.options.filter; over = is_over h.seen; alive = true; members = map member (members c h.target) }
 directory_source_of c h directory =
-    ap (λ (b : Bool). record { kind = h.kind; parts = h.filter; over = is_over h.seen; alive = not (not b && is_none (object_numbered c h.target)); members = if b then map member (members c h.target) else record { name = h.name; lines = map line_of (attributes_of c h.target) } ∷ [] }) directory
+    ap (λ (b : Bool). record { kind = h.kind; parts = h.options.filter; over = is_over h.seen; alive = not (not b && is_none (object_numbered c h.target)); members = if b then map member (members c h.target) else record { name = h.name; lines = map line_of (attributes_of c h.target) } ∷ [] }) directory
 
 module _ (t : Tabled) (next : ℕ) (rise : AreRising 0 (map (λ h. h.number) (content_in t).handles) next) (conn n : ℕ) (own : Own) (is : IsOwn t conn n own) where
   pub object_reader : own.opening.now.reads ≡ true → is_directory_kind own.opening.now.kind ≡ false → (over : Bool) → over ≡ option_map_or (λ (h : Open Seen). is_over h.seen) (handle_at n (content_in t).handles) false
       → (known : Option LiveObject) → known ≡ object_numbered (content_in t) (number_of own.found) → (m : Member) → m.name ≡ name_at own.found t.handles → m.lines ≡ map line_of (option_map_or (λ (o : LiveObject). o.attributes) known [])
-      → (w : Source) → w ≡ record { kind = own.opening.now.kind; parts = own.opening.now.filter; over = over; alive = is_some known; members = m ∷ [] }
-      → IfSome (own_handle (content_in t) conn n) (IsReader (content_in t) own.opening.now.wait w)
+      → (w : Source) → w ≡ record { kind = own.opening.now.kind; parts = own.opening.now.options.filter; over = over; alive = is_some known; members = m ∷ [] }
+      → IfSome (own_handle (content_in t) conn n) (IsReader (content_in t) own.opening.now.options.wait w)
   object_reader reads plain over over-is known known-is m name lines w w-is =
-      subst (λ o. IfSome o (IsReader (content_in t) own.opening.now.wait w)) (sym own-is)
+      subst (λ o. IfSome o (IsReader (content_in t) own.opening.now.options.wait w)) (sym own-is)
       (record {
         reads = ap (λ (x : Open (Unit {0})). x.reads) same ∙ reads;
-        wait = ap (λ (x : Open (Unit {0})). x.wait) same;
+        wait = ap (λ (x : Open (Unit {0})). x.options.wait) same;
         source = w-is ∙ alike ∙ sym (object_source (content_in t) h (ap is_directory_kind kind-is ∙ plain));
       })
     where
@@ -150,17 +150,17 @@ module _ (t : Tabled) (next : ℕ) (rise : AreRising 0 (map (λ h. h.number) (co
       lines-told : m.lines ≡ map line_of (attributes_of (content_in t) h.target)
       lines-told = lines ∙ ap (λ o. map line_of (option_map_or (λ (o : LiveObject). o.attributes) o [])) known-told
 
-      filter-told : own.opening.now.filter ≡ h.filter
-      filter-told = sym (ap (λ (x : Open (Unit {0})). x.filter) same)
+      filter-told : own.opening.now.options.filter ≡ h.options.filter
+      filter-told = sym (ap (λ (x : Open (Unit {0})). x.options.filter) same)
 
       alike : ◌≡◌ {A = Source}
-          (record { kind = own.opening.now.kind; parts = own.opening.now.filter; over = over; alive = is_some known; members = m ∷ [] })
-          (record { kind = h.kind; parts = h.filter; over = is_over h.seen; alive = is_some (object_numbered (content_in t) h.target); members = record { name = h.name; lines = map line_of (attributes_of (content_in t) h.target) } ∷ [] })
+          (record { kind = own.opening.now.kind; parts = own.opening.now.options.filter; over = over; alive = is_some known; members = m ∷ [] })
+          (record { kind = h.kind; parts = h.options.filter; over = is_over h.seen; alive = is_some (object_numbered (content_in t) h.target); members = record { name = h.name; lines = map line_of (attributes_of (content_in t) h.target) } ∷ [] })
       alike = λ i. record { kind = sym kind-is i; parts = filter-told i; over = over-told i; alive = is_some (known-told i); members = record { name = name-told i; lines = lines-told i } ∷ [] }
 
   pub directory_reader : own.opening.now.reads ≡ true → is_directory_kind own.opening.now.kind ≡ true → (over : Bool) → over ≡ option_map_or (λ (h : Open Seen). is_over h.seen) (handle_at n (content_in t).handles) false
       → (os : List (Option LiveObject)) → filter_map (λ o. o) os ≡ members (content_in t) (number_of own.found)
-      → IfSome (own_handle (content_in t) conn n) (IsReader (content_in t) own.opening.now.wait (directory_source own.opening.now.kind own.opening.now.filter over os))
+      → IfSome (own_handle (content_in t) conn n) (IsReader (content_in t) own.opening.now.options.wait (directory_source own.opening.now.kind own.opening.now.options.filter over os))
   directory_reader reads directory over over-is os lent =
       let known = own_known (own_handle (content_in t) conn n) (opened_as t own) is in
       let h = known.0 in
@@ -169,10 +169,10 @@ module _ (t : Tabled) (next : ℕ) (rise : AreRising 0 (map (λ h. h.number) (co
       let target-is : h.target ≡ number_of own.found = ap (λ (x : Open (Unit {0})). x.target) same in
       let over-told : over ≡ is_over h.seen = over-is ∙ ap (λ o. option_map_or (λ (h : Open Seen). is_over h.seen) o false) (own_numbered (content_in t).handles next rise conn n h known.1.0) in
       let members-told : map member (filter_map (λ o. o) os) ≡ map member (members (content_in t) h.target) = ap (map member) (lent ∙ ap (members (content_in t)) (sym target-is)) in
-      let filter-told : own.opening.now.filter ≡ h.filter = sym (ap (λ (x : Open (Unit {0})). x.filter) same) in
-      subst (λ o. IfSome o (IsReader (content_in t) own.opening.now.wait (directory_source own.opening.now.kind own.opening.now.filter over os))) (sym known.1.0)
+      let filter-told : own.opening.now.options.filter ≡ h.options.filter = sym (ap (λ (x : Open (Unit {0})). x.options.filter) same) in
+      subst (λ o. IfSome o (IsReader (content_in t) own.opening.now.options.wait (directory_source own.opening.now.kind own.opening.now.options.filter over os))) (sym known.1.0)
       (record {
         reads = ap (λ (x : Open (Unit {0})). x.reads) same ∙ reads;
-        wait = ap (λ (x : Open (Unit {0})). x.wait) same;
+        wait = ap (λ (x : Open (Unit {0})). x.options.wait) same;
         source = (λ i. record { kind = sym kind-is i; parts = filter-told i; over = over-told i; alive = true; members = members-told i }) ∙ sym (directory_source_of (content_in t) h (ap is_directory_kind kind-is ∙ directory));
       })

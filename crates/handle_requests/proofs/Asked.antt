@@ -25,7 +25,7 @@ use Rattle.service_laws.proofs.BoundedEffects.{bound-handle}
 use Rattle.service_laws.proofs.BoundedReplies.{IsSmallNeed, small-read}
 use Rattle.service_state.specs.Refused.{Fails}
 use Rattle.handle_requests.specs.Reads.{Refuses, is_too_long, text_in, waits, IsRead, IsAnswered}
-use Rattle.engine_targets.specs.Opened.{as_opened}
+use Rattle.sub_reader.specs.Opened.{as_opened}
 use Rattle.handle_requests.specs.declared.reading.ReadDone.{ReadDone}
 use Rattle.handle_requests.proofs.Owns.{own_is, own_known}
 use Rattle.service_state.proofs.Memory.{memory_or}

@@ -16,7 +16,7 @@ use Rattle.pps_types.specs.WellFormed.{AreRising, IsContent, has_server, is_serv
 use Rattle.service_laws.proofs.Finds.{all-find, find-true}
 use Rattle.pps_types.specs.Rising.{IsRising}
 use Rattle.service_laws.specs.Concerned.{is_on_object}
-use Rattle.engine_targets.specs.Opened.{handle_at, as_opened}
+use Rattle.sub_reader.specs.Opened.{handle_at, as_opened}
 use Rattle.notify_box.proofs.ConnectionLists.{found-more}
 use Rattle.open_handles.specs.Whole.{Whole, Site, site_at, handles_in, handles_at, is_on}
 use Rattle.open_handles.proofs.Finds.{NoneNumbered, none_above, is_rising, at_number}

@@ -48,7 +48,7 @@ plain_known drops n (DirectoryHandle delta) (Some o) = refl
 plain_known drops n NamesHandle (Some o) = refl
 
 pub plain_told : {S : Type 0} (c : Content) (h : Open S) → list_all is_plain (telling (told_of c h)) ≡ true
-plain_told c h = plain_known (h.critical && h.writes) h.number h.kind (object_numbered c h.target)
+plain_told c h = plain_known (h.options.critical && h.writes) h.number h.kind (object_numbered c h.target)
 
 plain_behind : (c : Content) (conn : ℕ) (h : Open Seen) → list_all is_plain (telling (told_behind c conn h)) ≡ true
 plain_behind c conn h = by (is_orphan c conn h)

@@ -7,8 +7,8 @@ use Rattle.pps_types.specs.declared.refusal.Refusal.TheVariants.{OutOfMemory}
 use Rattle.pps_types.specs.Reading.{Open, Needs, fitting, blocks_answer, owed_answer, block, visible}
 use Rattle.pps_types.specs.Rests.{Seen, News, Unread, Over, Owed, answer, news_in}
 use Rattle.pps_types.specs.Owed.{owed_in_seen}
-use Rattle.server_queue.specs.Reads.{needed}
-use Rattle.engine_targets.specs.Blocks.{owed_blocks, refused_for, first_len}
+use Rattle.server_queue.specs.Given.{needed, refused_for, first_len}
+use Rattle.sub_reader.specs.Blocks.{owed_blocks}
 use Rattle.whole_texts.specs.Answered.{Owes, refusal_in}
 use Rattle.server_queue.specs.declared.plan.GivenBlocks.{GivenBlocks}
 use Rattle.handle_requests.specs.Reads.{Refuses, is_given_all}
@@ -90,7 +90,7 @@ module _ (max : ℕ) (r : Refusal) where
     refuse_of (News false) e full memory some = none_refuses full some
     refuse_of Unread e full memory some = absurd (let bad = e in let r = reads in cc)
     refuse_of Over e full memory some = absurd (let bad = e in cc)
-    refuse_of (Owed rest) e full memory some = blocks_refuse h.wait dead (map (block h) (filter (visible h) rest)) full memory some
+    refuse_of (Owed rest) e full memory some = blocks_refuse h.options.wait dead (map (block h) (filter (visible h) rest)) full memory some
 
   pub owed_refuses : (o : Option (Open Seen)) → is_given_all o ≡ false → (Some r ≢ Some OutOfMemory → Some r ≡ refused_for max (owed_blocks o))
       → (Some r ≡ Some OutOfMemory → first_len (owed_blocks o) < 2 ^ 32 → refused_for max (owed_blocks o) ≡ None)

@@ -7,9 +7,9 @@ use Rattle.pps_types.specs.Rests.{Seen, is_over}
 use Rattle.pps_types.specs.Owed.{owed_in_seen}
 use Rattle.pps_types.specs.Content.{news}
 use Rattle.pps_types.specs.WellFormed.{AreRising}
-use Rattle.engine_targets.specs.Opened.{as_opened, handle_at, number_of}
-use Rattle.engine_targets.specs.Glances.{Glanced, glanced, glance_on}
-use Rattle.engine_servers.specs.Seated.{handles_of, name_of}
+use Rattle.sub_reader.specs.Opened.{as_opened, handle_at, number_of}
+use Rattle.sub_reader.specs.Glances.{Glanced, glanced, glance_on}
+use Rattle.topics.specs.Seated.{handles_of, name_of}
 use Rattle.open_handles.specs.Whole.{Whole, handles_in, name_at}
 use Rattle.service_state.specs.Tables.{Tabled}
 use Rattle.handle_requests.specs.declared.own.SeenHandle.{SeenHandle}

@@ -12,9 +12,9 @@ use Rattle.pps_types.specs.Content.{Content, own_handle, outbox_of, news}
 use Rattle.pps_types.specs.Checks.{Check, Refuse, Memory, first_refusal, reaches_memory, refused, request_checks}
 use Rattle.pps_types.specs.Plan.{effect, Arms}
 use Rattle.pps_types.specs.declared.outcome.Outcome.TheVariants.{Input, Done}
-use Rattle.engine_targets.specs.Opened.{armed_pulse}
-use Rattle.engine_targets.specs.declared.opening.Pulse.{Pulse}
-use Rattle.handle_requests.specs.declared.notices.Notified.{Notified}
+use Rattle.sub_reader.specs.Opened.{armed_pulse}
+use Rattle.sub_reader.specs.declared.opening.Pulse.{Pulse}
+use Rattle.handle_requests.specs.declared.notifying.Notified.{Notified}
 use Rattle.handle_requests.specs.Notices.{notify_of, notice_of, IsNoticed}
 use Rattle.service_state.specs.Refused.{Fails}
 use Rattle.handle_requests.proofs.Owns.{own_is}

@@ -29,10 +29,10 @@ target-told c h kind = by (object_numbered c h.target)
     by None = refl
     by (Some o) = refl
 
-parted : (c : Content) (h : Open Seen) (kind : HandleKind) → parting c h kind ≡ moves_told (record_told (kind_told (h.critical && h.writes) h.number kind) (object_numbered c h.target))
+parted : (c : Content) (h : Open Seen) (kind : HandleKind) → parting c h kind ≡ moves_told (record_told (kind_told (h.options.critical && h.writes) h.number kind) (object_numbered c h.target))
 parted c h ServerHandle = target-told c h Deleted
 parted c h ClientHandle = target-told c h (Closed h.number)
-parted c h (ObjectHandle delta) = by (h.critical && h.writes)
+parted c h (ObjectHandle delta) = by (h.options.critical && h.writes)
   where
     by : (b : Bool) → cond b (on_target c h Dropped None) [] ≡ moves_told (record_told (cond b (Some Dropped) None) (object_numbered c h.target))
     by true = target-told c h Dropped
@@ -173,7 +173,7 @@ module _ (c : Content) (conn : ℕ) where
     behind_told before h hs high behind rest rise = ap (cond (server_closed before h.target) []) (parting_told c h) ∙ by (object_numbered c h.target) refl
       where
         kind : Option Kind
-        kind = kind_told (h.critical && h.writes) h.number h.kind
+        kind = kind_told (h.options.critical && h.writes) h.number h.kind
 
         cut : (b : Bool) (o : Option Entry) → cond b [] (moves_told o) ≡ moves_told (cond b None o)
         cut true o = refl

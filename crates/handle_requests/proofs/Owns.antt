@@ -8,7 +8,7 @@ use Rattle.pps_types.specs.Reading.{Open}
 use Rattle.pps_types.specs.Rests.{Seen}
 use Rattle.pps_types.specs.WellFormed.{AreRising}
 use Rattle.service_laws.proofs.Finds.{and-both}
-use Rattle.engine_targets.specs.Opened.{handle_at, as_opened}
+use Rattle.sub_reader.specs.Opened.{handle_at, as_opened}
 use Rattle.notify_box.proofs.ConnectionLists.{passes, found-both, found-more}
 
 -- the own handle among these

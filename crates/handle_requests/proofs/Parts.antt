@@ -7,18 +7,9 @@ use Rattle.pps_types.specs.declared.handle_kind.HandleKind.TheVariants.{Object a
 use Rattle.pps_types.specs.Filter.{Part}
 use Rattle.pps_types.specs.Reading.{Member, is_directory_kind}
 use Rattle.pps_types.specs.Content.{LiveObject, member}
+use Rattle.pps_types.proofs.Places.{from_place}
 use Rattle.whole_texts.specs.Whole.{everything, print_one, print_opening}
 use Rattle.handle_requests.specs.Directories.{parts_of, directory_source}
-
-module _ {X : Type 0} where
-  -- what stands from a place on begins with what stands there
-  pub from_place : (xs : List X) (i : ℕ) (x : X) → slice_get xs i ≡ Some x → drop i xs ≡ x ∷ drop (i + 1) xs
-  from_place xs i x e = next xs i x e ∙ ap (λ k. x ∷ drop k xs) (sym (add-one i))
-    where
-      next : (xs : List X) (i : ℕ) (x : X) → slice_get xs i ≡ Some x → drop i xs ≡ x ∷ drop (suc i) xs
-      next [] i x e = absurd (let no = e in cc)
-      next (y ∷ ys) zero x e = let is : y ≡ x = cc in ap (λ z. z ∷ ys) is
-      next (y ∷ ys) (suc i) x e = next ys i x e
 
 -- of one member alone, with nothing before it
 pub one_part : (kind : HandleKind) → is_directory_kind kind ≡ true → (parts : Option (List Part)) (m : Member)

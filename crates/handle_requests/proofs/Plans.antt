@@ -30,7 +30,7 @@ use Rattle.service_state.specs.declared.beginning.Beginning.{Beginning}
 use Rattle.service_state.specs.Moves.{closing}
 use Rattle.service_state.specs.declared.beginning.Beginning.TheVariants.{Closes}
 use Rattle.service_state.specs.Beginning.{moves_of, entries_in, CanBegin, CanBeginAll, is_plain}
-use Rattle.engine_targets.specs.Opened.{as_opened}
+use Rattle.sub_reader.specs.Opened.{as_opened}
 use Rattle.service_state.specs.Refused.{Fails, all_request_checks}
 use Rattle.handle_requests.proofs.Owns.{own_known}
 use Rattle.handle_requests.specs.Told.{record_told, told_of, told_behind}
@@ -47,7 +47,7 @@ last_alone c h ServerHandle last = refl
 last_alone c h ClientHandle last = refl
 last_alone c h (DirectoryHandle delta) last = refl
 last_alone c h NamesHandle last = refl
-last_alone c h (ObjectHandle delta) last = by (h.critical && h.writes && not (is_none (object_numbered c h.target)))
+last_alone c h (ObjectHandle delta) last = by (h.options.critical && h.writes && not (is_none (object_numbered c h.target)))
   where
     by : (drops : Bool) → first_refusal (cond drops (Memory ∷ []) [] ++ Refuse last TableFull ∷ []) ≡ cond last (Some TableFull) None
     by true = refl
@@ -58,7 +58,7 @@ told_wants c h ServerHandle last told = refl
 told_wants c h ClientHandle last told = refl
 told_wants c h (DirectoryHandle delta) last told = absurd (let bad = told in cc)
 told_wants c h NamesHandle last told = absurd (let bad = told in cc)
-told_wants c h (ObjectHandle delta) last told = by (h.critical && h.writes) (object_numbered c h.target) told
+told_wants c h (ObjectHandle delta) last told = by (h.options.critical && h.writes) (object_numbered c h.target) told
   where
     by : (drops : Bool) (o : Option LiveObject) → is_some (record_told (cond drops (Some Dropped) None) o) ≡ true → reaches_memory (cond (drops && not (is_none o)) (Memory ∷ []) [] ++ Refuse last TableFull ∷ []) ≡ true
     by true (Some o) some = refl

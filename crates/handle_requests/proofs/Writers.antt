@@ -12,7 +12,7 @@ use Rattle.service_laws.proofs.Finds.{find-true}
 use Rattle.service_laws.specs.Bounds.{IsBound}
 use Rattle.service_laws.proofs.BoundedEffects.{bound-handle}
 use Rattle.name_table.specs.Standing.{known_of}
-use Rattle.engine_targets.specs.Opened.{as_opened, number_of}
+use Rattle.sub_reader.specs.Opened.{as_opened, number_of}
 use Rattle.open_handles.specs.Whole.{name_at}
 use Rattle.service_state.specs.Tables.{Tabled, content_in}
 use Rattle.handle_requests.specs.declared.own.Own.{Own}

@@ -7,7 +7,7 @@ use Rattle.pps_types.specs.Rests.{Seen}
 use Rattle.pps_types.specs.Content.{Content}
 use Rattle.pps_types.specs.Checks as checking
 use Rattle.pps_types.specs.Checks.{Check, is_client, meant, client_checks}
-use Rattle.engine_targets.specs.Opened.{number_of}
+use Rattle.sub_reader.specs.Opened.{number_of}
 use Rattle.open_handles.specs.declared.handles.Opened.{Opened}
 use Rattle.handle_requests.specs.declared.address.Recipient.{Recipient}
 use Rattle.handle_requests.specs.declared.address.Recipient.TheVariants.{Everyone, OneClient, Nobody}

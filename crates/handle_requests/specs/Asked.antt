@@ -5,8 +5,8 @@ use Rattle.pps_types.specs.Reading.{Open}
 use Rattle.pps_types.specs.Rests.{Seen, is_over}
 use Rattle.pps_types.specs.Owed.{owed_in_seen}
 use Rattle.pps_types.specs.Content.{own_handle, news as has_news}
-use Rattle.engine_targets.specs.Opened.{handle_at}
-use Rattle.engine_servers.specs.Seated.{handles_of, name_of}
+use Rattle.sub_reader.specs.Opened.{handle_at}
+use Rattle.topics.specs.Seated.{handles_of, name_of}
 use Rattle.open_handles.specs.Whole.{handles_in, name_at}
 use Rattle.service_state.specs.Tables.{Tabled, content_in}
 use Rattle.handle_requests.specs.declared.own.SeenHandle.{SeenHandle}

@@ -10,8 +10,8 @@ use Rattle.service_state.specs.Moves.{closing}
 use Rattle.service_state.specs.Beginning.{moves_of, CanBegin, AreReady}
 use Rattle.service_state.specs.Tables.{Tabled, content_in}
 use Rattle.service_state.specs.Refused.{TakesMemory, all_checks_in, effect_in}
-use Rattle.handle_requests.specs.declared.closes.Closing.{Closing}
-use Rattle.handle_requests.specs.declared.closes.Closing.TheVariants.{Alone, Telling}
+use Rattle.handle_requests.specs.declared.closing.Closing.{Closing}
+use Rattle.handle_requests.specs.declared.closing.Closing.TheVariants.{Alone, Telling}
 
 -- what a handle's close changes
 abbrev pub moves_in : ℕ → ℕ → Closing → List Move

@@ -11,12 +11,12 @@ use Rattle.pps_types.specs.Outbox.{arms}
 use Rattle.pps_types.specs.Plan.{Move, Arms}
 use Rattle.pps_types.specs.Content.{Content, own_handle, news}
 use Rattle.pps_types.specs.Checks.{Check, on_handle, notify_checks}
-use Rattle.engine_targets.specs.Opened.{armed_pulse}
-use Rattle.engine_targets.specs.declared.opening.Pulse.{Pulse}
+use Rattle.sub_reader.specs.Opened.{armed_pulse}
+use Rattle.sub_reader.specs.declared.opening.Pulse.{Pulse}
 use Rattle.notify_box.specs.Standing.{CanArm}
 use Rattle.service_state.specs.Tables.{Tabled, content_in}
 use Rattle.service_state.specs.Refused.{checks_in, effect_in}
-use Rattle.handle_requests.specs.declared.notices.Notified.{Notified}
+use Rattle.handle_requests.specs.declared.notifying.Notified.{Notified}
 
 -- what is asked
 abbrev pub notify_of : ℕ → Action → Pulse → Request

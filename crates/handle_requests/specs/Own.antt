@@ -3,7 +3,7 @@ use Rattle.std.specs.Prelude.{◌≡◌, ℕ, Bool, Option, Some, IfSome, option
 use Rattle.pps_types.specs.Reading.{Open}
 use Rattle.pps_types.specs.Rests.{Seen}
 use Rattle.pps_types.specs.Content.{own_handle, news}
-use Rattle.engine_targets.specs.Opened.{opened, as_opened, number_of}
+use Rattle.sub_reader.specs.Opened.{opened, as_opened, number_of}
 use Rattle.open_handles.specs.Whole.{name_at}
 use Rattle.service_state.specs.Tables.{Tabled, content_in}
 use Rattle.handle_requests.specs.declared.own.Own.{Own}

@@ -14,7 +14,7 @@ use Rattle.pps_types.specs.Owed.{owed_in_seen}
 use Rattle.pps_types.specs.Content.{Content, LiveObject, own_handle, read_answer, news}
 use Rattle.pps_types.specs.Refused.{IsRefusedAs}
 use Rattle.name_table.specs.Standing.{Placed, known_of}
-use Rattle.engine_targets.specs.Opened.{handle_at}
+use Rattle.sub_reader.specs.Opened.{handle_at}
 use Rattle.notify_box.specs.Standing.{CanPark}
 use Rattle.whole_texts.specs.declared.answer.Effect.TheVariants.{Parks}
 use Rattle.server_queue.specs.declared.plan.GivenBlocks.{GivenBlocks}
@@ -53,7 +53,7 @@ Refuses a r = (refusal_in a ≡ Some r) ⊎ ((r ≡ OutOfMemory) × (takes_memor
 -- the handle reads, and everything of its target is read from this
 pub record IsReader (c : Content) (waits : Bool) (w : Source) (h : Open Seen) : Type 0 where
   pub reads : h.reads ≡ true
-  pub wait : h.wait ≡ waits
+  pub wait : h.options.wait ≡ waits
   pub source : w ≡ source_of c h
 
 -- nothing is owed of a list, and there is news

@@ -9,7 +9,7 @@ use Rattle.pps_types.specs.History.{Entry}
 use Rattle.pps_types.specs.Reading.{Open}
 use Rattle.pps_types.specs.Content.{Content, LiveObject, object_numbered, own_handle}
 use Rattle.pps_types.specs.Plan.{entry_of}
-use Rattle.engine_targets.specs.declared.opening.Opening.{Opening}
+use Rattle.sub_reader.specs.declared.opening.Opening.{Opening}
 use Rattle.service_state.specs.Tables.{Tabled, content_in}
 use Rattle.handle_requests.specs.declared.own.Own.{Own}
 use Rattle.handle_requests.specs.Own.{opened_as}
@@ -27,7 +27,7 @@ record_told kind object = option_and_then (λ (k : Kind). option_map (λ (o : Li
 
 -- the record that the close of a handle tells
 abbrev pub told_of : {S : Type 0} → Content → Open S → Option Entry
-told_of c h = record_told (kind_told (h.critical && h.writes) h.number h.kind) (object_numbered c h.target)
+told_of c h = record_told (kind_told (h.options.critical && h.writes) h.number h.kind) (object_numbered c h.target)
 
 -- ---- behind others of the same connection
 
@@ -47,7 +47,7 @@ told_behind c conn h = if is_orphan c conn h then None else told_of c h
 
 -- the kind of the record of its close
 abbrev pub kind_told_by : Opening → Option Kind
-kind_told_by o = kind_told (o.critical && o.writes) o.number o.kind
+kind_told_by o = kind_told (o.options.critical && o.writes) o.number o.kind
 
 -- the record of its close
 abbrev pub own_told : Tabled → Own → Option Entry

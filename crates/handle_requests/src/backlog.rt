@@ -7,10 +7,10 @@ ghost use Rattle.handle_requests.specs.Addressed.{is_client_of, has_client, reci
 ghost use Rattle.handle_requests.specs.Backlogs.{server_in, server_checks, first_backlogged, backlog_checks, message_checks};
 
 use crate::address::Recipient;
-use engine_targets::number_of;
 use open_handles::Opened;
 use pps_types::{Handle, HandleKind, ObjId, Refusal};
 use service_state::Tables;
+use sub_reader::number_of;
 
 // Whether a handle is a client's on the object of that number.
 fn is_client_of(opened: &Opened<'_>, object: ObjId) -> bool

@@ -11,9 +11,9 @@ ghost use Rattle.handle_requests.specs.Reads.{RefusesAs, LacksMemoryFor};
 use name_table::{NamedObject, Objects};
 use pps_filter::Filter;
 use pps_types::{HandleKind, Refusal};
-use server_queue::GivenBlocks;
+use server_queue::{GivenBlocks, too_small};
 use std::alloc::{AllocError, Global};
-use whole_texts::{Answer, Member, Whole, read_answer, too_small};
+use whole_texts::{Answer, Member, Whole, read_answer};
 
 // An alive object.
 fn member_of(object: &NamedObject) -> Member<'_>
@@ -106,7 +106,7 @@ fn everything_of(
         return Err(Refusal::OutOfMemory);
     };
     if len > size as usize {
-        return Err(too_small(len));
+        return Err(too_small(Some(len)));
     }
     let members = members_of(alloc, objects)?;
     Whole::new(kind, filter, over, true, &members).print_sized(alloc, len)

@@ -3,14 +3,14 @@
 #![tactic(auto)]
 
 mod address;
+mod attaching;
 mod backlog;
-mod closes;
+mod closing;
 mod directories;
 mod draft;
 mod gathering;
 mod message;
-mod notices;
-mod outboxes;
+mod notifying;
 mod owed;
 mod own;
 mod reading;
@@ -20,8 +20,8 @@ mod told;
 mod writer;
 mod writing;
 
-pub use closes::{Closing, close, detach};
-pub use notices::{Notified, notify};
-pub use outboxes::{attach, receive};
+pub use attaching::{attach, receive};
+pub use closing::{Closing, close, detach};
+pub use notifying::{Notified, notify};
 pub use reading::{ReadDone, read};
 pub use writing::{Written, write};

@@ -1,14 +1,14 @@
 //! What a read gives a handle of what it is owed.
 ghost use Rattle.std.specs.Prelude.{◌≡◌, ◌&&◌, is_none, IfOk, IfErr};
-ghost use Rattle.engine_targets.specs.HandleAt.{has_news_at, owed_at};
-ghost use Rattle.engine_servers.specs.Seated.{handles_of};
+ghost use Rattle.sub_reader.specs.HandleAt.{has_news_at, owed_at};
+ghost use Rattle.topics.specs.Seated.{handles_of};
 ghost use Rattle.handle_requests.specs.Reads.{IsOwedAt, RefusesAt};
 
 use crate::own::SeenHandle;
-use engine_targets::Glance;
 use pps_types::{Handle, Refusal};
 use server_queue::GivenBlocks;
 use std::alloc::Global;
+use sub_reader::Glance;
 
 // Whether a read of a reading handle gives everything.
 fn is_given_all(glance: &Glance<'_>) -> bool

@@ -2,15 +2,15 @@
 ghost use Rattle.std.specs.Prelude.{◌≡◌, option_map, IfSome};
 ghost use Rattle.std.specs.Option.{option_copied};
 ghost use Rattle.pps_types.specs.Reading as reading;
-ghost use Rattle.engine_targets.specs.Opened.{number_of};
+ghost use Rattle.sub_reader.specs.Opened.{number_of};
 ghost use Rattle.handle_requests.specs.Own.{opened_as, asked_opened, own_opened};
 ghost use Rattle.handle_requests.specs.Asked.{IsAsked};
 
-use engine_servers::Seats;
-use engine_targets::{Glance, Opening, is_directory_kind, number_of};
 use pps_filter::Filter;
 use pps_types::{Conn, Found, Handle, HandleKind};
 use service_state::Tables;
+use sub_reader::{Glance, Opening, is_directory_kind, number_of};
+use topics::Topic;
 
 /// An open handle of a connection: the object or the directory that it is on, and what its open fixed.
 #[derive(Drop)]
@@ -50,9 +50,9 @@ impl<'a> Own<'a> {
 
     /// Which lines it is given. Without it, all.
     pub fn filter(&self) -> Option<&'a Filter>
-        ensures { option_copied result ≡ self.now.opening.now.filter }
+        ensures { option_copied result ≡ self.now.opening.now.options.filter }
     {
-        self.opening.filter.as_ref()
+        self.opening.options.filter.as_ref()
     }
 
     /// What kind of handle it is.
@@ -78,9 +78,9 @@ impl<'a> Own<'a> {
 
     /// Whether a read that finds nothing new waits.
     pub fn waits(&self) -> bool
-        ensures { result ≡ self.now.opening.now.wait }
+        ensures { result ≡ self.now.opening.now.options.wait }
     {
-        self.opening.wait
+        self.opening.options.wait
     }
 
     /// How many records it may be owed in delta mode.
@@ -114,7 +114,7 @@ pub fn own_handle(tables: &Tables, conn: Conn, handle: Handle) -> Option<Own<'_>
 #[derive(Drop)]
 pub(crate) struct SeenHandle<'a> {
     pub(crate) own: Own<'a>,
-    pub(crate) seats: &'a Seats,
+    pub(crate) seats: &'a Topic,
     pub(crate) glance: Glance<'a>,
 }
 

@@ -19,7 +19,7 @@ fn kind_told(own: &Own<'_>) -> Option<Kind>
         HandleKind::Server => Some(Kind::Deleted),
         HandleKind::Client => Some(Kind::Closed(opening.number)),
         HandleKind::Object { .. } => {
-            if opening.critical && opening.writes {
+            if opening.options.critical && opening.writes {
                 Some(Kind::Dropped)
             } else {
                 None

@@ -6,8 +6,10 @@ use Rattle.std.specs.Fmt.{decimal, digits}
 use Rattle.std.specs.Result.{is_ok}
 use Rattle.std.specs.Ordering.{is_lt}
 use Rattle.pps_types.specs.Names.{path_cmp}
+use Rattle.pps_types.specs.Content.{Content}
 use Rattle.pps_types.specs.Machine.{start, content_of}
-use Rattle.pps_types.specs.Image.{SavedLine, Saved, SavedDirectory, SavedObject, saved, text_line, print_saved, image_text, image, Image, started, First, Behind, path_of, as_line}
+use Rattle.pps_types.specs.Image.{SavedLine, Saved, SavedDirectory, SavedObject, saved, text_line, print_saved, image_text, image, Image, started, First, Behind, path_of, as_line, IsImage}
+use Rattle.pps_types.specs.Stands.{Stands}
 use Rattle.pps_types.specs.Restore.{restore_directory, restore_object, restore_line}
 use Rattle.service_laws.proofs.WellSteps.{basis-in}
 use Rattle.service_laws.proofs.Law.{start-made}
@@ -123,6 +125,10 @@ starts-hold = record {
   entries = λ i is text. ap saved (images-start.stands i) ∙ (started-saves 65536 i (good i is text).entries).0;
   limit = λ i is text. ap (λ c. c.default_limit) (images-start.stands i) ∙ (started-saves 65536 i (good i is text).entries).1;
 }
+
+-- what has the content of what an image starts, stands for that machine
+pub starts-stand : (i : Image) → IsImage i → (c : Content) → c ≡ content_of (started i) → Stands c (started i)
+starts-stand i is c same = record { made = images-start.made i is; same = same }
 
 pub saved-again : SavedIsReadAgain
 saved-again = image-read

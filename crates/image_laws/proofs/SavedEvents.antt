@@ -78,7 +78,7 @@ parting-quiet : (c : Content) (h : Open Seen) (k : HandleKind) → AreQuiet (par
 parting-quiet c h ServerHandle = target-quiet c h Deleted None (λ d number. tt)
 parting-quiet c h ClientHandle = target-quiet c h (Closed h.number) None (λ d number. tt)
 parting-quiet c h NamesHandle = tt
-parting-quiet c h (ObjectHandle delta) = all-cond IsQuiet (h.critical && h.writes) _ [] (target-quiet c h Dropped None (λ d number. tt)) tt
+parting-quiet c h (ObjectHandle delta) = all-cond IsQuiet (h.options.critical && h.writes) _ [] (target-quiet c h Dropped None (λ d number. tt)) tt
 parting-quiet c h (DirectoryHandle delta) = tt
 
 closing-quiet : (c : Content) (h : Open Seen) → AreQuiet (closing c h)
@@ -225,7 +225,7 @@ module _ (c : Content) (b : Basis c) (s : CanBeSaved c) (mode : Mode) (spec : Op
 
   -- another's place is taken, or the object is opened as it is
   found-saving : (o : LiveObject) → object_at c spec.names ≡ Some o → AreSaving c (preparing c mode spec (Some o))
-  found-saving o e = go spec.server (is_some o.object.server) mode.t
+  found-saving o e = go spec.options.server (is_some o.object.server) mode.t
     where
       there : (k : ℕ) × (parent_number c spec.names ≡ Some k) × (object_in c (last_name spec.names) k ≡ Some o)
       there = object-found c spec.names o e
@@ -275,7 +275,7 @@ module _ (c : Content) (b : Basis c) (s : CanBeSaved c) (mode : Mode) (spec : Op
 
       room : length c.objects < 65535
       room =
-          let rest = passes-both (Refuse (true && not mode.c) Refusal.NotFound ∷ Refuse false Refusal.IsDirectory ∷ Refuse (spec.server && false) Refusal.Busy ∷ []) (handle_checks c ++ object_checks c spec.names) p in
+          let rest = passes-both (Refuse (true && not mode.c) Refusal.NotFound ∷ Refuse false Refusal.IsDirectory ∷ Refuse (spec.options.server && false) Refusal.Busy ∷ []) (handle_checks c ++ object_checks c spec.names) p in
           let tests = all-pass (object_checks c spec.names) (passes-both (handle_checks c) (object_checks c spec.names) rest.1).1 in
           grind (arith, nat_tests, tests.1.0)
 

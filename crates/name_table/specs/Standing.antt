@@ -1,6 +1,7 @@
 -- What stands of objects and directories, and the memory that was taken for more.
 use Rattle.std.specs.Prelude.{◌≡◌, ◌<◌, ℕ, Bool, List, [], ◌∷◌, Option, None, Some, Ok, IfSome, is_some, map, fold, if◌then◌else◌}
 use Rattle.std.specs.Option.{option_and_then}
+use Rattle.std.specs.Coded.{Coded}
 use Rattle.pps_types.specs.Names.{Path, find_at, parent}
 use Rattle.pps_types.specs.declared.found.Found.TheVariants.{Directory as FoundDirectory}
 use Rattle.pps_types.specs.declared.refusal.Refusal.{Refusal}
@@ -13,7 +14,7 @@ use Rattle.pps_types.specs.History.{Entry, apply_line}
 use Rattle.pps_types.specs.WellFormed.{directory_numbered}
 use Rattle.pps_types.specs.Plan.{Move, Creates, AppendsRecord, apply_seen}
 use Rattle.object_state.specs.Held.{Held}
-use Rattle.alloc_tree.specs.Held.{Held as Tree, IsReady}
+use Rattle.alloc_tree.specs.Held.{Held as Tree, IsReady, coded_held}
 use Rattle.alloc_tree.specs.declared.kind.NodeKind.TheVariants.{Object as AnObject, Directory as ADirectory}
 use Rattle.number_table.specs.Numbered.{Entry as Numbering, Numbered, value_at}
 
@@ -174,3 +175,7 @@ pub record IsCopy (old copy : Placed) : Type 0 where
   pub known : known_of copy ≡ known_of old
   pub path : copy.path ≡ old.path
   pub bare : copy.held.ready ≡ None
+
+-- the tree's code, for what is seen as names among other parts
+abbrev pub coded_tree : Coded Tree
+coded_tree = coded_held

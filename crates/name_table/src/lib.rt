@@ -13,5 +13,5 @@ pub use alloc_tree::Lent;
 pub use laws::{members_are_listed, moves_are_told, questions_are_told};
 pub use members::Objects;
 pub use named::{NamedDirectory, NamedObject};
-pub use names::Names;
+pub use names::{NamedDirectories, NamedObjects, Names};
 pub use paths::{last_name, parent};

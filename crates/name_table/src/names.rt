@@ -24,6 +24,12 @@ use pps_types::{Bytes, DirId, Found, Handle, Line, ObjId, Refusal};
 use std::alloc::{AllocError, Global};
 use std::marker::Model;
 
+/// The alive objects of names in rising number, one after the other.
+pub type NamedObjects<'a> = Iter<'a, NamedObject>;
+
+/// The directories of names in rising number, one after the other.
+pub type NamedDirectories<'a> = Iter<'a, NamedDirectory>;
+
 /// The names of a service, with the objects and the directories that they lead to.
 ///
 /// Objects and directories stand under numbers that rise and never come again. A path is its names from the root on,
@@ -371,7 +377,7 @@ impl Names {
     /// The alive objects in rising number, as the names lend them. It takes no memory.
     ///
     /// Each has the path of its directory with its name behind it.
-    pub fn objects(&self) -> Iter<'_, NamedObject>
+    pub fn objects(&self) -> NamedObjects<'_>
         ensures known { map known_of result ≡ (standing_of self.now).objects }
         ensures paths { AllByRecursion (HasPath (named_content self.now)) result }
     {
@@ -379,7 +385,7 @@ impl Names {
     }
 
     /// The directories in rising number, with the root, as the names lend them. It takes no memory.
-    pub fn directories(&self) -> Iter<'_, NamedDirectory>
+    pub fn directories(&self) -> NamedDirectories<'_>
         ensures { result ≡ (standing_of self.now).directories }
     {
         self.directories.iter()

@@ -9,8 +9,8 @@ use Rattle.pps_types.specs.WellFormed.{AreRising}
 use Rattle.service_laws.proofs.Finds.{all-imp, some-of, find-push, find-last}
 use Rattle.service_laws.proofs.Rising.{rising-below}
 use Rattle.number_table.specs.Numbered.{Entry as Numbering, has_number, value_under}
-use Rattle.engine_targets.specs.Opened.{handle_at, is_directory, number_of}
-use Rattle.engine_targets.specs.Seated.{AreSeated}
+use Rattle.sub_reader.specs.Opened.{handle_at, is_directory, number_of}
+use Rattle.sub_reader.specs.Seated.{AreSeated}
 use Rattle.open_handles.specs.Whole.{row_handle, AreRowed}
 use Rattle.open_handles.proofs.Finds.{found_cases, NoneNumbered, none_at}
 use Rattle.open_handles.proofs.Rows.{none_anywhere}

@@ -9,37 +9,37 @@ use Rattle.pps_types.specs.declared.found.Found.TheVariants.{Object as FoundObje
 use Rattle.pps_types.specs.Owed.{longest_rest}
 use Rattle.pps_types.specs.WellFormed.{AreRising}
 use Rattle.number_table.specs.Numbered.{Entry as Numbering, Numbered, value_under, has_number, IsCloneEntry}
-use Rattle.engine_targets.specs.Opened.{is_directory, number_of}
-use Rattle.engine_servers.specs.declared.seats.Seats.{Seats}
-use Rattle.engine_servers.specs.Seated.{target_of, kept_of, IsCopy}
+use Rattle.sub_reader.specs.Opened.{is_directory, number_of}
+use Rattle.topics.specs.declared.topic.Topic.{Topic}
+use Rattle.topics.specs.Seated.{target_of, kept_of, IsCopy}
 use Rattle.open_handles.specs.declared.places.Places.{Places}
 use Rattle.open_handles.specs.Whole.{IsWhole, ArePlaced, AreRowed, HoldsWhatIsOwed, site_of, site_at, kept_at, place_at, handles_on, handles_in, handles_in_place, row_handle}
 use Rattle.open_handles.proofs.Wholes.{same_rowed, same_filter}
 use Rattle.open_handles.proofs.Turns.{whole_of}
 
 -- the one is a copy of the other, or neither is there
-abbrev pub AreAlike : Option Seats → Option Seats → Type 0
+abbrev pub AreAlike : Option Topic → Option Topic → Type 0
 AreAlike None None = Unit {0}
 AreAlike None (Some t) = ⊥
 AreAlike (Some s) None = ⊥
 AreAlike (Some s) (Some t) = IsCopy s t
 
-abbrev AreCopies : List (Numbering Seats) → List (Numbering Seats) → Type 0
+abbrev AreCopies : List (Numbering Topic) → List (Numbering Topic) → Type 0
 AreCopies es fs = AllZip (IsCloneEntry IsCopy) es fs
 
-alike_under : (n : ℕ) (es fs : List (Numbering Seats)) → AreCopies es fs → AreAlike (value_under n es) (value_under n fs)
+alike_under : (n : ℕ) (es fs : List (Numbering Topic)) → AreCopies es fs → AreAlike (value_under n es) (value_under n fs)
 alike_under n [] [] z = tt
 alike_under n [] (f ∷ fs) z = absurd z
 alike_under n (e ∷ es) [] z = absurd z
 alike_under n (e ∷ es) (f ∷ fs) z =
-    subst (λ m. AreAlike (value_under n (e ∷ es)) (option_map (λ (x : Numbering Seats). x.value) (cond (m == n) (Some f) (find (has_number n) fs)))) (sym z.0.0) (by (e.number == n) (alike_under n es fs z.1))
+    subst (λ m. AreAlike (value_under n (e ∷ es)) (option_map (λ (x : Numbering Topic). x.value) (cond (m == n) (Some f) (find (has_number n) fs)))) (sym z.0.0) (by (e.number == n) (alike_under n es fs z.1))
   where
     by : (b : Bool) → AreAlike (value_under n es) (value_under n fs)
-        → AreAlike (option_map (λ (x : Numbering Seats). x.value) (cond b (Some e) (find (has_number n) es))) (option_map (λ (x : Numbering Seats). x.value) (cond b (Some f) (find (has_number n) fs)))
+        → AreAlike (option_map (λ (x : Numbering Topic). x.value) (cond b (Some e) (find (has_number n) es))) (option_map (λ (x : Numbering Topic). x.value) (cond b (Some f) (find (has_number n) fs)))
     by true rest = z.0.1
     by false rest = rest
 
-copied_numbers : (es fs : List (Numbering Seats)) → AreCopies es fs → map (λ (e : Numbering Seats). e.number) fs ≡ map (λ (e : Numbering Seats). e.number) es
+copied_numbers : (es fs : List (Numbering Topic)) → AreCopies es fs → map (λ (e : Numbering Topic). e.number) fs ≡ map (λ (e : Numbering Topic). e.number) es
 copied_numbers [] [] z = refl
 copied_numbers [] (f ∷ fs) z = absurd z
 copied_numbers (e ∷ es) [] z = absurd z
@@ -47,29 +47,29 @@ copied_numbers (e ∷ es) (f ∷ fs) z = λ i. z.0.0 i ∷ copied_numbers es fs 
 
 -- ---- what is told of a place
 
-alike_handles : (o u : Option Seats) → AreAlike o u → handles_in_place u ≡ handles_in_place o
+alike_handles : (o u : Option Topic) → AreAlike o u → handles_in_place u ≡ handles_in_place o
 alike_handles None None a = refl
 alike_handles None (Some t) a = absurd a
 alike_handles (Some s) None a = absurd a
 alike_handles (Some s) (Some t) a = a.handles
 
-alike_site : (o u : Option Seats) → AreAlike o u → option_map site_of u ≡ option_map site_of o
+alike_site : (o u : Option Topic) → AreAlike o u → option_map site_of u ≡ option_map site_of o
 alike_site None None a = refl
 alike_site None (Some t) a = absurd a
 alike_site (Some s) None a = absurd a
 alike_site (Some s) (Some t) a = λ i. Some (record { name = a.same.name i; service = a.same.service i })
 
-alike_kept : (o u : Option Seats) → AreAlike o u → option_map_or kept_of u [] ≡ option_map_or kept_of o []
+alike_kept : (o u : Option Topic) → AreAlike o u → option_map_or kept_of u [] ≡ option_map_or kept_of o []
 alike_kept None None a = refl
 alike_kept None (Some t) a = absurd a
 alike_kept (Some s) None a = absurd a
 alike_kept (Some s) (Some t) a = a.kept
 
-alike_target : (o : Option Seats) (t : Seats) (f : Found) → AreAlike o (Some t) → ((s : Seats) → o ≡ Some s → target_of s ≡ f) → target_of t ≡ f
+alike_target : (o : Option Topic) (t : Topic) (f : Found) → AreAlike o (Some t) → ((s : Topic) → o ≡ Some s → target_of s ≡ f) → target_of t ≡ f
 alike_target None t f a on = absurd a
 alike_target (Some s) t f a on = a.same.target ∙ on s refl
 
-alike_exact : (o : Option Seats) (t : Seats) → AreAlike o (Some t) → ((s : Seats) → o ≡ Some s → HoldsWhatIsOwed s) → HoldsWhatIsOwed t
+alike_exact : (o : Option Topic) (t : Topic) → AreAlike o (Some t) → ((s : Topic) → o ≡ Some s → HoldsWhatIsOwed s) → HoldsWhatIsOwed t
 alike_exact None t a exact = absurd a
 alike_exact (Some s) t a exact =
     a.kept ∙ exact s refl ∙ sym (λ i. longest_rest (is_directory (a.same.target i)) (number_of (a.same.target i)) (a.handles i))
@@ -100,8 +100,8 @@ module _ (rows more : Numbered Found) (p q : Places) (whole : IsWhole (whole_of 
       subst (λ m. AreRowed (handles_on q) more.entries m) (sym next)
       (subst (λ es. AreRowed (handles_on q) es rows.next) (sym entries) (same_rowed (handles_on p) (handles_on q) rows.entries rows.next same_on whole.rowed))
 
-  copied_rise : (es fs : List (Numbering Seats)) (m n : ℕ) → AreCopies es fs → n ≡ m → AreRising 0 (map (λ (e : Numbering Seats). e.number) es) m → AreRising 0 (map (λ (e : Numbering Seats). e.number) fs) n
-  copied_rise es fs m n z same rise = subst (λ m. AreRising 0 (map (λ (e : Numbering Seats). e.number) fs) m) (sym same) (subst (λ ns. AreRising 0 ns m) (sym (copied_numbers es fs z)) rise)
+  copied_rise : (es fs : List (Numbering Topic)) (m n : ℕ) → AreCopies es fs → n ≡ m → AreRising 0 (map (λ (e : Numbering Topic). e.number) es) m → AreRising 0 (map (λ (e : Numbering Topic). e.number) fs) n
+  copied_rise es fs m n z same rise = subst (λ m. AreRising 0 (map (λ (e : Numbering Topic). e.number) fs) m) (sym same) (subst (λ ns. AreRising 0 ns m) (sym (copied_numbers es fs z)) rise)
 
   copied_places : ArePlaced q
   copied_places = record {

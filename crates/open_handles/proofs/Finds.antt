@@ -10,7 +10,7 @@ use Rattle.pps_types.specs.Plan.{on_numbered, without_number}
 use Rattle.pps_types.specs.WellFormed.{AreRising}
 use Rattle.service_laws.proofs.Finds.{find-true}
 use Rattle.pps_types.specs.Rising.{AllAbove, IsRising}
-use Rattle.engine_targets.specs.Opened.{handle_at}
+use Rattle.sub_reader.specs.Opened.{handle_at}
 
 -- ---- two of them are the same, or not
 

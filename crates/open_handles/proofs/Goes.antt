@@ -8,7 +8,7 @@ use Rattle.pps_types.specs.Rests.{Seen}
 use Rattle.pps_types.specs.WellFormed.{AreRising}
 use Rattle.service_laws.proofs.Rising.{rising-lower}
 use Rattle.number_table.specs.Numbered.{Entry as Numbering, Numbered, has_number, value_under, without_first}
-use Rattle.engine_servers.specs.declared.seats.Seats.{Seats}
+use Rattle.topics.specs.declared.topic.Topic.{Topic}
 use Rattle.open_handles.specs.Whole.{Whole, IsWhole, handles_in, handles_at, handles_in_place, seats_at, KeepsRecords}
 use Rattle.open_handles.proofs.Wholes.{bare_handles, bare_whole, bare_records}
 
@@ -70,7 +70,7 @@ stayed : (f : Found) (old new : Whole) → IsWhole old → (handles_at f old ≡
 stayed f old new whole some same = subst (λ w. IsDropped f old w) (sym same) (record { whole = whole; handles = refl; gone = λ none. absurd (some none); used = λ some. refl; others = λ g other. refl; records = λ es room. room })
 
 went : (f : Found) (old new : Whole) (whole : IsWhole old) → handles_at f old ≡ [] → seats_at f new ≡ None → new.rows ≡ old.rows → ((g : Found) → (g ≡ f → ⊥) → seats_at g new ≡ seats_at g old)
-    → AreRising 0 (map (λ (e : Numbering Seats). e.number) new.objects.entries) new.objects.next → AreRising 0 (map (λ (e : Numbering Seats). e.number) new.directories.entries) new.directories.next → IsDropped f old new
+    → AreRising 0 (map (λ (e : Numbering Topic). e.number) new.objects.entries) new.objects.next → AreRising 0 (map (λ (e : Numbering Topic). e.number) new.directories.entries) new.directories.next → IsDropped f old new
 went f old new whole none here rows elsewhere objects_rise directories_rise =
     let next : new.rows.next ≡ old.rows.next = ap (λ (t : Numbered Found). t.next) rows in
     let entries : new.rows.entries ≡ old.rows.entries = ap (λ (t : Numbered Found). t.entries) rows in
@@ -88,7 +88,7 @@ empty_or : (hs : List (Open Seen)) (A : Type 0) → (hs ≡ [] → A) → ((hs �
 empty_or [] A yes_case no_case = yes_case refl
 empty_or (h ∷ hs) A yes_case no_case = no_case (λ e. cc)
 
-module _ (rows : Numbered Found) (objects directories : Numbered Seats) (whole : IsWhole (record { rows = rows; objects = objects; directories = directories })) (n m : ℕ) (same : m ≡ n) (more : Numbered Seats) where
+module _ (rows : Numbered Found) (objects directories : Numbered Topic) (whole : IsWhole (record { rows = rows; objects = objects; directories = directories })) (n m : ℕ) (same : m ≡ n) (more : Numbered Topic) where
   abbrev old_object : Whole
   old_object = record { rows = rows; objects = objects; directories = directories }
 
@@ -104,7 +104,7 @@ module _ (rows : Numbered Found) (objects directories : Numbered Seats) (whole :
           let are : more.entries ≡ without_first (has_number n) objects.entries = gone none ∙ ap (λ k. without_first (has_number k) objects.entries) same in
           went (FoundObject n) old_object new_object whole (ap (λ k. handles_in_place (value_under k objects.entries)) (sym same) ∙ none) (ap (value_under n) are ∙ under_gone n 0 objects.next objects.entries whole.placed.objects_rise) refl
           (elsewhere are)
-          (subst (λ k. AreRising 0 (map (λ (e : Numbering Seats). e.number) more.entries) k) (sym next) (subst (λ es. AreRising 0 (map (λ (e : Numbering Seats). e.number) es) objects.next) (sym are) (rise_without n 0 objects.next objects.entries whole.placed.objects_rise)))
+          (subst (λ k. AreRising 0 (map (λ (e : Numbering Topic). e.number) more.entries) k) (sym next) (subst (λ es. AreRising 0 (map (λ (e : Numbering Topic). e.number) es) objects.next) (sym are) (rise_without n 0 objects.next objects.entries whole.placed.objects_rise)))
           whole.placed.directories_rise
         where
           elsewhere : more.entries ≡ without_first (has_number n) objects.entries → (g : Found) → (g ≡ FoundObject n → ⊥) → seats_at g new_object ≡ seats_at g old_object
@@ -130,7 +130,7 @@ module _ (rows : Numbered Found) (objects directories : Numbered Seats) (whole :
           went (FoundDirectory n) old_directory new_directory whole (ap (λ k. handles_in_place (value_under k directories.entries)) (sym same) ∙ none) (ap (value_under n) are ∙ under_gone n 0 directories.next directories.entries whole.placed.directories_rise) refl
           (elsewhere are)
           whole.placed.objects_rise
-          (subst (λ k. AreRising 0 (map (λ (e : Numbering Seats). e.number) more.entries) k) (sym next) (subst (λ es. AreRising 0 (map (λ (e : Numbering Seats). e.number) es) directories.next) (sym are) (rise_without n 0 directories.next directories.entries whole.placed.directories_rise)))
+          (subst (λ k. AreRising 0 (map (λ (e : Numbering Topic). e.number) more.entries) k) (sym next) (subst (λ es. AreRising 0 (map (λ (e : Numbering Topic). e.number) es) directories.next) (sym are) (rise_without n 0 directories.next directories.entries whole.placed.directories_rise)))
         where
           elsewhere : more.entries ≡ without_first (has_number n) directories.entries → (g : Found) → (g ≡ FoundDirectory n → ⊥) → seats_at g new_directory ≡ seats_at g old_directory
           elsewhere are (FoundDirectory k) other = ap (value_under k) are ∙ under_other k n (λ is. other (ap FoundDirectory is)) directories.entries

@@ -7,6 +7,7 @@ pub mod Turns
 pub mod Meets
 pub mod Goes
 pub mod Offers
+pub mod Firsts
 pub mod Reserves
 pub mod Wakes
 pub mod Copied

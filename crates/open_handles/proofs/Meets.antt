@@ -12,8 +12,8 @@ use Rattle.pps_types.specs.Owed.{is_of, rest_seen, longer, longest_rest, same_fl
 use Rattle.service_laws.proofs.Finds.{all-find}
 use Rattle.pps_types.specs.Rising.{AllAbove, IsRising}
 use Rattle.number_table.specs.Numbered.{Entry as Numbering, value_under}
-use Rattle.engine_targets.specs.Opened.{handle_at, is_directory, number_of}
-use Rattle.engine_targets.specs.Seated.{IsSeated}
+use Rattle.sub_reader.specs.Opened.{handle_at, is_directory, number_of}
+use Rattle.sub_reader.specs.Seated.{IsSeated}
 use Rattle.open_handles.specs.Whole.{row_handle, AreRowed, is_on}
 use Rattle.open_handles.proofs.Finds.{some_is, differ, found_cases, none_at, none_above}
 use Rattle.open_handles.proofs.Rows.{found_in, all_rise, none_elsewhere, none_anywhere}

@@ -12,11 +12,11 @@ use Rattle.service_laws.proofs.Finds.{all-imp}
 use Rattle.service_laws.specs.Concerned.{is_concerned}
 use Rattle.service_laws.proofs.SettlingUntouched.{offer_all-untouched}
 use Rattle.number_table.specs.Numbered.{Entry as Numbering, Numbered, value_under}
-use Rattle.engine_targets.specs.Opened.{handle_at, is_directory, number_of}
-use Rattle.engine_targets.specs.Seated.{AreSeated, IsSeated}
-use Rattle.engine_servers.specs.declared.seats.Seats.{Seats}
-use Rattle.engine_servers.specs.declared.seats.Seats.TheVariants.{Readers, Service}
-use Rattle.engine_servers.specs.Seated.{target_of, handles_of, is_service, IsSameTarget, IsEnough, IsReady as IsReadyIn}
+use Rattle.sub_reader.specs.Opened.{handle_at, is_directory, number_of}
+use Rattle.sub_reader.specs.Seated.{AreSeated, IsSeated}
+use Rattle.topics.specs.declared.topic.Topic.{Topic}
+use Rattle.topics.specs.declared.topic.Topic.TheVariants.{Readers, Served}
+use Rattle.topics.specs.Seated.{target_of, handles_of, is_service, IsSameTarget, IsEnough, IsReady as IsReadyIn}
 use Rattle.open_handles.specs.declared.places.Places.{Places}
 use Rattle.open_handles.specs.Whole.{IsRight, Whole, IsWhole, AreRowed, row_handle, place_at, with_place, handles_on, handles_in, handles_at, handles_in_place, seats_at, site_of, Site, IsSharedAt, HasRoom, HasRoomIn, HasRoomAt, is_told}
 use Rattle.open_handles.proofs.Finds.{found_cases}
@@ -61,7 +61,7 @@ same_numbers e (h ∷ hs) = ap (λ ns. h.number ∷ ns) (same_numbers e hs)
 
 -- ---- in one place
 
-module _ (rows : Numbered Found) (p : Places) (whole : IsWhole (whole_of rows p)) (f : Found) (s t : Seats) (found : place_at f p ≡ Some s) (same : IsSameTarget s t)
+module _ (rows : Numbered Found) (p : Places) (whole : IsWhole (whole_of rows p)) (f : Found) (s t : Topic) (found : place_at f p ≡ Some s) (same : IsSameTarget s t)
     (right : IsRight t) (e : Entry) (is : handles_of t ≡ map (offer e) (handles_of s)) where
   pub offered_here : handles_on (with_place p f t) f ≡ map (offer e) (handles_on p f)
   offered_here = with_handles p f s t whole.placed found same.target ∙ is ∙ ap (map (offer e)) (sym (old_handles p f s t whole.placed found same.target))
@@ -79,7 +79,7 @@ module _ (rows : Numbered Found) (p : Places) (whole : IsWhole (whole_of rows p)
     placed = with_placed p f s t whole.placed found same.target right.exact;
   }
 
-pub room_after : (p : Places) (f : Found) (s t : Seats) (found : place_at f p ≡ Some s) (P : Seats → Type 0) → P t → IfSome (place_at f (with_place p f t)) P
+pub room_after : (p : Places) (f : Found) (s t : Topic) (found : place_at f p ≡ Some s) (P : Topic → Type 0) → P t → IfSome (place_at f (with_place p f t)) P
 room_after p f s t found P holds = subst (λ o. IfSome o P) (sym (with_found p f s t found)) holds
 
 pub if_here : {X : Type 0} (o : Option X) (x : X) (P : X → Type 0) → o ≡ Some x → IfSome o P → P x
@@ -90,19 +90,19 @@ if_none o P is = subst (λ o. IfSome o P) (sym is) tt
 
 -- ---- shares
 
-enough_service : (e : Entry) (count : ℕ) (s : Seats) → (is_service s ≡ true → length (filter (λ (h : Open Seen). visible h e) (handles_of s)) ≤ count) → IsEnough count e s
+enough_service : (e : Entry) (count : ℕ) (s : Topic) → (is_service s ≡ true → length (filter (λ (h : Open Seen). visible h e) (handles_of s)) ≤ count) → IsEnough count e s
 enough_service e count (Readers t) is = tt
-enough_service e count (Service s) is = is refl
+enough_service e count (Served s) is = is refl
 
-service_enough : (e : Entry) (count : ℕ) (s : Seats) → IsEnough count e s → is_service s ≡ true → length (filter (λ (h : Open Seen). visible h e) (handles_of s)) ≤ count
+service_enough : (e : Entry) (count : ℕ) (s : Topic) → IsEnough count e s → is_service s ≡ true → length (filter (λ (h : Open Seen). visible h e) (handles_of s)) ≤ count
 service_enough e count (Readers t) is bad = absurd cc
-service_enough e count (Service s) is same = is
+service_enough e count (Served s) is same = is
 
-enough_directory : (e : Entry) (count : ℕ) (s : Seats) (f : Found) → target_of s ≡ f → is_directory f ≡ true → IsEnough count e s
+enough_directory : (e : Entry) (count : ℕ) (s : Topic) (f : Found) → target_of s ≡ f → is_directory f ≡ true → IsEnough count e s
 enough_directory e count (Readers t) f on is = tt
-enough_directory e count (Service s) f on is = absurd (let bad : false ≡ true = ap is_directory on ∙ is in cc)
+enough_directory e count (Served s) f on is = absurd (let bad : false ≡ true = ap is_directory on ∙ is in cc)
 
-pub enough_here : (rows : Numbered Found) (p : Places) (whole : IsWhole (whole_of rows p)) (f : Found) (s : Seats) (e : Entry) (count : ℕ) → place_at f p ≡ Some s → (is_directory f ≡ false → IsSharedAt count e f (whole_of rows p)) → IsEnough count e s
+pub enough_here : (rows : Numbered Found) (p : Places) (whole : IsWhole (whole_of rows p)) (f : Found) (s : Topic) (e : Entry) (count : ℕ) → place_at f p ≡ Some s → (is_directory f ≡ false → IsSharedAt count e f (whole_of rows p)) → IsEnough count e s
 enough_here rows p whole f s e count found shared = by (is_directory f) refl
   where
     by : (b : Bool) → is_directory f ≡ b → IsEnough count e s
@@ -111,10 +111,10 @@ enough_here rows p whole f s e count found shared = by (is_directory f) refl
         let here : is_service s ≡ true → length (filter (λ (h : Open Seen). visible h e) (handles_in_place (place_at f p))) ≤ count = subst (λ o. IfSome (option_map site_of o) (λ (x : Site). x.service ≡ true → length (filter (λ (h : Open Seen). visible h e) (handles_in_place (place_at f p))) ≤ count)) found (shared is) in
         enough_service e count s (λ is. subst (λ o. length (filter (λ (h : Open Seen). visible h e) (handles_in_place o)) ≤ count) found (here is))
 
-pub shared_here : (rows : Numbered Found) (p : Places) (f : Found) (o : Option Seats) (e : Entry) (count : ℕ) → o ≡ place_at f p → IfSome o (IsEnough count e) → IsSharedAt count e f (whole_of rows p)
+pub shared_here : (rows : Numbered Found) (p : Places) (f : Found) (o : Option Topic) (e : Entry) (count : ℕ) → o ≡ place_at f p → IfSome o (IsEnough count e) → IsSharedAt count e f (whole_of rows p)
 shared_here rows p f o e count at enough = subst (λ o. IfSome (option_map site_of o) (λ (x : Site). x.service ≡ true → length (filter (λ (h : Open Seen). visible h e) (handles_in_place o)) ≤ count)) at (by o enough)
   where
-    by : (o : Option Seats) → IfSome o (IsEnough count e) → IfSome (option_map site_of o) (λ (x : Site). x.service ≡ true → length (filter (λ (h : Open Seen). visible h e) (handles_in_place o)) ≤ count)
+    by : (o : Option Topic) → IfSome o (IsEnough count e) → IfSome (option_map site_of o) (λ (x : Site). x.service ≡ true → length (filter (λ (h : Open Seen). visible h e) (handles_in_place o)) ≤ count)
     by None enough = tt
     by (Some s) enough = service_enough e count s enough
 
@@ -148,7 +148,7 @@ module _ (old mid new : Whole) (whole : IsWhole old) (e : Entry) (rows : new.row
     room_if : (w : Whole) (es : List Entry) → HasRoom es w → (g : Found) → HasRoomIn es g w
     room_if w es room g = by (seats_at g w) refl
       where
-        by : (o : Option Seats) → seats_at g w ≡ o → IfSome o (HasRoomAt es g)
+        by : (o : Option Topic) → seats_at g w ≡ o → IfSome o (HasRoomAt es g)
         by None at = tt
         by (Some s) at = room g s at
 
@@ -174,7 +174,7 @@ map_some : (e : Entry) (hs : List (Open Seen)) → 0 < length (map (offer e) hs)
 map_some e [] lt = lt
 map_some e (h ∷ hs) lt = omega arith
 
-pub room_rest : (f : Found) (s t : Seats) (e : Entry) (es : List Entry) → is_told f e ≡ true → handles_of t ≡ map (offer e) (handles_of s) → ((es : List Entry) → 0 < length (handles_of s) → IsReadyIn (e ∷ es) s → IsReadyIn es t) → HasRoomAt (e ∷ es) f s → HasRoomAt es f t
+pub room_rest : (f : Found) (s t : Topic) (e : Entry) (es : List Entry) → is_told f e ≡ true → handles_of t ≡ map (offer e) (handles_of s) → ((es : List Entry) → 0 < length (handles_of s) → IsReadyIn (e ∷ es) s → IsReadyIn es t) → HasRoomAt (e ∷ es) f s → HasRoomAt es f t
 room_rest f s t e es told is keeps room some there =
     let lived : 0 < length (handles_of s) = map_some e (handles_of s) (subst (λ hs. 0 < length hs) is some) in
     keeps (filter (is_told f) es) lived
@@ -186,7 +186,7 @@ pub room_mid : (old mid : Whole) (e e2 : Entry) (f : Found) → e2 ≡ e → sea
 room_mid old mid e e2 f same at room =
     subst (λ x. HasRoomIn (x ∷ []) f mid) (sym same) (subst (λ o. IfSome o (HasRoomAt (e ∷ []) f)) (sym at) (by (seats_at f old) refl))
   where
-    by : (o : Option Seats) → seats_at f old ≡ o → IfSome o (HasRoomAt (e ∷ []) f)
+    by : (o : Option Topic) → seats_at f old ≡ o → IfSome o (HasRoomAt (e ∷ []) f)
     by None at = tt
     by (Some s) at = room f s at
 

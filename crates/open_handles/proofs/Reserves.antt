@@ -11,10 +11,10 @@ use Rattle.pps_types.specs.Rests.{Seen}
 use Rattle.service_laws.proofs.Finds.{all-imp}
 use Rattle.number_table.specs.Numbered.{Numbered}
 use Rattle.server_queue.specs.Senders.{client_messages}
-use Rattle.engine_servers.specs.Standing.{Spare, HaveRoom, messages_in}
-use Rattle.engine_servers.specs.declared.seats.Seats.{Seats}
-use Rattle.engine_servers.specs.declared.seats.Seats.TheVariants.{Readers, Service}
-use Rattle.engine_servers.specs.Seated.{handles_of, places_of as places_for, IsReady, IsSameTarget, KeepsRoom}
+use Rattle.topics.specs.Standing.{Spare, HaveRoom, messages_in}
+use Rattle.topics.specs.declared.topic.Topic.{Topic}
+use Rattle.topics.specs.declared.topic.Topic.TheVariants.{Readers, Served}
+use Rattle.topics.specs.Seated.{handles_of, places_of as places_for, IsReady, IsSameTarget, KeepsRoom}
 use Rattle.open_handles.specs.declared.places.Places.{Places}
 use Rattle.open_handles.specs.Whole.{IsRight, Whole, IsWhole, place_at, with_place, seats_at, is_told, HasRoom, IsReadyAt, IsReadyFor, IsReserved, KeepsTable}
 use Rattle.open_handles.proofs.Finds.{found_cases}
@@ -57,13 +57,13 @@ have_fewer q es (h ∷ hs) (s ∷ ss) have = (
   have_fewer q es hs ss have.1,
 )
 
-ready_fewer : (q : Entry → Bool) (es : List Entry) (s : Seats) → IsReady es s → IsReady (filter q es) s
+ready_fewer : (q : Entry → Bool) (es : List Entry) (s : Topic) → IsReady es s → IsReady (filter q es) s
 ready_fewer q es (Readers t) ready = let le = short q es in let most : length es ≤ t.room = ready in omega arith
-ready_fewer q es (Service s) ready = have_fewer q es s.handles s.spares ready
+ready_fewer q es (Served s) ready = have_fewer q es s.handles s.spares ready
 
 -- ---- one place
 
-module _ (rows : Numbered Found) (p : Places) (whole : IsWhole (whole_of rows p)) (f : Found) (s t : Seats) (found : place_at f p ≡ Some s) (same : IsSameTarget s t)
+module _ (rows : Numbered Found) (p : Places) (whole : IsWhole (whole_of rows p)) (f : Found) (s t : Topic) (found : place_at f p ≡ Some s) (same : IsSameTarget s t)
     (right : IsRight t) (is : handles_of t ≡ handles_of s) (room : KeepsRoom s t) (places : places_for t ≡ places_for s) where
   pub reserved_here : IsReserved (whole_of rows p) (whole_of rows (with_place p f t))
   reserved_here = record {
@@ -116,7 +116,7 @@ all_more P xs i x lt is all p = subst (λ n. AllByRecursion P (take n xs)) (let 
 
 -- ---- in all
 
-told_ready : (es : List Entry) (w : Whole) (f : Found) (s : Seats) → seats_at f w ≡ Some s → (xs : List Entry) → AllByRecursion (IsReadyFor es w) xs → 0 < length (filter (is_told f) xs) → IsReady es s
+told_ready : (es : List Entry) (w : Whole) (f : Found) (s : Topic) → seats_at f w ≡ Some s → (xs : List Entry) → AllByRecursion (IsReadyFor es w) xs → 0 < length (filter (is_told f) xs) → IsReady es s
 told_ready es w f s at [] all some = absurd (omega arith)
 told_ready es w f s at (x ∷ xs) all some = by (is_told f x) refl some (told_ready es w f s at xs all.1)
   where

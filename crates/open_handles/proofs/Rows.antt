@@ -11,8 +11,8 @@ use Rattle.service_laws.proofs.Finds.{all-imp, all-both}
 use Rattle.service_laws.proofs.Rising.{rising-lower, rising-above}
 use Rattle.pps_types.specs.Rising.{IsRising}
 use Rattle.number_table.specs.Numbered.{Entry as Numbering, has_number, value_under, without_first}
-use Rattle.engine_targets.specs.Opened.{handle_at, is_directory, number_of}
-use Rattle.engine_targets.specs.Seated.{AreSeated}
+use Rattle.sub_reader.specs.Opened.{handle_at, is_directory, number_of}
+use Rattle.sub_reader.specs.Seated.{AreSeated}
 use Rattle.open_handles.specs.Whole.{row_handle, AreRowed}
 use Rattle.open_handles.proofs.Finds.{some_is, differ, found_cases, at_number, at_map, all_map, NoneNumbered, is_rising, where_numbered, same_number, unchanged, changed_map, at_without, all_without, none_without}
 

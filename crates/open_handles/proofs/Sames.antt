@@ -12,10 +12,10 @@ use Rattle.pps_types.specs.WellFormed.{AreRising}
 use Rattle.service_laws.proofs.Finds.{all-imp, all-find, and-both}
 use Rattle.service_laws.proofs.Rising.{rising-above}
 use Rattle.number_table.specs.Numbered.{Entry as Numbering, Numbered, value_under, has_number, is_same, is_same_entry}
-use Rattle.engine_targets.specs.Opened.{handle_at, is_directory, number_of}
-use Rattle.engine_targets.specs.Seated.{IsSeated, AreSeated}
-use Rattle.engine_servers.specs.declared.seats.Seats.{Seats}
-use Rattle.engine_servers.specs.Seated.{target_of}
+use Rattle.sub_reader.specs.Opened.{handle_at, is_directory, number_of}
+use Rattle.sub_reader.specs.Seated.{IsSeated, AreSeated}
+use Rattle.topics.specs.declared.topic.Topic.{Topic}
+use Rattle.topics.specs.Seated.{target_of}
 use Rattle.open_handles.specs.declared.places.Places.{Places}
 use Rattle.open_handles.specs.Whole.{IsWhole, place_at, handles_on, handles_in, handles_in_place, row_handle, is_on, HasSame}
 use Rattle.open_handles.proofs.Finds.{at_number}
@@ -90,19 +90,19 @@ told_same rows more entries next =
 
 -- ---- from rows and places
 
-module _ (p q : Places) (objects : AllByRecursion (HasSame q) (map (λ (e : Numbering Seats). e.value) p.objects.entries)) (directories : AllByRecursion (HasSame q) (map (λ (e : Numbering Seats). e.value) p.directories.entries))
-    (on : (f : Found) (s : Seats) → place_at f p ≡ Some s → target_of s ≡ f) where
-  has : (f : Found) (s : Seats) → place_at f p ≡ Some s → HasSame q s
+module _ (p q : Places) (objects : AllByRecursion (HasSame q) (map (λ (e : Numbering Topic). e.value) p.objects.entries)) (directories : AllByRecursion (HasSame q) (map (λ (e : Numbering Topic). e.value) p.directories.entries))
+    (on : (f : Found) (s : Topic) → place_at f p ≡ Some s → target_of s ≡ f) where
+  has : (f : Found) (s : Topic) → place_at f p ≡ Some s → HasSame q s
   has (FoundObject n) s at = value_all (HasSame q) n p.objects.entries s objects at
   has (FoundDirectory n) s at = value_all (HasSame q) n p.directories.entries s directories at
 
-  same_place : (f : Found) (s : Seats) → place_at f p ≡ Some s → handles_on q f ≡ handles_on p f
+  same_place : (f : Found) (s : Topic) → place_at f p ≡ Some s → handles_on q f ≡ handles_on p f
   same_place f s at = ap (handles_on q) (sym (on f s at)) ∙ has f s at ∙ sym (ap handles_in_place at)
 
   same_row : (e : Numbering Found) → is_some (row_handle (handles_on p) e) ≡ true → row_handle (handles_on q) e ≡ row_handle (handles_on p) e
   same_row e some = by (place_at e.value p) refl
     where
-      by : (o : Option Seats) → place_at e.value p ≡ o → row_handle (handles_on q) e ≡ row_handle (handles_on p) e
+      by : (o : Option Topic) → place_at e.value p ≡ o → row_handle (handles_on q) e ≡ row_handle (handles_on p) e
       by None at = absurd (let none : handles_on p e.value ≡ [] = ap handles_in_place at in let bad : is_some (handle_at e.number []) ≡ true = ap (λ hs. is_some (handle_at e.number hs)) (sym none) ∙ some in cc)
       by (Some s) at = ap (handle_at e.number) (same_place e.value s at)
 
@@ -141,7 +141,7 @@ module _ (on : Found → List (Open Seen)) (seated : (f : Found) → AreSeated (
 -- ---- both ways
 
 module _ (rows more : Numbered Found) (p q : Places) (whole : IsWhole (whole_of rows p)) (other : IsWhole (whole_of more q)) where
-  pub same_handles : rows.entries ≡ more.entries → AllByRecursion (HasSame q) (map (λ (e : Numbering Seats). e.value) p.objects.entries) → AllByRecursion (HasSame q) (map (λ (e : Numbering Seats). e.value) p.directories.entries)
+  pub same_handles : rows.entries ≡ more.entries → AllByRecursion (HasSame q) (map (λ (e : Numbering Topic). e.value) p.objects.entries) → AllByRecursion (HasSame q) (map (λ (e : Numbering Topic). e.value) p.directories.entries)
       → handles_in (whole_of rows p) ≡ handles_in (whole_of more q)
   same_handles entries objects directories = sym (same_rows p q objects directories whole.placed.on rows.entries whole.rowed.each) ∙ ap (filter_map (row_handle (handles_on q))) entries
 
@@ -155,21 +155,21 @@ module _ (rows more : Numbered Found) (p q : Places) (whole : IsWhole (whole_of 
     same_on : (f : Found) → handles_on q f ≡ handles_on p f
     same_on f = sym (on_it more q other f) ∙ ap (filter (is_on f)) (sym same) ∙ on_it rows p whole f
 
-    has_there : (f : Found) (s : Seats) → place_at f p ≡ Some s → HasSame q s
+    has_there : (f : Found) (s : Topic) → place_at f p ≡ Some s → HasSame q s
     has_there f s at = ap (handles_on q) (whole.placed.on f s at) ∙ same_on f ∙ ap handles_in_place at
 
-    each_of : (es : List (Numbering Seats)) → AllByRecursion (λ (e : Numbering Seats). HasSame q e.value) es → AllByRecursion (HasSame q) (map (λ (e : Numbering Seats). e.value) es)
+    each_of : (es : List (Numbering Topic)) → AllByRecursion (λ (e : Numbering Topic). HasSame q e.value) es → AllByRecursion (HasSame q) (map (λ (e : Numbering Topic). e.value) es)
     each_of [] all = tt
     each_of (e ∷ es) all = (all.0, each_of es all.1)
 
-    pub objects_same : AllByRecursion (HasSame q) (map (λ (e : Numbering Seats). e.value) p.objects.entries)
+    pub objects_same : AllByRecursion (HasSame q) (map (λ (e : Numbering Topic). e.value) p.objects.entries)
     objects_same =
         each_of p.objects.entries
-        (all-imp (λ (e : Numbering Seats). value_under e.number p.objects.entries ≡ Some e.value) (λ (e : Numbering Seats). HasSame q e.value) (λ e at. has_there (FoundObject e.number) e.value at) p.objects.entries
+        (all-imp (λ (e : Numbering Topic). value_under e.number p.objects.entries ≡ Some e.value) (λ (e : Numbering Topic). HasSame q e.value) (λ e at. has_there (FoundObject e.number) e.value at) p.objects.entries
         (own_values 0 p.objects.next p.objects.entries whole.placed.objects_rise))
 
-    pub directories_same : AllByRecursion (HasSame q) (map (λ (e : Numbering Seats). e.value) p.directories.entries)
+    pub directories_same : AllByRecursion (HasSame q) (map (λ (e : Numbering Topic). e.value) p.directories.entries)
     directories_same =
         each_of p.directories.entries
-        (all-imp (λ (e : Numbering Seats). value_under e.number p.directories.entries ≡ Some e.value) (λ (e : Numbering Seats). HasSame q e.value) (λ e at. has_there (FoundDirectory e.number) e.value at) p.directories.entries
+        (all-imp (λ (e : Numbering Topic). value_under e.number p.directories.entries ≡ Some e.value) (λ (e : Numbering Topic). HasSame q e.value) (λ e at. has_there (FoundDirectory e.number) e.value at) p.directories.entries
         (own_values 0 p.directories.next p.directories.entries whole.placed.directories_rise))

@@ -5,10 +5,10 @@ use Rattle.pps_types.specs.declared.found.Found.{Found}
 use Rattle.pps_types.specs.declared.found.Found.TheVariants.{Object as FoundObject, Directory as FoundDirectory}
 use Rattle.pps_types.specs.WellFormed.{AreRising}
 use Rattle.number_table.specs.Numbered.{Entry as Numbering, has_number, on_first, value_under}
-use Rattle.engine_targets.specs.Opened.{is_directory, number_of}
-use Rattle.engine_targets.specs.Seated.{AreSeated}
-use Rattle.engine_servers.specs.declared.seats.Seats.{Seats}
-use Rattle.engine_servers.specs.Seated.{target_of, handles_of}
+use Rattle.sub_reader.specs.Opened.{is_directory, number_of}
+use Rattle.sub_reader.specs.Seated.{AreSeated}
+use Rattle.topics.specs.declared.topic.Topic.{Topic}
+use Rattle.topics.specs.Seated.{target_of, handles_of}
 use Rattle.open_handles.specs.declared.places.Places.{Places}
 use Rattle.open_handles.specs.Whole.{place_at, with_place, handles_on, handles_in_place, ArePlaced, HoldsWhatIsOwed, IsRight}
 use Rattle.open_handles.proofs.Finds.{some_is, found_cases}
@@ -53,25 +53,25 @@ module _ {T : Type 0} where
 
 -- ---- the same of places
 
-pub with_found : (p : Places) (f : Found) (s t : Seats) → place_at f p ≡ Some s → place_at f (with_place p f t) ≡ Some t
+pub with_found : (p : Places) (f : Found) (s t : Topic) → place_at f p ≡ Some s → place_at f (with_place p f t) ≡ Some t
 with_found p (FoundObject n) s t found = set_found n t s p.objects.entries found
 with_found p (FoundDirectory n) s t found = set_found n t s p.directories.entries found
 
-pub with_other : (p : Places) (g f : Found) (t : Seats) → (g ≡ f → ⊥) → place_at g (with_place p f t) ≡ place_at g p
+pub with_other : (p : Places) (g f : Found) (t : Topic) → (g ≡ f → ⊥) → place_at g (with_place p f t) ≡ place_at g p
 with_other p (FoundObject m) (FoundObject n) t other = set_other m n t p.objects.entries (λ same. other (ap FoundObject same))
 with_other p (FoundObject m) (FoundDirectory n) t other = refl
 with_other p (FoundDirectory m) (FoundObject n) t other = refl
 with_other p (FoundDirectory m) (FoundDirectory n) t other = set_other m n t p.directories.entries (λ same. other (ap FoundDirectory same))
 
-with_objects_rise : (p : Places) (f : Found) (t : Seats) → AreRising 0 (map (λ (e : Numbering Seats). e.number) p.objects.entries) p.objects.next → AreRising 0 (map (λ (e : Numbering Seats). e.number) (with_place p f t).objects.entries) (with_place p f t).objects.next
+with_objects_rise : (p : Places) (f : Found) (t : Topic) → AreRising 0 (map (λ (e : Numbering Topic). e.number) p.objects.entries) p.objects.next → AreRising 0 (map (λ (e : Numbering Topic). e.number) (with_place p f t).objects.entries) (with_place p f t).objects.next
 with_objects_rise p (FoundObject n) t r = subst (λ ns. AreRising 0 ns p.objects.next) (sym (set_numbers n t p.objects.entries)) r
 with_objects_rise p (FoundDirectory n) t r = r
 
-with_directories_rise : (p : Places) (f : Found) (t : Seats) → AreRising 0 (map (λ (e : Numbering Seats). e.number) p.directories.entries) p.directories.next → AreRising 0 (map (λ (e : Numbering Seats). e.number) (with_place p f t).directories.entries) (with_place p f t).directories.next
+with_directories_rise : (p : Places) (f : Found) (t : Topic) → AreRising 0 (map (λ (e : Numbering Topic). e.number) p.directories.entries) p.directories.next → AreRising 0 (map (λ (e : Numbering Topic). e.number) (with_place p f t).directories.entries) (with_place p f t).directories.next
 with_directories_rise p (FoundObject n) t r = r
 with_directories_rise p (FoundDirectory n) t r = subst (λ ns. AreRising 0 ns p.directories.next) (sym (set_numbers n t p.directories.entries)) r
 
-module _ (p : Places) (f : Found) (s t : Seats) (placed : ArePlaced p) (found : place_at f p ≡ Some s) (target : target_of t ≡ target_of s) where
+module _ (p : Places) (f : Found) (s t : Topic) (placed : ArePlaced p) (found : place_at f p ≡ Some s) (target : target_of t ≡ target_of s) where
   pub with_on : target_of t ≡ f
   with_on = target ∙ placed.on f s found
 
@@ -83,11 +83,11 @@ module _ (p : Places) (f : Found) (s t : Seats) (placed : ArePlaced p) (found : 
     exact = λ g u at. held g u at (found_cases g f);
   }
     where
-      held : (g : Found) (u : Seats) → place_at g (with_place p f t) ≡ Some u → (g ≡ f) ⊎ (g ≡ f → ⊥) → HoldsWhatIsOwed u
+      held : (g : Found) (u : Topic) → place_at g (with_place p f t) ≡ Some u → (g ≡ f) ⊎ (g ≡ f → ⊥) → HoldsWhatIsOwed u
       held g u at (inl here) = subst HoldsWhatIsOwed (some_is t u (sym (subst (λ g. place_at g (with_place p f t) ≡ Some t) (sym here) (with_found p f s t found)) ∙ at)) exact
       held g u at (inr other) = placed.exact g u (sym (with_other p g f t other) ∙ at)
 
-      by : (g : Found) (u : Seats) → place_at g (with_place p f t) ≡ Some u → (g ≡ f) ⊎ (g ≡ f → ⊥) → target_of u ≡ g
+      by : (g : Found) (u : Topic) → place_at g (with_place p f t) ≡ Some u → (g ≡ f) ⊎ (g ≡ f → ⊥) → target_of u ≡ g
       by g u at (inl here) = ap target_of (some_is u t (sym at ∙ subst (λ g. place_at g (with_place p f t) ≡ Some t) (sym here) (with_found p f s t found))) ∙ with_on ∙ sym here
       by g u at (inr other) = placed.on g u (sym (with_other p g f t other) ∙ at)
 

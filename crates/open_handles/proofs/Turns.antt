@@ -11,11 +11,11 @@ use Rattle.pps_types.specs.Rests.{Seen}
 use Rattle.pps_types.specs.Plan.{on_numbered, without_number, first_seen}
 use Rattle.pps_types.specs.Owed.{longest_rest}
 use Rattle.number_table.specs.Numbered.{Entry as Numbering, Numbered, has_number, value_under, without_first}
-use Rattle.engine_targets.specs.Opened.{handle_at, is_directory, number_of, as_opened, opened as opened_as}
-use Rattle.engine_targets.specs.declared.opening.Opening.{Opening}
-use Rattle.engine_targets.specs.Seated.{AreSeated}
-use Rattle.engine_servers.specs.declared.seats.Seats.{Seats}
-use Rattle.engine_servers.specs.Seated.{target_of, handles_of, places_of as places_for, name_of, kept_of, is_service, suits, Suits, IsSameTarget, KeepsRoom}
+use Rattle.sub_reader.specs.Opened.{handle_at, is_directory, number_of, as_opened, suits, opened as opened_as}
+use Rattle.sub_reader.specs.declared.opening.Opening.{Opening}
+use Rattle.sub_reader.specs.Seated.{AreSeated}
+use Rattle.topics.specs.declared.topic.Topic.{Topic}
+use Rattle.topics.specs.Seated.{target_of, handles_of, places_of as places_for, name_of, kept_of, is_service, Suits, IsSameTarget, KeepsRoom}
 use Rattle.open_handles.specs.declared.change.Change.{Change}
 use Rattle.open_handles.specs.declared.change.Change.TheVariants.{CatchUp, Pass, Park, Arm}
 use Rattle.open_handles.specs.declared.places.Places.{Places}
@@ -50,10 +50,10 @@ module _ (rows : Numbered Found) (p : Places) (whole : IsWhole (whole_of rows p)
   pub at_row : (n : ℕ) → handle_at n (handles_in (whole_of rows p)) ≡ option_and_then (λ f. handle_at n (handles_on p f)) (value_under n rows.entries)
   at_row n = found_in (handles_on p) n rows.entries whole.rowed.each
 
-  pub in_place : (n : ℕ) (f : Found) (o : Option Seats) → value_under n rows.entries ≡ Some f → o ≡ place_at f p → handle_at n (handles_in (whole_of rows p)) ≡ option_and_then (λ (s : Seats). handle_at n (handles_of s)) o
+  pub in_place : (n : ℕ) (f : Found) (o : Option Topic) → value_under n rows.entries ≡ Some f → o ≡ place_at f p → handle_at n (handles_in (whole_of rows p)) ≡ option_and_then (λ (s : Topic). handle_at n (handles_of s)) o
   in_place n f o under at = at_row n ∙ ap (option_and_then (λ f. handle_at n (handles_on p f))) under ∙ ap (λ o. handle_at n (handles_in_place o)) (sym at) ∙ by o
     where
-      by : (o : Option Seats) → handle_at n (handles_in_place o) ≡ option_and_then (λ (s : Seats). handle_at n (handles_of s)) o
+      by : (o : Option Topic) → handle_at n (handles_in_place o) ≡ option_and_then (λ (s : Topic). handle_at n (handles_of s)) o
       by None = refl
       by (Some s) = refl
 
@@ -71,15 +71,15 @@ module _ (rows : Numbered Found) (p : Places) (whole : IsWhole (whole_of rows p)
 
 -- ---- one place
 
-keeps_objects : (p : Places) (f : Found) (t : Seats) → KeepsTable p.objects (with_place p f t).objects
+keeps_objects : (p : Places) (f : Found) (t : Topic) → KeepsTable p.objects (with_place p f t).objects
 keeps_objects p (FoundObject n) t = record { next = refl; room = omega arith }
 keeps_objects p (FoundDirectory n) t = record { next = refl; room = omega arith }
 
-keeps_directories : (p : Places) (f : Found) (t : Seats) → KeepsTable p.directories (with_place p f t).directories
+keeps_directories : (p : Places) (f : Found) (t : Topic) → KeepsTable p.directories (with_place p f t).directories
 keeps_directories p (FoundObject n) t = record { next = refl; room = omega arith }
 keeps_directories p (FoundDirectory n) t = record { next = refl; room = omega arith }
 
-module _ (p : Places) (f : Found) (s t : Seats) (found : place_at f p ≡ Some s) (same : IsSameTarget s t) where
+module _ (p : Places) (f : Found) (s t : Topic) (found : place_at f p ≡ Some s) (same : IsSameTarget s t) where
   pub turn_sites : (rows more : Numbered Found) → KeepsSites (whole_of rows p) (whole_of more (with_place p f t))
   turn_sites rows more = record { sites = λ g. by g (found_cases g f); objects = keeps_objects p f t; directories = keeps_directories p f t }
     where
@@ -106,7 +106,7 @@ module _ (p : Places) (f : Found) (s t : Seats) (found : place_at f p ≡ Some s
           (λ there told. keeps _ (room g s (subst (λ g. place_at g p ≡ Some s) (sym is) found) (some there) told))
       by (inr other) = room g u (sym (with_other p g f t other) ∙ at)
 
-module _ (rows : Numbered Found) (p : Places) (whole : IsWhole (whole_of rows p)) (f : Found) (s t : Seats) (found : place_at f p ≡ Some s) (same : IsSameTarget s t)
+module _ (rows : Numbered Found) (p : Places) (whole : IsWhole (whole_of rows p)) (f : Found) (s t : Topic) (found : place_at f p ≡ Some s) (same : IsSameTarget s t)
     (right : IsRight t) where
   then_seated : (g : Found) → AreSeated (is_directory g) (number_of g) (handles_on (with_place p f t) g)
   then_seated = with_seated p f s t whole.placed found same.target right whole.rowed.seated
@@ -185,7 +185,7 @@ module _ (rows : Numbered Found) (p : Places) (whole : IsWhole (whole_of rows p)
     }
 
 -- all in a place are lower than a number that comes
-pub below_new : (rows : Numbered Found) (p : Places) (whole : IsWhole (whole_of rows p)) (f : Found) (s : Seats) → place_at f p ≡ Some s → (n : ℕ) → rows.next ≤ n → AllByRecursion (λ (h : Open Seen). h.number < n) (handles_of s)
+pub below_new : (rows : Numbered Found) (p : Places) (whole : IsWhole (whole_of rows p)) (f : Found) (s : Topic) → place_at f p ≡ Some s → (n : ℕ) → rows.next ≤ n → AllByRecursion (λ (h : Open Seen). h.number < n) (handles_of s)
 below_new rows p whole f s found n above = subst (AllByRecursion (λ (h : Open Seen). h.number < n)) (ap handles_in_place found) (below_at (handles_on p) rows.entries rows.next whole.rowed n above f)
 
 -- ---- what changes of a handle
@@ -198,15 +198,15 @@ keeps_number (Arm pulse) h = refl
 
 -- ---- a place with room for one more
 
-pub room_there : (p : Places) (f : Found) (s t : Seats) → place_at f p ≡ Some s → option_map_or places_for (place_at f (with_place p f t)) 0 ≡ places_for t
+pub room_there : (p : Places) (f : Found) (s t : Topic) → place_at f p ≡ Some s → option_map_or places_for (place_at f (with_place p f t)) 0 ≡ places_for t
 room_there p f s t found = ap (λ o. option_map_or places_for o 0) (with_found p f s t found)
 
-pub room_before : (p : Places) (f : Found) (s : Seats) → place_at f p ≡ Some s → option_map_or places_for (place_at f p) 0 ≡ places_for s
+pub room_before : (p : Places) (f : Found) (s : Topic) → place_at f p ≡ Some s → option_map_or places_for (place_at f p) 0 ≡ places_for s
 room_before p f s found = ap (λ o. option_map_or places_for o 0) found
 
 -- ---- what an open needs to know of its place
 
-pub suits_there : (p : Places) (f : Found) (s : Seats) (kind : HandleKind) → place_at f p ≡ Some s → target_of s ≡ f → IfSome (option_map site_of (place_at f p)) (λ (x : Site). suits kind (is_directory f) x.service ≡ true) → Suits kind s
+pub suits_there : (p : Places) (f : Found) (s : Topic) (kind : HandleKind) → place_at f p ≡ Some s → target_of s ≡ f → IfSome (option_map site_of (place_at f p)) (λ (x : Site). suits kind (is_directory f) x.service ≡ true) → Suits kind s
 suits_there p f s kind found target is =
     subst (λ g. suits kind (is_directory g) (is_service s) ≡ true) (sym target)
     (subst (λ o. IfSome (option_map site_of o) (λ (x : Site). suits kind (is_directory f) x.service ≡ true)) found is)
@@ -214,7 +214,7 @@ suits_there p f s kind found target is =
 abbrev pub first_handle : ℕ → List ℕ → Opening → Open Seen
 first_handle target name o = reseen (λ h. first_seen h (style h.kind)) (opened_as target name o)
 
-pub same_first : (rows : Numbered Found) (p : Places) (f : Found) (s : Seats) (o : Opening) → place_at f p ≡ Some s → target_of s ≡ f → first_handle (number_of (target_of s)) (name_of s) o ≡ first_handle (number_of f) (name_at f (whole_of rows p)) o
+pub same_first : (rows : Numbered Found) (p : Places) (f : Found) (s : Topic) (o : Opening) → place_at f p ≡ Some s → target_of s ≡ f → first_handle (number_of (target_of s)) (name_of s) o ≡ first_handle (number_of f) (name_at f (whole_of rows p)) o
 same_first rows p f s o found target = (λ i. first_handle (number_of (target i)) (option_map_or (λ (x : Site). x.name) (option_map site_of (sym found i)) []) o)
 
 -- ---- what is said of one place
@@ -226,13 +226,13 @@ module _ (rows : Numbered Found) (p : Places) (whole : IsWhole (whole_of rows p)
   pub exact_here : option_map_or kept_of (place_at f p) [] ≡ longest_rest (is_directory f) (number_of f) (handles_in (whole_of rows p))
   exact_here = by (place_at f p) refl ∙ sym (longest_on f (handles_in (whole_of rows p)) ∙ ap (longest_rest (is_directory f) (number_of f)) on_it)
     where
-      by : (o : Option Seats) → place_at f p ≡ o → option_map_or kept_of (place_at f p) [] ≡ longest_rest (is_directory f) (number_of f) (handles_on p f)
+      by : (o : Option Topic) → place_at f p ≡ o → option_map_or kept_of (place_at f p) [] ≡ longest_rest (is_directory f) (number_of f) (handles_on p f)
       by None at = ap (λ o. option_map_or kept_of o []) at ∙ ap (λ o. longest_rest (is_directory f) (number_of f) (handles_in_place o)) (sym at)
       by (Some s) at =
           let on : target_of s ≡ f = whole.placed.on f s at in
           ap (λ o. option_map_or kept_of o []) at ∙ whole.placed.exact f s at ∙ (λ i. longest_rest (is_directory (on i)) (number_of (on i)) (handles_in_place (sym at i)))
 
-pub opening_here : (rows : Numbered Found) (p : Places) (whole : IsWhole (whole_of rows p)) (n : ℕ) (f : Found) (s : Seats) (o : Option Opening) → value_under n rows.entries ≡ Some f → place_at f p ≡ Some s
+pub opening_here : (rows : Numbered Found) (p : Places) (whole : IsWhole (whole_of rows p)) (n : ℕ) (f : Found) (s : Topic) (o : Option Opening) → value_under n rows.entries ≡ Some f → place_at f p ≡ Some s
     → option_map (opened_as (number_of (target_of s)) (name_of s)) o ≡ option_map as_opened (handle_at n (handles_of s))
     → option_map (opened_as (number_of f) (name_at f (whole_of rows p))) o ≡ option_map as_opened (handle_at n (handles_in (whole_of rows p)))
 opening_here rows p whole n f s o under found is =

@@ -11,7 +11,7 @@ use Rattle.pps_types.specs.Rests.{Seen}
 use Rattle.pps_types.specs.Content.{news, is_waiting, learns}
 use Rattle.service_laws.proofs.Finds.{and-both}
 use Rattle.pps_types.specs.Rising.{AllAbove, IsRising}
-use Rattle.engine_targets.specs.Woken.{woken_by}
+use Rattle.sub_reader.specs.Woken.{woken_by}
 use Rattle.open_handles.specs.Whole.{is_on}
 use Rattle.open_handles.specs.United.{united_from, united}
 

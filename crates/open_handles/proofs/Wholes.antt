@@ -9,10 +9,10 @@ use Rattle.pps_types.specs.Reading.{Open}
 use Rattle.pps_types.specs.Rests.{Seen}
 use Rattle.pps_types.specs.WellFormed.{AreRising}
 use Rattle.number_table.specs.Numbered.{Entry as Numbering, Numbered, value_under}
-use Rattle.engine_servers.specs.declared.seats.Seats.{Seats}
+use Rattle.topics.specs.declared.topic.Topic.{Topic}
 use Rattle.pps_types.specs.Owed.{longest_rest}
-use Rattle.engine_targets.specs.Opened.{is_directory, number_of}
-use Rattle.engine_servers.specs.Seated.{target_of, handles_of, kept_of, places_of as places_for}
+use Rattle.sub_reader.specs.Opened.{is_directory, number_of}
+use Rattle.topics.specs.Seated.{target_of, handles_of, kept_of, places_of as places_for}
 use Rattle.open_handles.specs.Whole.{Whole, IsWhole, HoldsWhatIsOwed, AreRowed, row_handle, handles_in, handles_at, seats_at, handles_in_place, handle_of_row, room_at, KeepsPlaces, KeepsRecords, HasRoomAt, Fresh, IsFresh, site_of}
 use Rattle.open_handles.proofs.Finds.{some_is, found_cases}
 use Rattle.open_handles.proofs.Comes.{under_push, under_new, under_none, rise_push}
@@ -36,8 +36,8 @@ module _ (old new : Whole) (rows : new.rows.entries ≡ old.rows.entries) (next 
     rowed = subst (λ m. AreRowed (λ f. handles_at f new) new.rows.entries m) (sym next) (subst (λ es. AreRowed (λ f. handles_at f new) es old.rows.next) (sym rows)
         (same_rowed (λ f. handles_at f old) (λ f. handles_at f new) old.rows.entries old.rows.next (λ f. ap handles_in_place (same_seats f)) w.rowed));
     placed = record {
-      objects_rise = subst (λ m. AreRising 0 (map (λ (e : Numbering Seats). e.number) new.objects.entries) m) (sym next_object) (subst (λ es. AreRising 0 (map (λ (e : Numbering Seats). e.number) es) old.objects.next) (sym objects) w.placed.objects_rise);
-      directories_rise = subst (λ m. AreRising 0 (map (λ (e : Numbering Seats). e.number) new.directories.entries) m) (sym next_directory) (subst (λ es. AreRising 0 (map (λ (e : Numbering Seats). e.number) es) old.directories.next) (sym directories) w.placed.directories_rise);
+      objects_rise = subst (λ m. AreRising 0 (map (λ (e : Numbering Topic). e.number) new.objects.entries) m) (sym next_object) (subst (λ es. AreRising 0 (map (λ (e : Numbering Topic). e.number) es) old.objects.next) (sym objects) w.placed.objects_rise);
+      directories_rise = subst (λ m. AreRising 0 (map (λ (e : Numbering Topic). e.number) new.directories.entries) m) (sym next_directory) (subst (λ es. AreRising 0 (map (λ (e : Numbering Topic). e.number) es) old.directories.next) (sym directories) w.placed.directories_rise);
       on = λ f s at. w.placed.on f s (sym (same_seats f) ∙ at);
       exact = λ f s at. w.placed.exact f s (sym (same_seats f) ∙ at);
     };
@@ -59,18 +59,18 @@ many_in w whole = as_many (λ f. handles_at f w) w.rows.entries whole.rowed.each
 
 -- ---- one more place, without handles
 
-module _ (m n : ℕ) (s : Seats) (es : List (Numbering Seats)) where
-  push_elsewhere : (m ≡ n → ⊥) → (o : Option Seats) → value_under m es ≡ o → value_under m (es ++ record { number = n; value = s } ∷ []) ≡ o
+module _ (m n : ℕ) (s : Topic) (es : List (Numbering Topic)) where
+  push_elsewhere : (m ≡ n → ⊥) → (o : Option Topic) → value_under m es ≡ o → value_under m (es ++ record { number = n; value = s } ∷ []) ≡ o
   push_elsewhere other None is = under_new m n s es is ∙ ap (λ b. cond b (Some s) None) (ne_eqb n m (λ same. other (sym same)))
   push_elsewhere other (Some t) is = under_push m n s t es is
 
-push_here : (n high : ℕ) (s : Seats) (es : List (Numbering Seats)) → high ≤ n → AreRising 0 (map (λ (e : Numbering Seats). e.number) es) high → value_under n (es ++ record { number = n; value = s } ∷ []) ≡ Some s
+push_here : (n high : ℕ) (s : Topic) (es : List (Numbering Topic)) → high ≤ n → AreRising 0 (map (λ (e : Numbering Topic). e.number) es) high → value_under n (es ++ record { number = n; value = s } ∷ []) ≡ Some s
 push_here n high s es le r = under_new n n s es (under_none n 0 high es le r) ∙ ap (λ b. cond b (Some s) None) (eq-eqb n n refl)
 
-module _ (old new : Whole) (whole : IsWhole old) (n : ℕ) (s : Seats) where
+module _ (old new : Whole) (whole : IsWhole old) (n : ℕ) (s : Topic) where
   module _ (above : old.objects.next ≤ n) (objects : new.objects.entries ≡ old.objects.entries ++ record { number = n; value = s } ∷ []) (next : new.objects.next ≡ n + 1) where
-    pub object_rises : AreRising 0 (map (λ (e : Numbering Seats). e.number) new.objects.entries) new.objects.next
-    object_rises = subst (λ m. AreRising 0 (map (λ (e : Numbering Seats). e.number) new.objects.entries) m) (sym next) (subst (λ es. AreRising 0 (map (λ (e : Numbering Seats). e.number) es) (n + 1)) (sym objects) (rise_push 0 old.objects.next n s old.objects.entries above whole.placed.objects_rise))
+    pub object_rises : AreRising 0 (map (λ (e : Numbering Topic). e.number) new.objects.entries) new.objects.next
+    object_rises = subst (λ m. AreRising 0 (map (λ (e : Numbering Topic). e.number) new.objects.entries) m) (sym next) (subst (λ es. AreRising 0 (map (λ (e : Numbering Topic). e.number) es) (n + 1)) (sym objects) (rise_push 0 old.objects.next n s old.objects.entries above whole.placed.objects_rise))
 
     pub object_here : seats_at (FoundObject n) new ≡ Some s
     object_here = ap (value_under n) objects ∙ push_here n old.objects.next s old.objects.entries above whole.placed.objects_rise
@@ -83,8 +83,8 @@ module _ (old new : Whole) (whole : IsWhole old) (n : ℕ) (s : Seats) where
     object_elsewhere same (FoundDirectory m) other = ap (value_under m) same
 
   module _ (above : old.directories.next ≤ n) (directories : new.directories.entries ≡ old.directories.entries ++ record { number = n; value = s } ∷ []) (next : new.directories.next ≡ n + 1) where
-    pub directory_rises : AreRising 0 (map (λ (e : Numbering Seats). e.number) new.directories.entries) new.directories.next
-    directory_rises = subst (λ m. AreRising 0 (map (λ (e : Numbering Seats). e.number) new.directories.entries) m) (sym next) (subst (λ es. AreRising 0 (map (λ (e : Numbering Seats). e.number) es) (n + 1)) (sym directories) (rise_push 0 old.directories.next n s old.directories.entries above whole.placed.directories_rise))
+    pub directory_rises : AreRising 0 (map (λ (e : Numbering Topic). e.number) new.directories.entries) new.directories.next
+    directory_rises = subst (λ m. AreRising 0 (map (λ (e : Numbering Topic). e.number) new.directories.entries) m) (sym next) (subst (λ es. AreRising 0 (map (λ (e : Numbering Topic). e.number) es) (n + 1)) (sym directories) (rise_push 0 old.directories.next n s old.directories.entries above whole.placed.directories_rise))
 
     pub directory_here : seats_at (FoundDirectory n) new ≡ Some s
     directory_here = ap (value_under n) directories ∙ push_here n old.directories.next s old.directories.entries above whole.placed.directories_rise
@@ -98,7 +98,7 @@ module _ (old new : Whole) (whole : IsWhole old) (n : ℕ) (s : Seats) where
 
 -- whichever it is
 module _ (old new : Whole) (whole : IsWhole old) (f : Found) (rows : new.rows.entries ≡ old.rows.entries) (next : new.rows.next ≡ old.rows.next) (elsewhere : (g : Found) → (g ≡ f → ⊥) → seats_at g new ≡ seats_at g old) (bare : handles_at f new ≡ handles_at f old)
-    (objects_rise : AreRising 0 (map (λ (e : Numbering Seats). e.number) new.objects.entries) new.objects.next) (directories_rise : AreRising 0 (map (λ (e : Numbering Seats). e.number) new.directories.entries) new.directories.next) where
+    (objects_rise : AreRising 0 (map (λ (e : Numbering Topic). e.number) new.objects.entries) new.objects.next) (directories_rise : AreRising 0 (map (λ (e : Numbering Topic). e.number) new.directories.entries) new.directories.next) where
   bare_at : (g : Found) → handles_at g new ≡ handles_at g old
   bare_at g = by (found_cases g f)
     where
@@ -109,7 +109,7 @@ module _ (old new : Whole) (whole : IsWhole old) (f : Found) (rows : new.rows.en
   pub bare_handles : handles_in new ≡ handles_in old
   bare_handles = ap (λ es. filter_map (handle_of_row new) es) rows ∙ same_filter (λ f. handles_at f old) (λ f. handles_at f new) old.rows.entries bare_at
 
-  pub bare_whole : ((s : Seats) → seats_at f new ≡ Some s → target_of s ≡ f) → ((s : Seats) → seats_at f new ≡ Some s → HoldsWhatIsOwed s) → IsWhole new
+  pub bare_whole : ((s : Topic) → seats_at f new ≡ Some s → target_of s ≡ f) → ((s : Topic) → seats_at f new ≡ Some s → HoldsWhatIsOwed s) → IsWhole new
   bare_whole on exact = record {
     rowed = subst (λ m. AreRowed (λ f. handles_at f new) new.rows.entries m) (sym next) (subst (λ es. AreRowed (λ f. handles_at f new) es old.rows.next) (sym rows)
         (same_rowed (λ f. handles_at f old) (λ f. handles_at f new) old.rows.entries old.rows.next bare_at whole.rowed));
@@ -121,11 +121,11 @@ module _ (old new : Whole) (whole : IsWhole old) (f : Found) (rows : new.rows.en
     };
   }
     where
-      held : (g : Found) (s : Seats) → seats_at g new ≡ Some s → (g ≡ f) ⊎ (g ≡ f → ⊥) → HoldsWhatIsOwed s
+      held : (g : Found) (s : Topic) → seats_at g new ≡ Some s → (g ≡ f) ⊎ (g ≡ f → ⊥) → HoldsWhatIsOwed s
       held g s at (inl here) = exact s (subst (λ g. seats_at g new ≡ Some s) here at)
       held g s at (inr other) = whole.placed.exact g s (sym (elsewhere g other) ∙ at)
 
-      by : (g : Found) (s : Seats) → seats_at g new ≡ Some s → (g ≡ f) ⊎ (g ≡ f → ⊥) → target_of s ≡ g
+      by : (g : Found) (s : Topic) → seats_at g new ≡ Some s → (g ≡ f) ⊎ (g ≡ f → ⊥) → target_of s ≡ g
       by g s at (inl here) = on s (subst (λ g. seats_at g new ≡ Some s) here at) ∙ sym here
       by g s at (inr other) = whole.placed.on g s (sym (elsewhere g other) ∙ at)
 
@@ -148,10 +148,10 @@ module _ (old new : Whole) (whole : IsWhole old) (f : Found) (rows : new.rows.en
 -- ---- a place comes
 
 -- without handles no records are to be held
-pub bare_exact : (s : Seats) → handles_of s ≡ [] → kept_of s ≡ [] → HoldsWhatIsOwed s
+pub bare_exact : (s : Topic) → handles_of s ≡ [] → kept_of s ≡ [] → HoldsWhatIsOwed s
 bare_exact s bare empty = empty ∙ sym (ap (longest_rest (is_directory (target_of s)) (number_of (target_of s))) bare)
 
-pub record IsAdded (f : Found) (s : Seats) (old new : Whole) : Type 0 where
+pub record IsAdded (f : Found) (s : Topic) (old new : Whole) : Type 0 where
   pub whole : IsWhole new
   pub handles : handles_in new ≡ handles_in old
   pub here : seats_at f new ≡ Some s
@@ -159,8 +159,8 @@ pub record IsAdded (f : Found) (s : Seats) (old new : Whole) : Type 0 where
   pub places : KeepsPlaces old new
   pub records : KeepsRecords old new
 
-added : (old new : Whole) (whole : IsWhole old) (f : Found) (s : Seats) → handles_of s ≡ [] → kept_of s ≡ [] → target_of s ≡ f → new.rows ≡ old.rows → seats_at f old ≡ None → seats_at f new ≡ Some s
-    → ((g : Found) → (g ≡ f → ⊥) → seats_at g new ≡ seats_at g old) → AreRising 0 (map (λ (e : Numbering Seats). e.number) new.objects.entries) new.objects.next → AreRising 0 (map (λ (e : Numbering Seats). e.number) new.directories.entries) new.directories.next → IsAdded f s old new
+added : (old new : Whole) (whole : IsWhole old) (f : Found) (s : Topic) → handles_of s ≡ [] → kept_of s ≡ [] → target_of s ≡ f → new.rows ≡ old.rows → seats_at f old ≡ None → seats_at f new ≡ Some s
+    → ((g : Found) → (g ≡ f → ⊥) → seats_at g new ≡ seats_at g old) → AreRising 0 (map (λ (e : Numbering Topic). e.number) new.objects.entries) new.objects.next → AreRising 0 (map (λ (e : Numbering Topic). e.number) new.directories.entries) new.directories.next → IsAdded f s old new
 added old new whole f s bare empty target rows fresh here elsewhere objects_rise directories_rise =
     let next : new.rows.next ≡ old.rows.next = ap (λ (t : Numbered Found). t.next) rows in
     let entries : new.rows.entries ≡ old.rows.entries = ap (λ (t : Numbered Found). t.entries) rows in
@@ -176,7 +176,7 @@ added old new whole f s bare empty target rows fresh here elsewhere objects_rise
       records = bare_records old new whole f entries next elsewhere nobody objects_rise directories_rise none;
     }
 
-module _ (rows : Numbered Found) (objects directories : Numbered Seats) (whole : IsWhole (record { rows = rows; objects = objects; directories = directories })) (n m : ℕ) (same : m ≡ n) (s : Seats) (bare : handles_of s ≡ []) (empty : kept_of s ≡ []) (more : Numbered Seats) where
+module _ (rows : Numbered Found) (objects directories : Numbered Topic) (whole : IsWhole (record { rows = rows; objects = objects; directories = directories })) (n m : ℕ) (same : m ≡ n) (s : Topic) (bare : handles_of s ≡ []) (empty : kept_of s ≡ []) (more : Numbered Topic) where
   pub added_object : objects.next ≤ n → target_of s ≡ FoundObject n → more.entries ≡ objects.entries ++ record { number = m; value = s } ∷ [] → more.next ≡ m + 1
       → IsAdded (FoundObject n) s (record { rows = rows; objects = objects; directories = directories }) (record { rows = rows; objects = more; directories = directories })
   added_object above target entries next =
@@ -196,7 +196,7 @@ module _ (rows : Numbered Found) (objects directories : Numbered Seats) (whole :
       added old new whole (FoundDirectory n) s bare empty target refl (directory_fresh old new whole n s above are goes) (directory_here old new whole n s above are goes) (directory_elsewhere old new whole n s above are goes refl) whole.placed.objects_rise (directory_rises old new whole n s above are goes)
 
 -- a new object comes
-pub added_fresh : (rows : Numbered Found) (objects directories : Numbered Seats) → IsWhole (record { rows = rows; objects = objects; directories = directories }) → (x : Fresh) (n m : ℕ) (s : Seats) → record { object = n; site = site_of s } ≡ x → IsFresh n s → m ≡ n → (more : Numbered Seats)
+pub added_fresh : (rows : Numbered Found) (objects directories : Numbered Topic) → IsWhole (record { rows = rows; objects = objects; directories = directories }) → (x : Fresh) (n m : ℕ) (s : Topic) → record { object = n; site = site_of s } ≡ x → IsFresh n s → m ≡ n → (more : Numbered Topic)
     → objects.next ≤ x.object → more.entries ≡ objects.entries ++ record { number = m; value = s } ∷ [] → more.next ≡ m + 1
     → IsAdded (FoundObject x.object) s (record { rows = rows; objects = objects; directories = directories }) (record { rows = rows; objects = more; directories = directories })
 added_fresh rows objects directories whole x n m s is fresh same more above entries next =

@@ -1,7 +1,7 @@
 -- What a look at an open handle shows.
 use Rattle.std.specs.Prelude.{◌≡◌, ℕ, Option, option_map}
-use Rattle.engine_targets.specs.Opened.{opened, as_opened, handle_at, number_of}
-use Rattle.engine_targets.specs.Glances.{glanced, glance_on}
+use Rattle.sub_reader.specs.Opened.{opened, as_opened, handle_at, number_of}
+use Rattle.sub_reader.specs.Glances.{glanced, glance_on}
 use Rattle.open_handles.specs.declared.handles.Opened.{Opened as OpenedAs}
 use Rattle.open_handles.specs.declared.handles.Looked.{Looked}
 use Rattle.open_handles.specs.Whole.{Whole, handles_in, name_at}

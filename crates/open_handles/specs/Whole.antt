@@ -1,5 +1,5 @@
 -- All open handles of a service, under their numbers, by the object or directory that each is on.
-use Rattle.std.specs.Prelude.{◌≡◌, ◌≤◌, ◌<◌, ◌==◌, ℕ, Bool, true, false, List, [], ◌∷◌, Option, Some, None, is_some, IfSome, map, filter, length, option_map, option_and_then}
+use Rattle.std.specs.Prelude.{◌≡◌, ◌≤◌, ◌<◌, ◌==◌, ℕ, Bool, true, false, List, [], ◌∷◌, Option, Some, None, is_some, IfSome, map, filter, find, length, option_map, option_and_then}
 use Rattle.std.specs.Option.{option_map_or}
 use Rattle.std.specs.List.{AllByRecursion, filter_map}
 use Rattle.pps_types.specs.declared.found.Found.{Found}
@@ -12,13 +12,13 @@ use Rattle.pps_types.specs.Rests.{Seen}
 use Rattle.pps_types.specs.Owed.{longest_rest}
 use Rattle.pps_types.specs.WellFormed.{AreRising}
 use Rattle.service_laws.specs.Concerned.{is_on_object, is_on_directory}
-use Rattle.number_table.specs.Numbered.{Entry as Numbering, Numbered, value_under, value_at, with_value}
-use Rattle.engine_targets.specs.declared.opening.Opening.{Opening}
-use Rattle.engine_targets.specs.HandleAt.{with_opened}
-use Rattle.engine_targets.specs.Opened.{handle_at, is_directory, number_of, armed_pulse}
-use Rattle.engine_targets.specs.Seated.{AreSeated}
-use Rattle.engine_servers.specs.declared.seats.Seats.{Seats}
-use Rattle.engine_servers.specs.Seated.{target_of, handles_of, name_of, kept_of, is_service, places_of as places_for, suits, IsReady}
+use Rattle.number_table.specs.Numbered.{Entry as Numbering, Numbered, has_number, value_under, value_at, with_value}
+use Rattle.sub_reader.specs.declared.opening.Opening.{Opening}
+use Rattle.sub_reader.specs.HandleAt.{with_opened}
+use Rattle.sub_reader.specs.Opened.{handle_at, is_directory, number_of, armed_pulse, suits}
+use Rattle.sub_reader.specs.Seated.{AreSeated}
+use Rattle.topics.specs.declared.topic.Topic.{Topic}
+use Rattle.topics.specs.Seated.{target_of, handles_of, name_of, kept_of, is_service, places_of as places_for, IsReady}
 use Rattle.open_handles.specs.declared.change.Change.{Change}
 use Rattle.open_handles.specs.declared.change.Change.TheVariants.{CatchUp, Pass, Park, Arm}
 use Rattle.open_handles.specs.declared.places.Places.{Places}
@@ -26,8 +26,8 @@ use Rattle.open_handles.specs.declared.places.Places.{Places}
 -- rows: what each handle is on, under its number. objects, directories: the handles on each, under its number.
 pub record Whole : Type 0 where
   pub rows : Numbered Found
-  pub objects : Numbered Seats
-  pub directories : Numbered Seats
+  pub objects : Numbered Topic
+  pub directories : Numbered Topic
 
 -- ---- the handles of rows, where each object and each directory has its own
 
@@ -45,12 +45,12 @@ pub record AreRowed (on : Found → List (Open Seen)) (rows : List (Numbering Fo
 -- ---- by where they are
 
 -- the handles on an object or a directory, with its room
-abbrev pub place_at : Found → Places → Option Seats
+abbrev pub place_at : Found → Places → Option Topic
 place_at (FoundObject n) p = value_at n p.objects
 place_at (FoundDirectory n) p = value_at n p.directories
 
 -- others in their place
-abbrev pub with_place : Places → Found → Seats → Places
+abbrev pub with_place : Places → Found → Topic → Places
 with_place p (FoundObject n) s = record p { objects = with_value p.objects n s }
 with_place p (FoundDirectory n) s = record p { directories = with_value p.directories n s }
 
@@ -58,13 +58,13 @@ abbrev pub places_of : Whole → Places
 places_of w = record { objects = w.objects; directories = w.directories }
 
 -- none but the handles of such a place
-abbrev pub handles_in_place : Option Seats → List (Open Seen)
+abbrev pub handles_in_place : Option Topic → List (Open Seen)
 handles_in_place s = option_map_or handles_of s []
 
 abbrev pub handles_on : Places → Found → List (Open Seen)
 handles_on p f = handles_in_place (place_at f p)
 
-abbrev pub seats_at : Found → Whole → Option Seats
+abbrev pub seats_at : Found → Whole → Option Topic
 seats_at f w = place_at f (places_of w)
 
 abbrev pub handles_at : Found → Whole → List (Open Seen)
@@ -83,23 +83,23 @@ abbrev pub KeepsOthers : Found → Whole → Whole → Type 0
 KeepsOthers found old new = (f : Found) → (f ≡ found → ⊥) → seats_at f new ≡ seats_at f old
 
 -- others have the same handles on what these are on
-abbrev pub HasSame : Places → Seats → Type 0
+abbrev pub HasSame : Places → Topic → Type 0
 HasSame p s = handles_on p (target_of s) ≡ handles_of s
 
 -- the handle of a number in a place, where there is one
-abbrev pub seated_at : ℕ → Option Seats → Option (Open Seen)
-seated_at number place = option_and_then (λ (s : Seats). handle_at number (handles_of s)) place
+abbrev pub seated_at : ℕ → Option Topic → Option (Open Seen)
+seated_at number place = option_and_then (λ (s : Topic). handle_at number (handles_of s)) place
 
 -- no handle is on the object or directory of that number in a table
-abbrev pub HasNoneAt : ℕ → Numbered Seats → Type 0
+abbrev pub HasNoneAt : ℕ → Numbered Topic → Type 0
 HasNoneAt number table = handles_in_place (value_at number table) ≡ []
 
 -- just those records are held for readers that have to be kept: the longest rest that a handle is owed
-abbrev pub HoldsWhatIsOwed : Seats → Type 0
+abbrev pub HoldsWhatIsOwed : Topic → Type 0
 HoldsWhatIsOwed s = kept_of s ≡ longest_rest (is_directory (target_of s)) (number_of (target_of s)) (handles_of s)
 
 -- its handles are on it, and it holds what they are owed
-pub record IsRight (s : Seats) : Type 0 where
+pub record IsRight (s : Topic) : Type 0 where
   pub seated : AreSeated (is_directory (target_of s)) (number_of (target_of s)) (handles_of s)
   pub exact : HoldsWhatIsOwed s
 
@@ -111,8 +111,8 @@ HasRisingNumbers table = AreRising 0 (map (λ e. e.number) table.entries) table.
 pub record ArePlaced (p : Places) : Type 0 where
   pub objects_rise : AreRising 0 (map (λ e. e.number) p.objects.entries) p.objects.next
   pub directories_rise : AreRising 0 (map (λ e. e.number) p.directories.entries) p.directories.next
-  pub on : (f : Found) (s : Seats) → place_at f p ≡ Some s → target_of s ≡ f
-  pub exact : (f : Found) (s : Seats) → place_at f p ≡ Some s → HoldsWhatIsOwed s
+  pub on : (f : Found) (s : Topic) → place_at f p ≡ Some s → target_of s ≡ f
+  pub exact : (f : Found) (s : Topic) → place_at f p ≡ Some s → HoldsWhatIsOwed s
 
 -- ---- the whole
 
@@ -124,7 +124,7 @@ abbrev pub handles_in : Whole → List (Open Seen)
 handles_in w = filter_map (handle_of_row w) w.rows.entries
 
 -- this is the place of the handle of that number, if that is open
-abbrev pub IsPlaceOf : ℕ → Whole → Seats → Type 0
+abbrev pub IsPlaceOf : ℕ → Whole → Topic → Type 0
 IsPlaceOf number w s = handle_at number (handles_of s) ≡ handle_at number (handles_in w)
 
 -- the same handles are open in both, and the same number is next
@@ -142,7 +142,7 @@ pub record Site : Type 0 where
   pub name : List ℕ
   pub service : Bool
 
-abbrev pub site_of : Seats → Site
+abbrev pub site_of : Topic → Site
 site_of s = record { name = name_of s; service = is_service s }
 
 -- that of a directory, which has no name here, and no server
@@ -159,7 +159,7 @@ pub record Fresh : Type 0 where
   pub site : Site
 
 -- it is that object, without handles and records, and has room for one
-pub record IsFresh (object : ℕ) (s : Seats) : Type 0 where
+pub record IsFresh (object : ℕ) (s : Topic) : Type 0 where
   pub on : target_of s ≡ FoundObject object
   pub bare : handles_of s ≡ []
   pub empty : kept_of s ≡ []
@@ -220,6 +220,22 @@ is_on (FoundDirectory n) = is_on_directory n
 abbrev pub HasEachInPlace : Whole → Type 0
 HasEachInPlace w = (f : Found) → handles_at f w ≡ filter (is_on f) (handles_in w)
 
+-- the handles on an object or a directory, under its number
+abbrev pub Seating : Type 0
+Seating = Numbering Topic
+
+-- the records that are held for them
+abbrev pub kept_for : Seating → List Entry
+kept_for x = kept_of x.value
+
+-- the same, if some were found
+abbrev pub kept_if : Option Seating → List Entry
+kept_if found = option_map_or kept_of (option_map (λ (x : Seating). x.value) found) []
+
+-- those that are held for the handles under a number
+abbrev pub kept_under : ℕ → List Seating → List Entry
+kept_under number xs = kept_if (find (has_number number) xs)
+
 -- the records that are held in a place
 abbrev pub kept_at : Found → Whole → List Entry
 kept_at f w = option_map_or kept_of (seats_at f w) []
@@ -236,17 +252,17 @@ is_told (FoundObject n) e = e.record_of.object == n
 is_told (FoundDirectory n) e = e.directory == n
 
 -- wherever there are handles that are told some of the records, there is room for these
-abbrev pub HasRoomAt : List Entry → Found → Seats → Type 0
+abbrev pub HasRoomAt : List Entry → Found → Topic → Type 0
 HasRoomAt entries f s = 0 < length (handles_of s) → 0 < length (filter (is_told f) entries) → IsReady (filter (is_told f) entries) s
 
 abbrev pub HasRoom : List Entry → Whole → Type 0
-HasRoom entries w = (f : Found) (s : Seats) → seats_at f w ≡ Some s → HasRoomAt entries f s
+HasRoom entries w = (f : Found) (s : Topic) → seats_at f w ≡ Some s → HasRoomAt entries f s
 
 abbrev pub KeepsRecords : Whole → Whole → Type 0
 KeepsRecords old new = (entries : List Entry) → HasRoom entries old → HasRoom entries new
 
 -- where a place with handles had room for a record and others, it has room for the others
-abbrev pub UsesRoomAt : Entry → Seats → Seats → Type 0
+abbrev pub UsesRoomAt : Entry → Topic → Topic → Type 0
 UsesRoomAt e old new = (entries : List Entry) → 0 < length (handles_of old) → IsReady (e ∷ entries) old → IsReady entries new
 
 -- where there was room for a record and others, there is room for the others

@@ -2,15 +2,15 @@
 ghost use Rattle.std.specs.Prelude.{◌≡◌, ◌<◌, ◌≤◌, ◌∷◌, ◌+◌, [], length, map};
 ghost use Rattle.std.specs.Prelude.{OnOk, OnErr};
 ghost use Rattle.pps_types.specs.Plan.{offer, without_number};
-ghost use Rattle.engine_targets.specs.HandleAt.{AreBelow};
-ghost use Rattle.engine_servers.specs.Seated.{handles_of, handles_with, places_of, IsSameTarget, IsReady, IsEnough, KeepsRoom, Suits};
+ghost use Rattle.sub_reader.specs.HandleAt.{AreBelow};
+ghost use Rattle.topics.specs.Seated.{handles_of, handles_with, places_of, IsSameTarget, IsReady, IsEnough, KeepsRoom, Suits};
 ghost use Rattle.open_handles.specs.Whole.{with_changed, IsRight, UsesRoomAt};
 
-use engine_servers::{Seats, Shares};
-use engine_targets::{Opening, Pulse};
 use pps_types::Handle;
 use server_queue::Entry;
 use std::alloc::AllocError;
+use sub_reader::{Opening, Pulse};
+use topics::{Shares, Topic};
 
 /// A change of one handle that it survives.
 #[derive(Drop)]
@@ -26,7 +26,7 @@ pub(crate) enum Change {
 }
 
 /// Changes one handle in its place.
-pub(crate) fn change_in(seats: &mut Seats, number: Handle, change: Change)
+pub(crate) fn change_in(seats: &mut Topic, number: Handle, change: Change)
     ensures same { IsSameTarget seats.old seats.new }
     ensures handles { handles_of seats.new ≡ with_changed number change (handles_of seats.old) }
     ensures places { places_of seats.new ≡ places_of seats.old }
@@ -43,7 +43,7 @@ pub(crate) fn change_in(seats: &mut Seats, number: Handle, change: Change)
 }
 
 /// Closes a handle in its place.
-pub(crate) fn close_in(seats: &mut Seats, number: Handle)
+pub(crate) fn close_in(seats: &mut Topic, number: Handle)
     ensures same { IsSameTarget seats.old seats.new }
     ensures handles { handles_of seats.new ≡ without_number number (handles_of seats.old) }
     ensures room { KeepsRoom seats.old seats.new }
@@ -56,7 +56,7 @@ pub(crate) fn close_in(seats: &mut Seats, number: Handle)
 }
 
 /// Makes room for one more handle in a place.
-pub(crate) fn reserve_in(seats: &mut Seats) -> Result<(), AllocError>
+pub(crate) fn reserve_in(seats: &mut Topic) -> Result<(), AllocError>
     ensures same { IsSameTarget seats.old seats.new }
     ensures handles { handles_of seats.new ≡ handles_of seats.old }
     ensures room { KeepsRoom seats.old seats.new }
@@ -72,7 +72,7 @@ pub(crate) fn reserve_in(seats: &mut Seats) -> Result<(), AllocError>
 }
 
 /// Opens a handle in its place.
-pub(crate) fn open_in(seats: &mut Seats, opening: Opening)
+pub(crate) fn open_in(seats: &mut Topic, opening: Opening)
     requires places { 0 < places_of seats.old }
     requires suits { Suits opening.kind seats.old }
     requires above { AreBelow opening.number (handles_of seats.old) }
@@ -87,7 +87,7 @@ pub(crate) fn open_in(seats: &mut Seats, opening: Opening)
 }
 
 /// Offers a record in a place, where there is room for it if handles are there.
-pub(crate) fn offer_in(seats: &mut Seats, shares: Shares)
+pub(crate) fn offer_in(seats: &mut Topic, shares: Shares)
     requires room { 0 < length (handles_of seats.old) → IsReady (shares.entry ∷ []) seats.old }
     requires enough { IsEnough shares.count shares.entry seats.old }
     ensures same { IsSameTarget seats.old seats.new }
@@ -107,7 +107,7 @@ pub(crate) fn offer_in(seats: &mut Seats, shares: Shares)
 }
 
 /// Makes room for records in a place.
-pub(crate) fn reserve_records_in(seats: &mut Seats, entries: &[Entry]) -> Result<(), AllocError>
+pub(crate) fn reserve_records_in(seats: &mut Topic, entries: &[Entry]) -> Result<(), AllocError>
     ensures same { IsSameTarget seats.old seats.new }
     ensures handles { handles_of seats.new ≡ handles_of seats.old }
     ensures room { KeepsRoom seats.old seats.new }

@@ -5,12 +5,12 @@ ghost use Rattle.open_handles.specs.Whole.{HasSame, HasSameHandles};
 
 use crate::handles::Handles;
 use crate::places::Places;
-use engine_servers::Seats;
 use number_table::Iter;
+use topics::Topic;
 
 impl Places {
     // Whether the same handles are on what these are on.
-    fn has_same(&self, seats: &Seats) -> bool
+    fn has_same(&self, seats: &Topic) -> bool
         ensures { IsTrue result ↔ HasSame self.now seats.now }
     {
         match self.get(seats.target()) {
@@ -20,7 +20,7 @@ impl Places {
     }
 
     // Whether the same handles are on what each of these are on.
-    fn has_all(&self, seats: Iter<'_, Seats>) -> bool
+    fn has_all(&self, seats: Iter<'_, Topic>) -> bool
         ensures { IsTrue result ↔ AllByRecursion (HasSame self.now) seats.entry }
     {
         let mut rest = seats;

@@ -4,11 +4,11 @@ ghost use Rattle.std.specs.Option.{option_copied};
 ghost use Rattle.pps_types.specs.declared.found.Found.{Found as FoundAt};
 ghost use Rattle.pps_types.specs.declared.found.Found.TheVariants.{Object as FoundObject, Directory as FoundDirectory};
 ghost use Rattle.number_table.specs.Numbered.{value_at};
-ghost use Rattle.engine_servers.specs.Seated.{name_of};
-ghost use Rattle.engine_servers.specs.Backlogs.{is_server_full_at, is_client_full_at, full_client_in};
-ghost use Rattle.engine_targets.specs.Opened.{armed_pulse, handle_at};
-ghost use Rattle.engine_targets.specs.HandleAt.{parked_at, armed_at, owed_at, with_caught_up, with_passed, with_parked, with_armed};
-ghost use Rattle.engine_targets.specs.Woken.{woken_by};
+ghost use Rattle.topics.specs.Seated.{name_of};
+ghost use Rattle.topics.specs.Backlogs.{is_server_full_at, is_client_full_at, full_client_in};
+ghost use Rattle.sub_reader.specs.Opened.{armed_pulse, handle_at};
+ghost use Rattle.sub_reader.specs.HandleAt.{parked_at, armed_at, owed_at, with_caught_up, with_passed, with_parked, with_armed};
+ghost use Rattle.sub_reader.specs.Woken.{woken_by};
 ghost use Rattle.pps_types.specs.Plan.{offer, without_number};
 ghost use Rattle.pps_types.specs.WellFormed.{AreRising};
 ghost use Rattle.open_handles.specs.Lookups.{ShowsOpening, ShowsGlance};
@@ -21,13 +21,13 @@ use crate::new_site::NewSite;
 use crate::places::{Places, drop_unused};
 use crate::shared_record::SharedRecord;
 use crate::woken::unite;
-use engine_servers::{Seats, Shares};
-use engine_targets::{Glance, Opening, Pulse};
 use number_table::Table;
 use pps_types::{Bytes, DirId, Found, Handle, ObjId, Refusal};
 use server_queue::Entry;
 use std::alloc::{AllocError, Global};
 use std::marker::Model;
+use sub_reader::{Glance, Opening, Pulse};
+use topics::{Shares, Topic};
 
 /// What the open of a handle fixed, and the object or directory that it is on.
 #[derive(Drop)]
@@ -41,7 +41,7 @@ pub struct Opened<'a> {
 #[derive(Drop)]
 pub struct Looked<'a> {
     pub found: Found,
-    pub seats: &'a Seats,
+    pub seats: &'a Topic,
     pub glance: Glance<'a>,
 }
 
@@ -204,7 +204,7 @@ impl Handles {
         ensures places { KeepsPlaces self.old self.new }
         ensures records { KeepsRecords self.old self.new }
     {
-        let seats = Seats::of_object(alloc, object, name);
+        let seats = Topic::of_object(alloc, object, name);
         self.places.objects.push_reserved(object.number(), seats);
     }
 
@@ -223,7 +223,7 @@ impl Handles {
         ensures places { KeepsPlaces self.old self.new }
         ensures records { KeepsRecords self.old self.new }
     {
-        let seats = Seats::of_directory(alloc, directory);
+        let seats = Topic::of_directory(alloc, directory);
         self.places
             .directories
             .push_reserved(directory.number(), seats);
@@ -358,7 +358,7 @@ impl Handles {
     }
 
     // The handles of the place where a handle is, if it is open.
-    fn place_of(&self, handle: Handle) -> Option<&Seats>
+    fn place_of(&self, handle: Handle) -> Option<&Topic>
         ensures { handle_at handle (handles_in self.now) ≡ seated_at handle (option_copied result) }
     {
         let Some(found) = self.rows.get(u64::from(handle.number())) else {

@@ -1,15 +1,15 @@
 //! An object that is to be added.
 ghost use Rattle.std.specs.Prelude.{◌≡◌, [], IfOk};
 ghost use Rattle.pps_types.specs.declared.found.Found.TheVariants.{Object as FoundObject};
-ghost use Rattle.engine_servers.specs.Seated.{target_of, name_of, handles_of, kept_of, is_service};
+ghost use Rattle.topics.specs.Seated.{target_of, name_of, handles_of, kept_of, is_service};
 
-use engine_servers::Seats;
 use pps_types::{Bytes, ObjId};
 use std::alloc::{AllocError, Global};
 use std::marker::Model;
+use topics::Topic;
 
 /// An object without handles, a server's or a plain one.
-fn seats_of(alloc: Global, object: ObjId, name: Bytes, is_served: bool) -> Seats
+fn seats_of(alloc: Global, object: ObjId, name: Bytes, is_served: bool) -> Topic
     ensures target { target_of result ≡ FoundObject object }
     ensures name { name_of result ≡ name }
     ensures handles { handles_of result ≡ [] }
@@ -17,9 +17,9 @@ fn seats_of(alloc: Global, object: ObjId, name: Bytes, is_served: bool) -> Seats
     ensures service { is_service result ≡ is_served }
 {
     if is_served {
-        Seats::of_service(alloc, object, name)
+        Topic::of_service(alloc, object, name)
     } else {
-        Seats::of_object(alloc, object, name)
+        Topic::of_object(alloc, object, name)
     }
 }
 
@@ -27,7 +27,7 @@ fn seats_of(alloc: Global, object: ObjId, name: Bytes, is_served: bool) -> Seats
 #[derive(Drop)]
 pub struct NewSite {
     pub(crate) object: ObjId,
-    pub(crate) seats: Seats,
+    pub(crate) seats: Topic,
 }
 
 impl Model for NewSite {

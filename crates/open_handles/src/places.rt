@@ -5,9 +5,9 @@ ghost use Rattle.std.specs.Option.{option_copied, option_copied_mut};
 ghost use Rattle.number_table.specs.Numbered.{LosesEntry};
 ghost use Rattle.open_handles.specs.Whole.{place_at, with_place, HasNoneAt, KeepsTable};
 
-use engine_servers::Seats;
 use number_table::Table;
 use pps_types::Found;
+use topics::Topic;
 
 /// A hint that is never right.
 const NO_HINT: usize = usize::MAX;
@@ -15,16 +15,16 @@ const NO_HINT: usize = usize::MAX;
 /// The handles on each object, and on each directory, under its number.
 #[derive(Drop)]
 pub(crate) struct Places {
-    pub(crate) objects: Table<Seats>,
-    pub(crate) directories: Table<Seats>,
+    pub(crate) objects: Table<Topic>,
+    pub(crate) directories: Table<Topic>,
 }
 
 impl Places {
     ghost use Rattle.open_handles.specs.contracts.places.Places.{the_row};
-    ghost use Rattle.engine_servers.specs.contracts.seats.Seats.{the_row as seats_row};
+    ghost use Rattle.topics.specs.contracts.topic.Topic.{the_row as seats_row};
 
     /// The handles on an object or a directory.
-    pub(crate) fn get(&self, found: Found) -> Option<&Seats>
+    pub(crate) fn get(&self, found: Found) -> Option<&Topic>
         ensures { option_copied result ≡ place_at found self.now }
     {
         match found {
@@ -34,7 +34,7 @@ impl Places {
     }
 
     /// The handles on an object or a directory, to be changed in place.
-    pub(crate) fn get_mut(&mut self, found: Found) -> Option<&mut Seats>
+    pub(crate) fn get_mut(&mut self, found: Found) -> Option<&mut Topic>
         ensures* writes_back { sem 𝓛 (LendsIf the_row seats_row self.entry result
             (with_place self.old found) self.old) }
         ensures value { option_copied_mut result ≡ place_at found self.old }
@@ -46,7 +46,7 @@ impl Places {
     }
 
     /// The handles on an object or a directory, which is there, to be changed in place.
-    pub(crate) fn known_mut(&mut self, found: Found) -> &mut Seats
+    pub(crate) fn known_mut(&mut self, found: Found) -> &mut Topic
         requires { IsSome (place_at found self.old) }
         ensures* writes_back { sem 𝓛 (Lends the_row seats_row self.entry result
             (with_place self.old found)) }
@@ -60,7 +60,7 @@ impl Places {
 }
 
 /// Drops those of a number on which no handle is.
-pub(crate) fn drop_unused(table: &mut Table<Seats>, number: u64)
+pub(crate) fn drop_unused(table: &mut Table<Topic>, number: u64)
     ensures gone { HasNoneAt number table.old → LosesEntry number table.old table.new }
     ensures used { (HasNoneAt number table.old → ⊥) → table.new ≡ table.old }
     ensures kept { KeepsTable table.old table.new }

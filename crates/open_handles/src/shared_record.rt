@@ -1,9 +1,9 @@
 //! A record that is to be told.
 ghost use Rattle.std.specs.Prelude.{◌≡◌};
 
-use engine_servers::Shares;
 use server_queue::Entry;
 use std::marker::Model;
+use topics::Shares;
 
 /// A record with shares of it for all handles that it is told to.
 #[derive(Drop)]
@@ -14,7 +14,7 @@ pub struct SharedRecord {
 
 impl Model for SharedRecord {
     ghost use Rattle.std.specs.Prelude.{◌≡◌};
-    ghost use Rattle.engine_servers.specs.Shared.{Shared};
+    ghost use Rattle.server_queue.specs.Shared.{Shared};
 
     ghost Value = { Shared };
 

@@ -1,5 +1,5 @@
 -- What texts add to the options of an open.
-use Rattle.std.specs.Prelude.{◌≡◌, ℕ, List, Option, Some, false}
+use Rattle.std.specs.Prelude.{◌≡◌, ℕ, Bool, List, Option, Some, None, false, if◌then◌else◌}
 use Rattle.pps_types.specs.Bytes.{plain_pieces}
 use Rattle.pps_types.specs.OpenText as meant
 use Rattle.pps_types.specs.declared.refusal.Refusal.{Refusal}
@@ -14,6 +14,10 @@ listed_options text = meant.options_from meant.no_options (plain_pieces false 44
 -- the new options are the old ones with what the text adds
 abbrev pub Adds : (meant.Options → List ℕ → Option meant.Options) → Options → List ℕ → Options → Type 0
 Adds with_text old text new = with_text (options_seen old) text ≡ Some (options_seen new)
+
+-- the same if it can be added, and else it can't be
+abbrev pub AddsIf : Bool → (meant.Options → List ℕ → Option meant.Options) → Options → List ℕ → Options → Type 0
+AddsIf added with_text old text new = with_text (options_seen old) text ≡ (if added then Some (options_seen new) else None)
 
 -- memory lacks, or the text can't be added to these options
 abbrev pub IsRefusalToAdd : (meant.Options → List ℕ → Option meant.Options) → Options → List ℕ → Refusal → Type 0

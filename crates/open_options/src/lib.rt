@@ -4,7 +4,7 @@
 mod open;
 mod options;
 mod path;
-mod word;
 
 pub use open::{OpenSpec, read_open};
+pub use options::HandleOptions;
 pub use path::{Path, read_path};

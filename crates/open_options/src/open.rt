@@ -3,8 +3,9 @@ ghost use Rattle.std.specs.Prelude.{◌≡◌, IfOk, IfErr};
 ghost use Rattle.std.specs.Option.{option_copied};
 ghost use Rattle.pps_types.specs.OpenText as meant;
 ghost use Rattle.open_options.specs.Refused.{IsOpenRefusal};
+ghost use Rattle.open_options.specs.Seen.{handle_options_seen};
 
-use crate::options::{Options, read_options};
+use crate::options::{HandleOptions, Options, read_options};
 use crate::path::{OpenPath, Path, read_open_path};
 use pps_filter::Filter;
 use pps_types::{Refusal, split_at_first};
@@ -45,74 +46,74 @@ impl OpenSpec {
 
     /// `delta`: the handle reads each change since it last read.
     pub fn delta(&self) -> bool
-        ensures { result ≡ self.now.delta }
+        ensures { result ≡ self.now.options.delta }
     {
         self.options.delta
     }
 
     /// `deltadir`, which is our own: names alone, of members that are and that come and go.
     pub fn deltadir(&self) -> bool
-        ensures { result ≡ self.now.deltadir }
+        ensures { result ≡ self.now.options.deltadir }
     {
         self.options.deltadir
     }
 
     /// `wait`: a read that finds nothing new is parked.
     pub fn wait(&self) -> bool
-        ensures { result ≡ self.now.wait }
+        ensures { result ≡ self.now.options.of_handle.wait }
     {
-        self.options.wait
+        self.options.of_handle.wait
     }
 
     /// `nopersist`: an object that this open creates is never saved.
     pub fn nopersist(&self) -> bool
-        ensures { result ≡ self.now.nopersist }
+        ensures { result ≡ self.now.options.nopersist }
     {
         self.options.nopersist
     }
 
     /// `reflect`: the handle is also given the changes that it made itself.
     pub fn reflect(&self) -> bool
-        ensures { result ≡ self.now.reflect }
+        ensures { result ≡ self.now.options.of_handle.reflect }
     {
-        self.options.reflect
+        self.options.of_handle.reflect
     }
 
     /// `server`: the handle becomes the server of a server object.
     pub fn server(&self) -> bool
-        ensures { result ≡ self.now.server }
+        ensures { result ≡ self.now.options.server }
     {
         self.options.server
     }
 
     /// `critical`, which is our own: when the handle closes, the object's nonpersistent attributes go with it.
     pub fn critical(&self) -> bool
-        ensures { result ≡ self.now.critical }
+        ensures { result ≡ self.now.options.of_handle.critical }
     {
-        self.options.critical
+        self.options.of_handle.critical
     }
 
     /// `f=`: which lines the handle is shown. Without it, all.
     pub fn filter(&self) -> Option<&Filter>
-        ensures { option_copied result ≡ self.now.filter }
+        ensures { option_copied result ≡ self.now.options.of_handle.filter }
     {
-        self.options.filter.as_ref()
+        self.options.of_handle.filter.as_ref()
     }
 
     /// `limit=`, which is our own: how much the handle may be owed, 1 to 65,535. Without it, the service's default.
     pub fn limit(&self) -> Option<u32>
-        ensures { result ≡ self.now.limit }
+        ensures { result ≡ self.now.options.limit }
     {
         self.options.limit
     }
 
-    /// The path and the filter. It takes no memory.
-    pub fn into_parts(self) -> (Path, Option<Filter>)
+    /// The path, and the options that the handle keeps. It takes no memory.
+    pub fn into_parts(self) -> (Path, HandleOptions)
         ensures path { result.0 ≡ self.names }
-        ensures filter { result.1 ≡ self.filter }
+        ensures options { handle_options_seen result.1 ≡ self.options.of_handle }
     {
         let OpenSpec { path, options } = self;
-        (path.names, options.filter)
+        (path.names, options.of_handle)
     }
 }
 

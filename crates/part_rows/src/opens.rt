@@ -74,8 +74,8 @@ fn answer_text(words: &mut Words<'_>, page: &mut Page) -> Result<(), Slip> {
     match read_open(words.alloc(), text.as_slice()) {
         Ok(spec) => {
             put_open(words.alloc(), &spec, page)?;
-            let (_path, filter) = spec.into_parts();
-            page.word_if(filter.is_some(), b"with a filter")?;
+            let (_path, options) = spec.into_parts();
+            page.word_if(options.filter.is_some(), b"with a filter")?;
         }
         Err(refusal) => page.refusal(refusal)?,
     }
@@ -89,7 +89,8 @@ fn answer_filtered(words: &mut Words<'_>, page: &mut Page) -> Result<(), Slip> {
     let spec = read_open(words.alloc(), text.as_slice())?;
     put_open(words.alloc(), &spec, page)?;
     let filter = read_filter(words.alloc(), filter_text.as_slice())?;
-    if let (_path, Some(found)) = spec.into_parts() {
+    let (_path, options) = spec.into_parts();
+    if let Some(found) = options.filter {
         page.line(b"same")?;
         page.flag(filter.same(&found))?;
     }

@@ -24,17 +24,17 @@ mod replies;
 #[cfg(test)]
 mod samples;
 #[cfg(test)]
-mod seats;
-#[cfg(test)]
 mod servers;
 #[cfg(test)]
 mod steps;
 #[cfg(test)]
+mod subscribers;
+#[cfg(test)]
 mod tables;
 #[cfg(test)]
-mod targets;
-#[cfg(test)]
 mod texts;
+#[cfg(test)]
+mod topic_kinds;
 #[cfg(test)]
 mod trees;
 #[cfg(test)]

@@ -1,26 +1,26 @@
-use engine_targets::{Opening, Pulse};
 use object_state::Object;
+use open_options::HandleOptions;
 use pps_types::{Bytes, Conn, Handle, HandleKind, Kind, Line, Lines, ObjId, Record, Refusal};
 use server_queue::Entry;
 use std::alloc::{AllocError, Global};
 use std::process::Abort;
 use std::test::Fail;
+use sub_reader::{Opening, Pulse};
 use whole_texts::{
     Following, Member, Reply, TargetAfter, Woken, follow, gives_everything, late_answer,
 };
 
 /// What an open without options fixes for handle 4 of connection 2, which may be owed 2 records.
 fn opening(kind: HandleKind) -> Opening {
+    let mut options = HandleOptions::new();
+    options.wait = true;
     Opening {
         number: Handle::new(4),
         connection: Conn::new(2),
         kind,
         reads: true,
         writes: false,
-        wait: true,
-        reflect: false,
-        critical: false,
-        filter: None,
+        options,
         limit: 2,
     }
 }

@@ -1,19 +1,19 @@
 ghost use Rattle.std.specs.Prelude.{◌≡◌, OnOk};
 ghost use Rattle.pps_types.specs.Reading.{Queue as QueueStyle, style};
-ghost use Rattle.engine_targets.specs.HandleAt.{AreBelow};
-ghost use Rattle.engine_servers.specs.Standing.{handles_with};
+ghost use Rattle.sub_reader.specs.HandleAt.{AreBelow};
+ghost use Rattle.topics.specs.Standing.{handles_with};
 
 use crate::steps::{assert_met, is_alone, limit_of, lines, opening};
-use engine_servers::Service;
-use engine_targets::{Opening, Pulse};
 use pps_types::{Bytes, Handle, HandleKind, Kind, ObjId, Record, Refusal};
 use server_queue::Entry;
 use std::alloc::{AllocError, Global};
 use std::process::Abort;
 use std::test::Fail;
+use sub_reader::{Opening, Pulse};
+use topics::ServerHandles;
 
 /// Opens a handle.
-fn open(service: &mut Service, opening: Opening) -> Result<(), AllocError>
+fn open(service: &mut ServerHandles, opening: Opening) -> Result<(), AllocError>
     requires queue { style opening.kind ≡ QueueStyle }
     requires above { AreBelow opening.number service.old.handles }
     ensures handles { OnOk result (service.new.handles ≡ handles_with opening service.old) }
@@ -69,7 +69,7 @@ fn entry(alloc: Global, said: Said) -> Result<Entry, AllocError> {
 }
 
 /// Offers a record to the handles.
-fn offer(alloc: Global, service: &mut Service, said: Said) -> Result<(), AllocError> {
+fn offer(alloc: Global, service: &mut ServerHandles, said: Said) -> Result<(), AllocError> {
     let made = entry(alloc, said)?;
     service.reserve(std::slice::from_ref(&made))?;
     let shares = service.shares(alloc, made)?;
@@ -79,9 +79,9 @@ fn offer(alloc: Global, service: &mut Service, said: Said) -> Result<(), AllocEr
 
 /// Object 1, with its server's handle 3, which takes 1 message of each client, and the clients' handles 4 and 9, which take
 /// 2 messages.
-fn served(alloc: Global) -> Result<Service, AllocError> {
+fn served(alloc: Global) -> Result<ServerHandles, AllocError> {
     let name = Bytes::from_slice(alloc, b"srv")?;
-    let mut service = Service::new(alloc, ObjId::new(1), name);
+    let mut service = ServerHandles::new(alloc, ObjId::new(1), name);
     open(&mut service, opening(3, HandleKind::Server, 1))?;
     open(&mut service, opening(4, HandleKind::Client, 2))?;
     open(&mut service, opening(9, HandleKind::Client, 2))?;
@@ -91,7 +91,7 @@ fn served(alloc: Global) -> Result<Service, AllocError> {
 /// Whether a record wakes that handle alone, or nobody.
 fn wakes(
     alloc: Global,
-    service: &Service,
+    service: &ServerHandles,
     said: Said,
     handle: Option<u32>,
 ) -> Result<bool, AllocError> {
@@ -103,7 +103,7 @@ fn wakes(
 /// Whether a read of so many bytes gives this text, of so many records.
 fn gives(
     alloc: Global,
-    service: &Service,
+    service: &ServerHandles,
     handle: u32,
     max: u32,
     count: usize,
@@ -164,8 +164,8 @@ struct Steps {
 /// A service and another.
 #[derive(Drop)]
 struct Pair {
-    service: Service,
-    other: Service,
+    service: ServerHandles,
+    other: ServerHandles,
 }
 
 /// Carries out a call. Whether the step is one.

@@ -1,10 +1,11 @@
 //! What tests by steps share.
 ghost use Rattle.std.specs.Prelude.{◌≡◌};
 
-use engine_targets::Opening;
+use open_options::HandleOptions;
 use pps_types::{Bytes, Conn, Handle, HandleKind, Line, Lines};
 use std::alloc::{AllocError, Global};
 use std::process::Abort;
+use sub_reader::Opening;
 
 /// What an open fixes for the handle of that number.
 pub(crate) fn opening(number: u32, kind: HandleKind, limit: u32) -> Opening
@@ -17,10 +18,7 @@ pub(crate) fn opening(number: u32, kind: HandleKind, limit: u32) -> Opening
         kind,
         reads: true,
         writes: true,
-        wait: false,
-        reflect: false,
-        critical: false,
-        filter: None,
+        options: HandleOptions::new(),
         limit,
     }
 }

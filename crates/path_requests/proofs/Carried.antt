@@ -8,8 +8,8 @@ use Rattle.pps_types.specs.declared.found.Found.TheVariants.{Object as FoundObje
 use Rattle.pps_types.specs.Content.{Content}
 use Rattle.pps_types.specs.Plan.{Move, Creates, AppendsRecord, Opens as OpensHandle, apply_all_seen}
 use Rattle.service_laws.proofs.Settlings.{moves-append}
-use Rattle.engine_targets.specs.declared.opening.Opening.{Opening}
-use Rattle.engine_targets.specs.Opened.{opened, number_of}
+use Rattle.sub_reader.specs.declared.opening.Opening.{Opening}
+use Rattle.sub_reader.specs.Opened.{opened, number_of}
 use Rattle.name_table.specs.Standing.{Placed, placed_at}
 use Rattle.open_handles.specs.Whole.{Site, KeepsSites, name_at, site_at, room_at}
 use Rattle.service_state.specs.declared.beginning.Beginning.{Beginning}

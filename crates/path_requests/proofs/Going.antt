@@ -18,8 +18,7 @@ use Rattle.pps_types.specs.Plan.{Creates as CreatesObject, AppendsRecord, entry_
 use Rattle.service_laws.proofs.Finds.{all-find}
 use Rattle.service_laws.proofs.Passes.{place-at}
 use Rattle.service_laws.proofs.Trees.{of_name}
-use Rattle.engine_servers.specs.Seated.{suits}
-use Rattle.engine_targets.specs.Opened.{is_directory}
+use Rattle.sub_reader.specs.Opened.{is_directory, suits}
 use Rattle.open_handles.specs.Whole.{Whole, Site, name_at, site_at}
 use Rattle.service_state.specs.Lines.{deletes, is_change}
 use Rattle.service_state.specs.Tables.{Tabled, content_in, AreTied, IsOpenable, IsOpenableDirectory}
@@ -41,11 +40,8 @@ handle_is c conn mode spec found kind target name k t n = λ i. record {
   kind = k i;
   reads = mode.r;
   writes = mode.w;
-  wait = spec.wait;
-  reflect = spec.reflect;
-  critical = spec.critical;
-  filter = spec.filter;
-  limit = unwrap_or spec.limit c.default_limit;
+  options = spec.options.of_handle;
+  limit = unwrap_or spec.options.limit c.default_limit;
   seen = tt;
   parked = None;
   armed = None;
@@ -60,8 +56,8 @@ suits_there w f s kind e fits = subst (λ (o : Option Site). IsSomeAnd o (λ s. 
 
 -- ---- all of a directory
 
-served_no : (mode : Mode) (spec : OpenSpec) → mode_fits mode spec ≡ true → spec.all ≡ true → spec.server ≡ false
-served_no mode spec fits all = by spec.all spec.server mode.r mode.w mode.c mode.t fits all
+served_no : (mode : Mode) (spec : OpenSpec) → mode_fits mode spec ≡ true → spec.all ≡ true → spec.options.server ≡ false
+served_no mode spec fits all = by spec.all spec.options.server mode.r mode.w mode.c mode.t fits all
   where
     by : (a s r w k t : Bool) → (not (a && (w || k || t)) && not (s && not (r && w))) ≡ true → a ≡ true → s ≡ false
     by a false r w k t fits all = refl
@@ -72,8 +68,8 @@ served_no mode spec fits all = by spec.all spec.server mode.r mode.w mode.c mode
     by true true true false false false fits all = absurd (let no = fits in cc)
     by true true false false false false fits all = absurd (let no = fits in cc)
 
-suits_all : (spec : OpenSpec) → spec.all ≡ true → spec.server ≡ false → suits (kind_by spec false) true false ≡ true
-suits_all spec all server = rw (server, all) (by spec.deltadir spec.delta)
+suits_all : (spec : OpenSpec) → spec.all ≡ true → spec.options.server ≡ false → suits (kind_by spec false) true false ≡ true
+suits_all spec all server = rw (server, all) (by spec.options.deltadir spec.options.delta)
   where
     by : (deltadir delta : Bool) → suits (cond deltadir NamesHandle (DirectoryHandle delta)) true false ≡ true
     by true delta = refl
@@ -130,7 +126,7 @@ module _ (t : Tabled) (tied : AreTied t) (is : IsContent (content_in t)) (mode :
   name : cond spec.all [] (last_name spec.names) ≡ name_at (FoundObject n) t.handles
   name = rw all (a.name ∙ sym (name_there t.handles (FoundObject n) (record { name = a.o.object.name; service = served }) site))
 
-  on_server : spec.server ≡ true → IsWay t mode spec (record { kind = kind_by spec served; step = Replaces n })
+  on_server : spec.options.server ≡ true → IsWay t mode spec (record { kind = kind_by spec served; step = Replaces n })
   on_server v = record {
     moves = ap (preparing (content_in t) mode spec) found
         ∙ ap (λ (b : Bool). cond b (AppendsRecord (entry_of a.o.object Deleted None) ∷ CreatesObject (new_object (content_in t) spec) ∷ []) (cond served (AppendsRecord (entry_of a.o.object (Opened (content_in t).next_handle) None) ∷ []) (cond mode.t (AppendsRecord (entry_of a.o.object Truncated None) ∷ []) []))) v
@@ -144,7 +140,7 @@ module _ (t : Tabled) (tied : AreTied t) (is : IsContent (content_in t)) (mode :
   }
 
   -- the record leaves it alive
-  told_goes : (told : Kind) → (kind : HandleKind) → kind ≡ kind_by spec served → suits kind false served ≡ true → deletes told ≡ false → is_change told ≡ false → spec.server ≡ false
+  told_goes : (told : Kind) → (kind : HandleKind) → kind ≡ kind_by spec served → suits kind false served ≡ true → deletes told ≡ false → is_change told ≡ false → spec.options.server ≡ false
       → preparing (content_in t) mode spec (Some a.o) ≡ AppendsRecord (entry_of a.o.object told None) ∷ [] → IsWay t mode spec (record { kind = kind; step = Tells n told })
   told_goes told kind k fits keeps plain v moved = record {
     moves = ap (preparing (content_in t) mode spec) found ∙ moved ∙ sym (ap (λ (o : Option LiveObject). option_map_or (λ o. AppendsRecord (entry_of o.object told None) ∷ []) o []) a.numbered);
@@ -158,7 +154,7 @@ module _ (t : Tabled) (tied : AreTied t) (is : IsContent (content_in t)) (mode :
   }
 
   -- it stays as it is
-  still_goes : (kind : HandleKind) → kind ≡ kind_by spec served → suits kind false served ≡ true → spec.server ≡ false
+  still_goes : (kind : HandleKind) → kind ≡ kind_by spec served → suits kind false served ≡ true → spec.options.server ≡ false
       → preparing (content_in t) mode spec (Some a.o) ≡ [] → IsWay t mode spec (record { kind = kind; step = Stays (FoundObject n) })
   still_goes kind k fits v moved = record {
     moves = ap (preparing (content_in t) mode spec) found ∙ moved;
@@ -170,32 +166,32 @@ module _ (t : Tabled) (tied : AreTied t) (is : IsContent (content_in t)) (mode :
   suits_plain true = refl
   suits_plain false = refl
 
-  goes : (v : Bool) → spec.server ≡ v → (k : Bool) → served ≡ k → (cut : Bool) → mode.t ≡ cut
+  goes : (v : Bool) → spec.options.server ≡ v → (k : Bool) → served ≡ k → (cut : Bool) → mode.t ≡ cut
       → IsWay t mode spec (record { kind = kind_by spec served; step = cond v (Replaces n) (cond k (Tells n (Opened (content_in t).next_handle)) (cond cut (Tells n Truncated) (Stays (FoundObject n)))) })
   goes true v k e cut f = on_server v
   goes false v true e cut f = told_goes (Opened (content_in t).next_handle) (kind_by spec served) refl (rw (v, all, e) refl) refl refl v (rw (v, e) refl)
-  goes false v false e true f = told_goes Truncated (kind_by spec served) refl (rw (v, all, e) (suits_plain spec.delta)) refl refl v (rw (v, e, f) refl)
-  goes false v false e false f = still_goes (kind_by spec served) refl (rw (v, all, e) (suits_plain spec.delta)) v (rw (v, e, f) refl)
+  goes false v false e true f = told_goes Truncated (kind_by spec served) refl (rw (v, all, e) (suits_plain spec.options.delta)) refl refl v (rw (v, e, f) refl)
+  goes false v false e false f = still_goes (kind_by spec served) refl (rw (v, all, e) (suits_plain spec.options.delta)) v (rw (v, e, f) refl)
 
   pub alive_goes : (s : Bool) (number : ℕ) (kind : HandleKind) (step : Step) → s ≡ option_map_or (λ (o : LiveObject). is_some o.object.server) (object_numbered (content_in t) n) false → number ≡ (content_in t).next_handle
       → kind ≡ kind_by spec s → step ≡ step_on mode spec n s number → IsWay t mode spec (record { kind = kind; step = step })
   alive_goes s number kind step e m k g =
       let is : s ≡ served = e ∙ ap (λ (o : Option LiveObject). option_map_or (λ (o : LiveObject). is_some o.object.server) o false) a.numbered in
       subst (λ (w : Way). IsWay t mode spec w) (λ i. record { kind = (ap (kind_by spec) (sym is) ∙ sym k) i; step = ((λ j. step_on mode spec n (sym is j) (sym m j)) ∙ sym g) i })
-      (goes spec.server refl served refl mode.t refl)
+      (goes spec.options.server refl served refl mode.t refl)
 
 -- ---- a free name
 
-suits_new : (spec : OpenSpec) → spec.all ≡ false → suits (kind_by spec false) false spec.server ≡ true
-suits_new spec all = by spec.server refl
+suits_new : (spec : OpenSpec) → spec.all ≡ false → suits (kind_by spec false) false spec.options.server ≡ true
+suits_new spec all = by spec.options.server refl
   where
     plain : (delta : Bool) → suits (ObjectHandle delta) false false ≡ true
     plain true = refl
     plain false = refl
 
-    by : (v : Bool) → spec.server ≡ v → suits (kind_by spec false) false spec.server ≡ true
+    by : (v : Bool) → spec.options.server ≡ v → suits (kind_by spec false) false spec.options.server ≡ true
     by true v = rw v refl
-    by false v = rw (v, all) (plain spec.delta)
+    by false v = rw (v, all) (plain spec.options.delta)
 
 pub free_goes : (t : Tabled) → (mode : Mode) (spec : OpenSpec) (directory : ℕ) → spec.all ≡ false → place (at (content_in t)) spec.names ≡ Ok None → find_at (at (content_in t)) (parent spec.names) ≡ Ok (FoundDirectory directory)
     → (kind : HandleKind) → kind ≡ kind_by spec false → IsWay t mode spec (record { kind = kind; step = Creates directory })
@@ -212,6 +208,6 @@ free_goes t mode spec directory all placed above kind k = subst (λ (w : Way). I
     whole = record {
       moves = ap (preparing (content_in t) mode spec) found ∙ rw all refl;
       handle = λ conn. ap (new_handle (content_in t) conn mode spec) found
-          ∙ handle_is (content_in t) conn mode spec None (kind_by spec false) (content_in t).next_object (last_name spec.names) refl (rw all (target spec.server (content_in t).next_object)) (rw all refl);
+          ∙ handle_is (content_in t) conn mode spec None (kind_by spec false) (content_in t).next_object (last_name spec.names) refl (rw all (target spec.options.server (content_in t).next_object)) (rw all refl);
       able = record { above = above; suits = suits_new spec all; within = above_number (content_in t) spec.names directory above };
     }

@@ -16,11 +16,9 @@ use Rattle.pps_types.specs.Plan.{Move, Creates, AppendsRecord, Opens as OpensHan
 use Rattle.service_laws.proofs.Finds.{find-true}
 use Rattle.name_table.specs.Laws.{QuestionsAreTold}
 use Rattle.name_table.specs.Standing.{Placed, Named, IsReadyToCreate as IsPathReady, known_of, placed_at}
-use Rattle.notify_box.specs.Standing.{HasHandleRoom}
-use Rattle.engine_servers.specs.Seated.{suits}
-use Rattle.engine_servers.specs.Shared.{Shared}
-use Rattle.engine_targets.specs.declared.opening.Opening.{Opening}
-use Rattle.engine_targets.specs.Opened.{opened, number_of, is_directory}
+use Rattle.server_queue.specs.Shared.{Shared}
+use Rattle.sub_reader.specs.declared.opening.Opening.{Opening}
+use Rattle.sub_reader.specs.Opened.{opened, number_of, is_directory, suits}
 use Rattle.open_handles.specs.Whole.{Whole, Site, HasRoom, IsShared, KeepsSites, site_at, room_at}
 use Rattle.service_state.specs.declared.beginning.Beginning.{Beginning}
 use Rattle.service_state.specs.declared.beginning.Beginning.TheVariants.{AppendsRecord as HappensTo}
@@ -30,7 +28,7 @@ use Rattle.service_state.specs.Beginning.{AreReady, is_keeping, moves_of as begi
 use Rattle.service_state.specs.Lines.{HasLines, HasLinesFor, deletes, is_change}
 use Rattle.service_state.specs.Objects.{object_of, CanCreate, CanCreateUnheard, replacing_object, CanReplace}
 use Rattle.service_state.specs.Tables.{Tabled, content_in}
-use Rattle.service_state.specs.Tied.{KeepsHandleRoom, CanOpen}
+use Rattle.service_state.specs.Tied.{HasRoomForHandle, KeepsHandleRoom, CanOpen}
 use Rattle.path_requests.specs.Planned.{IsReadyOn, IsReadyToCreate, IsReadyToReplace, CanOpenNew, opens_new}
 use Rattle.path_requests.specs.Ways.{SuitsOn, CanTell}
 use Rattle.path_requests.proofs.Carried.{opens_at}
@@ -52,7 +50,7 @@ is_there kind f w fits = by (site_at f w) fits
     by (Some s) fits = refl
 
 pub can_open_there : (t m : Tabled) (f : Found) (o : Opening) → content_in m ≡ content_in t → KeepsHandleRoom t m → o.number ≡ (content_in t).next_handle → SuitsOn o.kind f t.handles
-    → (is_some (site_at f t.handles) ≡ true → 0 < m.handles.rows.room) → (is_some (site_at f t.handles) ≡ true → 0 < room_at f m.handles) → HasHandleRoom o.connection 1 m.connections → CanOpen f o m
+    → (is_some (site_at f t.handles) ≡ true → 0 < m.handles.rows.room) → (is_some (site_at f t.handles) ≡ true → 0 < room_at f m.handles) → HasRoomForHandle o.connection m.connections → CanOpen f o m
 can_open_there t m f o same kept number fits room place connection = record {
   number = number ∙ ap (λ (c : Content). c.next_handle) (sym same);
   room = room (is_there o.kind f t.handles fits);
@@ -151,7 +149,7 @@ unheard_ready t n path directory name told same is ready above last place named 
       records = rw counted records;
     }
 
-pub new_ready : (t n : Tabled) (o : Opening) (service : Bool) → content_in n ≡ content_in t → o.number ≡ (content_in t).next_handle → 0 < n.handles.rows.room → suits o.kind false service ≡ true → HasHandleRoom o.connection 1 n.connections → CanOpenNew service o n
+pub new_ready : (t n : Tabled) (o : Opening) (service : Bool) → content_in n ≡ content_in t → o.number ≡ (content_in t).next_handle → 0 < n.handles.rows.room → suits o.kind false service ≡ true → HasRoomForHandle o.connection n.connections → CanOpenNew service o n
 new_ready t n o service same number room fits connection = record {
   number = number ∙ ap (λ (c : Content). c.next_handle) (sym same);
   room = room;
@@ -164,7 +162,7 @@ pub creates_ready : (t m n : Tabled) (o : NewObject) (opening : Opening) (servic
     → IsPathReady m.names path → n.names ≡ m.names → path ≡ o.path.items → find_at (at (content_in t)) (parent o.path.items) ≡ Ok (FoundDirectory o.directory) → (content_in t).next_object + 1 < 2 ^ 64
     → 0 < m.handles.objects.room → KeepsHandleRoom m n → number ≡ (content_in t).next_object → o.site.object ≡ number → o.site.site ≡ record { name = name; service = service } → name ≡ last_name o.path.items
     → o.server ≡ cond service (Some opening.number) None → o.creation.entry ≡ e → e ≡ record { directory = o.directory; name = name; record_of = record { object = number; kind = Created; writer = None } }
-    → HasRoom (e ∷ []) n.handles → IsShared o.creation.count e n.handles → t.records + 1 < 2 ^ 64 → 0 < m.handles.rows.room → HasHandleRoom opening.connection 1 m.connections → n.connections ≡ m.connections
+    → HasRoom (e ∷ []) n.handles → IsShared o.creation.count e n.handles → t.records + 1 < 2 ^ 64 → 0 < m.handles.rows.room → HasRoomForHandle opening.connection m.connections → n.connections ≡ m.connections
     → opening.number ≡ (content_in t).next_handle → suits opening.kind false service ≡ true → IsReadyToCreate o opening n
 creates_ready t m n o opening service number name path e told first second is ready names same_path above last place kept numbered object site named server told_entry entry room shared records row connection connections handle fits =
     record {
@@ -172,7 +170,7 @@ creates_ready t m n o opening service number name path e told first second is re
           (le_trans place kept.sites.objects.room) (object ∙ numbered) (site ∙ (λ i. record { name = named i; service = sym is_served i }))
           (told_entry ∙ entry ∙ (λ i. record { directory = o.directory; name = named i; record_of = record { object = numbered i; kind = Created; writer = None } }))
           (subst (λ (x : Entry). HasRoom (x ∷ []) n.handles) (sym told_entry) room) (subst (λ (x : Entry). IsShared o.creation.count x n.handles) (sym told_entry) shared) records;
-      opens = new_ready t n opening (is_some o.server) (second ∙ first) handle (le_trans row kept.rows.room) (ap (suits opening.kind false) is_served ∙ fits) (subst (HasHandleRoom opening.connection 1) (sym connections) connection);
+      opens = new_ready t n opening (is_some o.server) (second ∙ first) handle (le_trans row kept.rows.room) (ap (suits opening.kind false) is_served ∙ fits) (subst (HasRoomForHandle opening.connection) (sym connections) connection);
     }
   where
     by : (b : Bool) → is_some (cond b (Some opening.number) None) ≡ b
@@ -250,7 +248,7 @@ pub replaces_ready : (t m n : Tabled) (r : Replacement) (opening : Opening) (num
     → r.deletion.entry ≡ first → IfSome (object_numbered (content_in m) r.object) (λ o. first ≡ entry_of o.object Deleted None)
     → r.creation.entry ≡ second → IfSome (object_numbered (content_in m) r.object) (λ o. second ≡ record { directory = o.object.directory; name = o.object.name; record_of = record { object = number; kind = Created; writer = None } })
     → HasRoom (first ∷ second ∷ []) n.handles → IsShared r.deletion.count first n.handles → IsShared r.creation.count second n.handles → t.records + 2 < 2 ^ 64
-    → 0 < m.handles.rows.room → HasHandleRoom opening.connection 1 m.connections → n.connections ≡ m.connections → opening.number ≡ (content_in t).next_handle → suits opening.kind false true ≡ true → IsReadyToReplace r opening n
+    → 0 < m.handles.rows.room → HasRoomForHandle opening.connection m.connections → n.connections ≡ m.connections → opening.number ≡ (content_in t).next_handle → suits opening.kind false true ≡ true → IsReadyToReplace r opening n
 replaces_ready t m n r opening number first second one two is known some object_room names last place kept object numbered site served told_first deleted told_second made room first_shared second_shared records row connection connections handle fits =
     record {
       replaces = replaced_ready t n r (two ∙ one) is known some (subst (λ (x : Named). 0 < x.objects.room) (sym names) object_room) last (le_trans place kept.sites.objects.room) (object ∙ numbered)
@@ -259,7 +257,7 @@ replaces_ready t m n r opening number first second one two is known some object_
           (if_some (object_numbered (content_in t) r.object) _ _ (λ o e. told_second ∙ e ∙ (λ i. record { directory = o.object.directory; name = o.object.name; record_of = record { object = numbered i; kind = Created; writer = None } })) (at_first _ made))
           (subst (λ (x : Entry). HasRoom (x ∷ r.creation.entry ∷ []) n.handles) (sym told_first) (subst (λ (x : Entry). HasRoom (first ∷ x ∷ []) n.handles) (sym told_second) room))
           (subst (λ (x : Entry). IsShared r.deletion.count x n.handles) (sym told_first) first_shared) (subst (λ (x : Entry). IsShared r.creation.count x n.handles) (sym told_second) second_shared) records;
-      opens = new_ready t n opening (is_some r.server) (two ∙ one) handle (le_trans row kept.rows.room) (ap (suits opening.kind false) served ∙ fits) (subst (HasHandleRoom opening.connection 1) (sym connections) connection);
+      opens = new_ready t n opening (is_some r.server) (two ∙ one) handle (le_trans row kept.rows.room) (ap (suits opening.kind false) served ∙ fits) (subst (HasRoomForHandle opening.connection) (sym connections) connection);
     }
   where
     at_first : (P : LiveObject → Type 0) → IfSome (object_numbered (content_in m) r.object) P → IfSome (object_numbered (content_in t) r.object) P
@@ -280,14 +278,14 @@ kind_told (Some o) e kind some is = ap (λ (e : Entry). e.record_of.kind) is
 
 pub told_ready : (t m n : Tabled) (xs : Vec Beginning Global) (told : Shared) (conn object : ℕ) (kind : Kind) (opening : Opening) (e : Entry) → xs.items ≡ HappensTo told ∷ [] → content_in m ≡ content_in t → content_in n ≡ content_in m
     → CanTell t opening.kind object kind → opening.connection ≡ conn → opening.number ≡ (content_in t).next_handle → t.records + 1 < 2 ^ 64 → told.entry ≡ e → IfSome (object_numbered (content_in t) object) (λ o. e ≡ entry_of o.object kind None)
-    → KeepsHandleRoom t m → KeepsHandleRoom m n → (is_some (site_at (FoundObject object) t.handles) ≡ true → 0 < m.handles.rows.room) → (is_some (site_at (FoundObject object) t.handles) ≡ true → 0 < room_at (FoundObject object) m.handles) → HasHandleRoom conn 1 m.connections
+    → KeepsHandleRoom t m → KeepsHandleRoom m n → (is_some (site_at (FoundObject object) t.handles) ≡ true → 0 < m.handles.rows.room) → (is_some (site_at (FoundObject object) t.handles) ≡ true → 0 < room_at (FoundObject object) m.handles) → HasRoomForHandle conn m.connections
     → HasRoom (e ∷ []) n.handles → IsShared told.count e n.handles → IsReadyOn xs.items (FoundObject object) opening n
 told_ready t m n xs told conn object kind opening e items one two can same_conn number few is its first second row place connection room shared =
     let kinds : e.record_of.kind ≡ kind = kind_told (object_numbered (content_in t) object) e kind can.alive its in
     record {
       begins = subst (λ (ys : List Beginning). AreReady ys n) (sym items) (record_begins t n told e (two ∙ one) few is (ap is_change kinds ∙ can.plain) room shared);
       keeps = ap (list_all is_keeping) items ∙ record_kept told e is (ap deletes kinds ∙ can.keeps);
-      opens = still_open m n (FoundObject object) opening two second (can_open_there t m (FoundObject object) opening one first number can.suits row place (subst (λ (k : ℕ). HasHandleRoom k 1 m.connections) (sym same_conn) connection));
+      opens = still_open m n (FoundObject object) opening two second (can_open_there t m (FoundObject object) opening one first number can.suits row place (subst (λ (k : ℕ). HasRoomForHandle k m.connections) (sym same_conn) connection));
     }
 
 pub told_moved : (t m n : Tabled) (xs : Vec Beginning Global) (told : Shared) (object : ℕ) (kind : Kind) (opening : Opening) (e : Entry) → xs.items ≡ HappensTo told ∷ [] → told.entry ≡ e → IfSome (object_numbered (content_in t) object) (λ o. e ≡ entry_of o.object kind None)

@@ -14,8 +14,8 @@ use Rattle.pps_types.specs.OpenText.{OpenSpec}
 use Rattle.pps_types.specs.Reading.{Open}
 use Rattle.pps_types.specs.Content.{LiveObject, object_numbered}
 use Rattle.pps_types.specs.Plan.{Move, Creates as CreatesObject, AppendsRecord, Opens as OpensHandle, entry_of, new_object}
-use Rattle.engine_targets.specs.declared.opening.Opening.{Opening}
-use Rattle.engine_targets.specs.Opened.{opened, number_of}
+use Rattle.sub_reader.specs.declared.opening.Opening.{Opening}
+use Rattle.sub_reader.specs.Opened.{opened, number_of}
 use Rattle.open_handles.specs.Whole.{name_at}
 use Rattle.service_state.specs.Tables.{Tabled, content_in}
 use Rattle.path_requests.specs.declared.planned_open.Opens.{Opens}
@@ -64,7 +64,7 @@ module _ (t n : Tabled) (conn : ℕ) (mode : Mode) (spec : OpenSpec) (kind : Han
           ≡ step_moves (content_in t) spec (Tells object told) ++ OpensHandle (handle_by (content_in t) conn mode spec kind (object, name_at (FoundObject object) t.handles)) ∷ []
       plain k same = rw same refl
 
-  pub creates_by : (directory : ℕ) (path : Path) (nopersist served : Bool) (s : Step) (r : Result Opens Refusal) → s ≡ Creates directory → CanStep t spec kind s → path ≡ spec.names → nopersist ≡ spec.nopersist → served ≡ spec.server
+  pub creates_by : (directory : ℕ) (path : Path) (nopersist served : Bool) (s : Step) (r : Result Opens Refusal) → s ≡ Creates directory → CanStep t spec kind s → path ≡ spec.names → nopersist ≡ spec.options.nopersist → served ≡ spec.options.server
       → IfOk r (λ o. moves_of o n ≡ CreatesObject (record { number = (content_in t).next_object; directory = directory; name = last_name path; nopersist = nopersist; server = cond served (Some (content_in t).next_handle) None }) ∷ OpensHandle (opened (content_in t).next_object (last_name path) opening) ∷ [])
       → IfOk r (GoesBy s)
   creates_by directory path nopersist served s r is able names keeps serves moved =
@@ -75,7 +75,7 @@ module _ (t n : Tabled) (conn : ℕ) (mode : Mode) (spec : OpenSpec) (kind : Han
       ∷ OpensHandle (opened (content_in t).next_object (last_name (names i)) opening) ∷ [])
       ∙ ap (λ (h : Open (Unit {0})). CreatesObject (new_object (content_in t) spec) ∷ OpensHandle h ∷ []) (fixed (content_in t).next_object (last_name spec.names))) moved)
 
-  pub replaces_by : (object : ℕ) (nopersist : Bool) (s : Step) (r : Result Opens Refusal) → s ≡ Replaces object → CanStep t spec kind s → nopersist ≡ spec.nopersist
+  pub replaces_by : (object : ℕ) (nopersist : Bool) (s : Step) (r : Result Opens Refusal) → s ≡ Replaces object → CanStep t spec kind s → nopersist ≡ spec.options.nopersist
       → IfOk r (λ o. IfSome (object_numbered (content_in t) object) (λ known. moves_of o n ≡ AppendsRecord (entry_of known.object Deleted None)
       ∷ CreatesObject (record { number = (content_in t).next_object; directory = known.object.directory; name = known.object.name; nopersist = nopersist; server = Some (content_in t).next_handle }) ∷ OpensHandle (opened (content_in t).next_object known.object.name opening) ∷ []))
       → IfOk r (GoesBy s)
@@ -85,7 +85,7 @@ module _ (t n : Tabled) (conn : ℕ) (mode : Mode) (spec : OpenSpec) (kind : Han
       ∷ CreatesObject (record { number = (content_in t).next_object; directory = known.object.directory; name = known.object.name; nopersist = nopersist; server = Some (content_in t).next_handle }) ∷ OpensHandle (opened (content_in t).next_object known.object.name opening) ∷ [])) (GoesBy (Replaces object))
       (λ o e. by (object_numbered (content_in t) object) refl o (subst (CanStep t spec kind) is able).alive (subst (CanStep t spec kind) is able).server e) moved)
     where
-      by : (x : Option LiveObject) → object_numbered (content_in t) object ≡ x → (o : Opens) → IsSomeAnd x (λ o. IsFollowedBy (new_object (content_in t) spec) o.object) → spec.server ≡ true
+      by : (x : Option LiveObject) → object_numbered (content_in t) object ≡ x → (o : Opens) → IsSomeAnd x (λ o. IsFollowedBy (new_object (content_in t) spec) o.object) → spec.options.server ≡ true
           → IfSome x (λ known. moves_of o n ≡ AppendsRecord (entry_of known.object Deleted None)
           ∷ CreatesObject (record { number = (content_in t).next_object; directory = known.object.directory; name = known.object.name; nopersist = nopersist; server = Some (content_in t).next_handle }) ∷ OpensHandle (opened (content_in t).next_object known.object.name opening) ∷ [])
           → GoesBy (Replaces object) o

@@ -10,8 +10,8 @@ use Rattle.pps_types.specs.OpenText.{OpenSpec}
 use Rattle.pps_types.specs.Reading.{Open}
 use Rattle.pps_types.specs.Content.{Content, at}
 use Rattle.pps_types.specs.Checks.{mode_fits}
-use Rattle.engine_targets.specs.declared.opening.Opening.{Opening}
-use Rattle.engine_targets.specs.Opened.{opened}
+use Rattle.sub_reader.specs.declared.opening.Opening.{Opening}
+use Rattle.sub_reader.specs.Opened.{opened}
 use Rattle.path_requests.specs.declared.checks.Spot.{Spot}
 use Rattle.path_requests.specs.declared.checks.Spot.TheVariants.{All, Alive, Free}
 use Rattle.path_requests.specs.declared.checks.NumberedSpot.{NumberedSpot}
@@ -38,9 +38,9 @@ pub record IsAsked (c : Content) (mode : Mode) (spec : OpenSpec) (a : NumberedSp
 -- the kind of the handle, where a server object is at the path or not
 abbrev pub kind_by : OpenSpec → Bool → HandleKind
 kind_by spec served =
-    if spec.server then ServerHandle else
-    if spec.all then (if spec.deltadir then NamesHandle else DirectoryHandle spec.delta) else
-    if served then ClientHandle else ObjectHandle spec.delta
+    if spec.options.server then ServerHandle else
+    if spec.all then (if spec.options.deltadir then NamesHandle else DirectoryHandle spec.options.delta) else
+    if served then ClientHandle else ObjectHandle spec.options.delta
 
 -- the handle, of that kind and on the target of that number and name
 abbrev pub handle_by : Content → ℕ → Mode → OpenSpec → HandleKind → ℕ × Name → Open (Unit {0})
@@ -52,11 +52,8 @@ handle_by c conn mode spec kind target = record {
   kind = kind;
   reads = mode.r;
   writes = mode.w;
-  wait = spec.wait;
-  reflect = spec.reflect;
-  critical = spec.critical;
-  filter = spec.filter;
-  limit = unwrap_or spec.limit c.default_limit;
+  options = spec.options.of_handle;
+  limit = unwrap_or spec.options.limit c.default_limit;
   seen = tt;
   parked = None;
   armed = None;

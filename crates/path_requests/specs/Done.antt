@@ -9,7 +9,7 @@ use Rattle.pps_types.specs.Plan.{MakesDirectory}
 use Rattle.service_state.specs.Refused.{effect_in}
 use Rattle.service_state.specs.Tables.{Tabled, content_in}
 use Rattle.path_requests.specs.declared.planned_open.Opens.{Opens}
-use Rattle.path_requests.specs.declared.removing.Unlinked.{Unlinked}
+use Rattle.path_requests.specs.declared.unlinking.Unlinked.{Unlinked}
 use Rattle.path_requests.specs.Planned.{moves_of}
 use Rattle.path_requests.specs.Removed.{moves_in}
 

@@ -9,11 +9,9 @@ use Rattle.pps_types.specs.declared.record.Kind.TheVariants.{Deleted}
 use Rattle.pps_types.specs.Names.{Path, last_name}
 use Rattle.pps_types.specs.Content.{object_numbered}
 use Rattle.pps_types.specs.Plan.{Move, Creates, AppendsRecord, Opens as OpensHandle, entry_of}
-use Rattle.engine_targets.specs.declared.opening.Opening.{Opening}
-use Rattle.engine_targets.specs.Opened.{opened, number_of}
+use Rattle.sub_reader.specs.declared.opening.Opening.{Opening}
+use Rattle.sub_reader.specs.Opened.{opened, number_of, suits}
 use Rattle.name_table.specs.Standing.{placed_at}
-use Rattle.notify_box.specs.Standing.{HasHandleRoom}
-use Rattle.engine_servers.specs.Seated.{suits}
 use Rattle.open_handles.specs.Whole.{name_at}
 use Rattle.service_state.specs.declared.beginning.Beginning.{Beginning}
 use Rattle.service_state.specs.declared.creating.NewObject.{NewObject}
@@ -21,7 +19,7 @@ use Rattle.service_state.specs.declared.creating.Replacement.{Replacement}
 use Rattle.service_state.specs.Beginning.{moves_of as beginning_of, AreReady, is_keeping}
 use Rattle.service_state.specs.Objects.{new_object, CanCreate, replacing_object, CanReplace}
 use Rattle.service_state.specs.Tables.{Tabled, content_in}
-use Rattle.service_state.specs.Tied.{CanOpen}
+use Rattle.service_state.specs.Tied.{HasRoomForHandle, CanOpen}
 use Rattle.path_requests.specs.declared.planned_open.Opens.{Opens}
 use Rattle.path_requests.specs.declared.planned_open.Opens.TheVariants.{OnFound, Creating, Replacing}
 
@@ -73,7 +71,7 @@ pub record CanOpenNew (service : Bool) (o : Opening) (t : Tabled) : Type 0 where
   pub number : o.number ≡ (content_in t).next_handle
   pub room : 0 < t.handles.rows.room
   pub suits : suits o.kind false service ≡ true
-  pub connection : HasHandleRoom o.connection 1 t.connections
+  pub connection : HasRoomForHandle o.connection t.connections
 
 -- the records behind which it opens can be told, and delete nothing
 pub record IsReadyOn (beginning : List Beginning) (found : Found) (o : Opening) (t : Tabled) : Type 0 where

@@ -6,8 +6,8 @@ use Rattle.pps_types.specs.WellFormed.{directory_numbered}
 use Rattle.name_table.specs.Listed.{IsBare}
 use Rattle.service_state.specs.Beginning.{moves_of, AreReady}
 use Rattle.service_state.specs.Tables.{Tabled, content_in}
-use Rattle.path_requests.specs.declared.removing.Unlinked.{Unlinked}
-use Rattle.path_requests.specs.declared.removing.Unlinked.TheVariants.{Object, Directory}
+use Rattle.path_requests.specs.declared.unlinking.Unlinked.{Unlinked}
+use Rattle.path_requests.specs.declared.unlinking.Unlinked.TheVariants.{Object, Directory}
 
 -- what it changes
 abbrev pub moves_in : Unlinked → List Move

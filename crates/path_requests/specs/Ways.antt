@@ -14,8 +14,7 @@ use Rattle.pps_types.specs.OpenText.{OpenSpec}
 use Rattle.pps_types.specs.Content.{Content, Object, at, object_numbered}
 use Rattle.pps_types.specs.Plan.{Move, Creates as CreatesObject, AppendsRecord, Opens as OpensHandle, entry_of, new_object, new_handle, preparing, found_object}
 use Rattle.service_laws.specs.SettlingTargets.{last_number_passed}
-use Rattle.engine_targets.specs.Opened.{number_of, is_directory}
-use Rattle.engine_servers.specs.Seated.{suits}
+use Rattle.sub_reader.specs.Opened.{number_of, is_directory, suits}
 use Rattle.open_handles.specs.Whole.{Whole, name_at, site_at}
 use Rattle.service_state.specs.Lines.{deletes, is_change}
 use Rattle.service_state.specs.Tables.{Tabled, content_in}
@@ -29,7 +28,7 @@ use Rattle.path_requests.specs.Planned.{moves_of}
 -- what is done to an object that is alive, a server's or a plain one, by an open whose handle gets that number
 abbrev pub step_on : Mode → OpenSpec → ℕ → Bool → ℕ → Step
 step_on mode spec object served number =
-    if spec.server then Replaces object else
+    if spec.options.server then Replaces object else
     if served then Tells object (Opened number) else
     if mode.t then Tells object Truncated else Stays (FoundObject object)
 
@@ -85,7 +84,7 @@ pub record CanTell (t : Tabled) (kind : HandleKind) (object : ℕ) (told : Kind)
 -- the directory is the one above the path
 pub record CanCreateIn (t : Tabled) (spec : OpenSpec) (kind : HandleKind) (directory : ℕ) : Type 0 where
   pub above : find_at (at (content_in t)) (parent spec.names) ≡ Ok (FoundDirectory directory)
-  pub suits : suits kind false spec.server ≡ true
+  pub suits : suits kind false spec.options.server ≡ true
   pub within : (new_object (content_in t) spec).directory ≡ directory
 
 -- the other is in the directory above the path, and has the path's last name
@@ -96,7 +95,7 @@ pub record IsFollowedBy (new gone : Object) : Type 0 where
 pub record CanReplaceIt (t : Tabled) (spec : OpenSpec) (kind : HandleKind) (object : ℕ) : Type 0 where
   pub alive : IsSomeAnd (object_numbered (content_in t) object) (λ o. IsFollowedBy (new_object (content_in t) spec) o.object)
   pub suits : suits kind false true ≡ true
-  pub server : spec.server ≡ true
+  pub server : spec.options.server ≡ true
 
 abbrev pub CanStep : Tabled → OpenSpec → HandleKind → Step → Type 0
 CanStep t spec kind (Stays found) = SuitsOn kind found t.handles

@@ -3,19 +3,19 @@ ghost use Rattle.std.specs.Prelude.{◌≡◌, ◌+◌, ◌<◌, ◌^◌, true, 
 ghost use Rattle.pps_types.specs.WellFormed.{IsContent};
 ghost use Rattle.pps_types.specs.declared.refusal.Refusal.TheVariants.{OutOfMemory};
 ghost use Rattle.name_table.specs.Standing.{IsReadyToCreate};
-ghost use Rattle.notify_box.specs.Standing.{HasHandleRoom};
-ghost use Rattle.engine_servers.specs.Seated.{suits};
+ghost use Rattle.sub_reader.specs.Opened.{suits};
 ghost use Rattle.service_state.specs.Tables.{content_in};
+ghost use Rattle.service_state.specs.Tied.{HasRoomForHandle};
 ghost use Rattle.path_requests.specs.FoundIn.{IsAboveIn};
 ghost use Rattle.path_requests.specs.Planned.{moves_of, creation_moves, IsReady};
 
 use crate::planned_open::Opens;
-use engine_targets::Opening;
 use name_table::{last_name, questions_are_told};
 use open_handles::NewSite;
 use pps_types::{Bytes, Conn, DirId, Found, Handle, Kind, ObjId, Refusal};
 use service_state::{NewObject, Tables, entry_about};
 use std::alloc::Global;
+use sub_reader::Opening;
 
 /// The handle that owns an object, where it is a server's.
 pub(crate) fn owner(number: Handle, is_served: bool) -> Option<Handle>
@@ -35,7 +35,7 @@ fn object_ready(
     ensures ready { OnOk result (IsReadyToCreate tables.new.names path.now) }
     ensures place { OnOk result (0 < tables.new.handles.objects.room) }
     ensures room { OnOk result (0 < tables.new.handles.rows.room) }
-    ensures connection { OnOk result (HasHandleRoom conn 1 tables.new.connections) }
+    ensures connection { OnOk result (HasRoomForHandle conn tables.new.connections) }
     ensures err { IfErr result (λ r. r ≡ OutOfMemory) }
 {
     let Ok(()) = tables.create_ready(path) else {

@@ -3,10 +3,10 @@ ghost use Rattle.std.specs.Prelude.{◌≡◌};
 ghost use Rattle.service_state.specs.Tables.{content_in};
 ghost use Rattle.path_requests.specs.Asked.{FixesHandle, kind_by};
 
-use engine_targets::Opening;
 use open_options::OpenSpec;
 use pps_types::{Bytes, Conn, Handle, HandleKind, Mode};
 use service_state::Tables;
+use sub_reader::Opening;
 
 /// The kind of handle that an open makes, where a server object is at its path or not.
 pub(crate) fn kind_opened(spec: &OpenSpec, is_served: bool) -> HandleKind
@@ -47,21 +47,15 @@ pub(crate) fn new_opening(
     ensures number { result.1.number ≡ (content_in tables.now).next_handle }
     ensures opening { FixesHandle (content_in tables.now) conn mode spec kind result.1 }
 {
-    let wait = spec.wait();
-    let reflect = spec.reflect();
-    let critical = spec.critical();
     let limit = spec.limit().unwrap_or(tables.default_limit());
-    let (path, filter) = spec.into_parts();
+    let (path, options) = spec.into_parts();
     let opening = Opening {
         number,
         connection: conn,
         kind,
         reads: mode.r,
         writes: mode.w,
-        wait,
-        reflect,
-        critical,
-        filter,
+        options,
         limit,
     };
     (path.into_names(), opening)

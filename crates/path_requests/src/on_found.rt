@@ -8,10 +8,10 @@ ghost use Rattle.path_requests.specs.Ways.{SuitsOn, CanTell};
 
 use crate::planned_open::Opens;
 use crate::records::entry_of;
-use engine_targets::Opening;
 use pps_types::{Conn, Found, Kind, ObjId, Refusal};
 use service_state::{Beginning, Tables};
 use std::alloc::Global;
+use sub_reader::Opening;
 
 // The same object or directory.
 fn same(found: &Found) -> Found

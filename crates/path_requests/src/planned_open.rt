@@ -3,9 +3,9 @@ ghost use Rattle.std.specs.Prelude.{◌≡◌};
 ghost use Rattle.service_state.specs.Tied.{Moves};
 ghost use Rattle.path_requests.specs.Planned.{moves_of, IsReady};
 
-use engine_targets::Opening;
 use pps_types::{Found, ObjId};
 use service_state::{Beginning, NewObject, Replacement, Tables};
+use sub_reader::Opening;
 
 /// What an open does.
 #[derive(Drop)]

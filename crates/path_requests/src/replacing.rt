@@ -2,23 +2,22 @@
 ghost use Rattle.std.specs.Prelude.{◌≡◌, ◌+◌, ◌<◌, ◌^◌, ◌∷◌, [], true, false, IsSome, IfOk, IfErr, OnOk};
 ghost use Rattle.pps_types.specs.WellFormed.{IsContent};
 ghost use Rattle.pps_types.specs.declared.refusal.Refusal.TheVariants.{OutOfMemory};
-ghost use Rattle.engine_servers.specs.Seated.{suits};
-ghost use Rattle.notify_box.specs.Standing.{HasHandleRoom};
+ghost use Rattle.sub_reader.specs.Opened.{suits};
 ghost use Rattle.open_handles.specs.Whole.{HasRoom, IsShared};
 ghost use Rattle.service_state.specs.Tables.{content_in};
-ghost use Rattle.service_state.specs.Tied.{KeepsHandleRoom};
+ghost use Rattle.service_state.specs.Tied.{HasRoomForHandle, KeepsHandleRoom};
 ghost use Rattle.service_state.specs.Refused.{IsKnownIn, live_object_in};
 ghost use Rattle.path_requests.specs.Alive.{IsCreationFor, IsServersSite};
 ghost use Rattle.path_requests.specs.Planned.{TakesOver, IsReady};
 
 use crate::planned_open::Opens;
 use crate::records::entry_of;
-use engine_targets::Opening;
 use open_handles::{NewSite, SharedRecord};
 use pps_types::{Bytes, Conn, Found, Kind, ObjId, Refusal};
 use server_queue::Entry;
 use service_state::{Replacement, Tables, entry_about};
 use std::alloc::Global;
+use sub_reader::Opening;
 
 // Room for an object that takes another's place, with its first handle. OutOfMemory is the only error.
 fn object_ready(tables: &mut Tables, object: ObjId, conn: Conn) -> Result<(), Refusal>
@@ -26,7 +25,7 @@ fn object_ready(tables: &mut Tables, object: ObjId, conn: Conn) -> Result<(), Re
     ensures objects { OnOk result (0 < tables.new.names.objects.room) }
     ensures place { OnOk result (0 < tables.new.handles.objects.room) }
     ensures room { OnOk result (0 < tables.new.handles.rows.room) }
-    ensures connection { OnOk result (HasHandleRoom conn 1 tables.new.connections) }
+    ensures connection { OnOk result (HasRoomForHandle conn tables.new.connections) }
     ensures err { IfErr result (λ r. r ≡ OutOfMemory) }
 {
     tables.replace_ready()?;

@@ -6,7 +6,7 @@ use Rattle.std.proofs.Math.Seq.{get_or-append_seam}
 use Rattle.std.proofs.Math.Nat.{eq-or-lt_of_le}
 use Rattle.std.specs.Io.KnownBytes.{Appends}
 use Rattle.pps_types.specs.Writing.{SendsPart}
-use Rattle.pps_dispatch.specs.History.{Pieces, joined, AreServed}
+use Rattle.pps_dispatch.specs.History.{Pieces, joined, AreServedByName}
 use Rattle.pps_dispatch.specs.Printed.{sessions_text, connections_of}
 use Rattle.pps_dispatch.specs.Scripts.{IsSessionOf}
 use Rattle.pps_dispatch.specs.Serving.{connection_at, IsOfScript, AreOfScripts, AreServedAs}
@@ -65,7 +65,7 @@ fails-at held files k connection file failure within here is why = record {
 -- ---- what is printed in the end
 
 module _ (held : List ℕ → Option (List ℕ)) (files : List (List ℕ)) (olds news : List Conversation) (history : Pieces) (a b : Option (List ℕ))
-    (of : AreOfFiles held files olds) (served : AreServedAs (length files) olds history) (answered : AreServed history olds news) where
+    (of : AreOfFiles held files olds) (served : AreServedAs (length files) olds history) (answered : AreServedByName history olds news) where
   -- what is written of the sessions that came back is that of those that were served
   same-text : sessions_text files (connections_of news) (joined history) ≡ sessions_text files (connections_of olds) (joined history)
   same-text = ap (λ cs. sessions_text files cs (joined history)) (same-connections history olds news answered)

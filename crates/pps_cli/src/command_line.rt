@@ -1,5 +1,5 @@
 //! The command line.
-ghost use Rattle.std.specs.Prelude.{◌≡◌, ◌≤◌, IfErr, IfOk, IfSome, codes, map};
+ghost use Rattle.std.specs.Prelude.{◌≡◌, ◌≤◌, ◌&&◌, IfErr, IfOk, IfSome, codes, is_some, map, nat_le};
 ghost use Rattle.clap.specs.Matches.{first_value, found_of, one_text};
 ghost use Rattle.clap.specs.Simple.{app_of};
 ghost use Rattle.pps_cli.specs.Faults.{IsFaultOfWords};
@@ -64,7 +64,8 @@ impl Model for Workers {
 impl Workers {
     // So many workers, if they are 1 to 8.
     fn new(count: u16) -> Option<Workers>
-        ensures { IfSome result (λ workers. workers ≡ count) }
+        ensures some { IfSome result (λ workers. workers ≡ count) }
+        ensures range { is_some result ≡ (nat_le 1 count && nat_le count 8) }
     {
         if (1..=WORKERS_MAX).contains(&count) {
             return Some(Workers(count));

@@ -13,7 +13,7 @@ use crate::command_line::ServeOptions;
 use crate::fault::{Failure, Fault};
 use crate::images::cannot_replace;
 use pps_dispatch::{
-    Gate, Segment, ServeError, Served, Session, SessionFault, distinct, serve, session_of,
+    Gate, Segment, ServeError, Served, Session, SessionFault, distinct, serve_named, session_of,
     write_history, write_sessions,
 };
 use pps_engine::Engine;
@@ -182,7 +182,7 @@ fn serve_sessions<'w, F: ImageFiles, R: Threads + Wait + Sync, O: Write>(
     }
     let engine = Engine::new(alloc)?;
     let workers = options.workers.count();
-    match serve(rt, alloc, engine, sessions, workers, TRACE_LIMIT, &OpenGate) {
+    match serve_named(rt, alloc, engine, sessions, workers, TRACE_LIMIT, &OpenGate) {
         Ok(served) => {
             write_answers(alloc, scripts, &served, output)?;
             Ok(served)

@@ -5,7 +5,7 @@ use Rattle.std.proofs.lemmas.Bool.{cases_eq}
 use Rattle.std.proofs.lemmas.List.{length-set, get_or-set_same, get_or-set_other, get_or_default}
 use Rattle.pps_lock.specs.Trace.{Piece}
 use Rattle.pps_dispatch.specs.Sessions.{Conversation}
-use Rattle.pps_dispatch.specs.History.{with_messages_of, HaveMessages, AreAnswered, AreServed}
+use Rattle.pps_dispatch.specs.History.{with_messages_of, HaveMessages, AreNamed, AreServedByName}
 
 -- so many have done so, and the others are as they were
 pub record Exchanged (firsts others olds news : List Conversation) (count : ℕ) : Type 0 where
@@ -43,19 +43,18 @@ one_exchanged firsts others olds news i e f a b before count lt is = record {
 pub all_exchanged : (firsts others olds news : List Conversation) (i : ℕ) → Exchanged firsts others olds news i → length firsts ≤ i → HaveMessages firsts others olds
 all_exchanged firsts others olds news i exchanged le = record { count = exchanged.as_many; each = λ k d lt. exchanged.done k d (omega (arith, lt, le)) }
 
--- what is answered, with the messages that were handed in, is served
-pub served_of : (ps : List Piece) (asked answered served : List Conversation) → AreAnswered ps asked answered → HaveMessages answered asked served → AreServed ps asked served
-served_of ps asked answered served ans have = record {
-  answered = record {
-    count = have.count ∙ ans.count;
+-- what is named, with the messages that were handed in, is served
+pub served_of : (ps : List Piece) (asked answered served : List Conversation) → AreNamed ps asked answered → HaveMessages answered asked served → AreServedByName ps asked served
+served_of ps asked answered served named have = record {
+  named = record {
+    count = have.count ∙ named.count;
     each = λ k d lt.
-        let is = have.each k d (omega (arith, lt, ans.count)) in
-        let old = ans.each k d lt in record {
+        let is = have.each k d (omega (arith, lt, named.count)) in
+        let old = named.each k d lt in record {
           connection = ap (λ (s : Conversation). s.connection) is ∙ old.connection;
           asked = old.asked;
-          replies = ap (λ (s : Conversation). s.replies) is ∙ old.replies;
           receipts = ap (λ (s : Conversation). s.receipts) is ∙ old.receipts;
         };
   };
-  messages = λ k d lt. ap (λ (s : Conversation). s.events) (have.each k d (omega (arith, lt, ans.count)));
+  messages = λ k d lt. ap (λ (s : Conversation). s.events) (have.each k d (omega (arith, lt, named.count)));
 }

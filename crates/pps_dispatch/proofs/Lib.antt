@@ -1,6 +1,7 @@
 pub mod Connections
 pub mod Exchanging
 pub mod Frames
+pub mod FramesMade
 pub mod Indexing
 pub mod Replaying
 pub mod Searching

@@ -12,7 +12,7 @@ use Rattle.pps_lock.specs.declared.book.Receipt.{Receipt}
 use Rattle.pps_lock.specs.Trace.{Piece, receipt}
 use Rattle.pps_script.proofs.Pieces.{head-of}
 use Rattle.pps_dispatch.specs.Sessions.{Conversation}
-use Rattle.pps_dispatch.specs.History.{joined, named_in, named_for, Joins, AreServed}
+use Rattle.pps_dispatch.specs.History.{joined, named_in, named_for, Joins, AreServedByName}
 use Rattle.pps_dispatch.specs.Named.{entry_named, Names}
 
 -- what stands behind some elements
@@ -80,9 +80,9 @@ named-for all before connection (p ∷ ps) n c d is at joins =
     ∙ ap (map Some) (sym (filter-append (λ (x : Answered). x.event.conn == connection) p.entries (joined ps)))
 
 -- of each session that was served
-pub served-names : (ps : List Piece) (c d : Content) (olds news : List Conversation) → Joins 0 c ps d → AreServed ps olds news → All (Names ps) news
+pub served-names : (ps : List Piece) (c d : Content) (olds news : List Conversation) → Joins 0 c ps d → AreServedByName ps olds news → All (Names ps) news
 served-names ps c d olds news joins served k e lt =
-    let one = served.answered.each k e (omega (arith, lt, served.answered.count)) in
+    let one = served.named.each k e (omega (arith, lt, served.named.count)) in
     ap (map (entry_named ps)) one.receipts
     ∙ named-for ps [] _ ps 0 c d refl refl joins
     ∙ ap (λ n. map Some (entries_of n (joined ps))) (sym one.connection)

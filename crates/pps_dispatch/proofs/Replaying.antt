@@ -4,14 +4,9 @@ use Rattle.std.proofs.lemmas.List.Elements.{All-nil, All-append}
 use Rattle.pps_types.specs.Content.{Content}
 use Rattle.pps_types.specs.Outcome.{IsSendable}
 use Rattle.pps_types.specs.Runs.{Answered}
-use Rattle.pps_types.specs.Stands.{RunsSeen}
+use Rattle.pps_engine.proofs.Runs.{runs-append}
 use Rattle.pps_lock.specs.Trace.{Piece, Replays}
 use Rattle.pps_dispatch.specs.History.{joined, Joins}
-
--- one run and then another
-runs-append : (b c d : Content) (xs ys : List Answered) → RunsSeen b xs c → RunsSeen c ys d → RunsSeen b (xs ++ ys) d
-runs-append b c d [] ys same behind = subst (λ (a : Content). RunsSeen a ys d) same behind
-runs-append b c d (x ∷ xs) ys run behind = (run.0, run.1, runs-append run.0 c d xs ys run.2 behind)
 
 replays-append : (b c d : Content) (xs ys : List Answered) → Replays b xs c → Replays c ys d → Replays b (xs ++ ys) d
 replays-append b c d xs ys first second = record {

@@ -1,21 +1,19 @@
 -- What is found of the sessions in one trace and then in the next is found in both, one behind the other.
-use Rattle.std.proofs.Common.{◌≡◌, ℕ, ◌+◌, ◌==◌, ◌<◌, Bool, true, false, take, drop, List, [], ◌∷◌, ◌++◌, refl, sym, ap, ◌∙◌, subst, append_assoc, length, map, arith, inl, inr}
+use Rattle.std.proofs.Common.{◌≡◌, ℕ, ◌+◌, ◌==◌, ◌<◌, Bool, true, false, take, List, [], ◌∷◌, ◌++◌, refl, sym, ap, ◌∙◌, subst, append_assoc, length, map, arith, inl, inr}
 use Rattle.std.specs.Prelude.{if◌then◌else◌, ◌&&◌, slice_index_or, slice_set, replicate}
-use Rattle.std.specs.List.{flat_map, list_all, list_any}
+use Rattle.std.specs.List.{list_all, list_any}
 use Rattle.std.proofs.lemmas.Bool.{cases_Bool, cases_eq}
 use Rattle.std.proofs.lemmas.Bool.Decides.{nat_tests}
-use Rattle.std.proofs.lemmas.List.{map-append, append-nil, length-set, get_or-set_same, get_or-set_other, get_or_default, get_or_read_under, drop-drop, take_more, length-take-le, get_or-replicate}
+use Rattle.std.proofs.lemmas.List.{map-append, append-nil, length-set, get_or-set_same, get_or-set_other, get_or_default, get_or_read_under, take_more, length-take-le, get_or-replicate}
 use Rattle.std.proofs.lemmas.List.Elements.{filter-append, All-map}
 use Rattle.std.proofs.lemmas.List.Folds.{list_all-append}
-use Rattle.std.proofs.lemmas.Grind.{flat_map-append}
-use Rattle.pps_types.specs.Frame.{answer_frame}
 use Rattle.pps_types.specs.Merge.{Session, entries_of, are_distinct}
 use Rattle.pps_types.specs.Runs.{Answered, events_of}
 use Rattle.pps_lock.specs.declared.book.Receipt.{Receipt}
 use Rattle.pps_lock.specs.Trace.{Piece, receipt}
 use Rattle.pps_dispatch.specs.declared.history.Found.{Found}
 use Rattle.pps_dispatch.specs.Sessions.{Conversation, asked, is_known}
-use Rattle.pps_dispatch.specs.History.{joined, asked_by, frames_for, named_in, named_for, AreAnswered, Merges}
+use Rattle.pps_dispatch.specs.History.{joined, asked_by, named_in, named_for, AreNamed, Merges}
 use Rattle.pps_dispatch.specs.Search.{not_begun, Left, left_of, left_at, Finds, FindsAll, FindsEach, FindsSegments, are_known, AreFound}
 use Rattle.pps_dispatch.proofs.Connections.{list_any-map, known_at, same_place}
 
@@ -23,11 +21,6 @@ use Rattle.pps_dispatch.proofs.Connections.{list_any-map, known_at, same_place}
 
 asked_by-append : (c : ℕ) (xs ys : List Answered) → asked_by c (xs ++ ys) ≡ asked_by c xs ++ asked_by c ys
 asked_by-append c xs ys = ap events_of (filter-append (λ (x : Answered). x.event.conn == c) xs ys) ∙ map-append (λ (x : Answered). x.event) (entries_of c xs) (entries_of c ys)
-
-frames_for-append : (c : ℕ) (xs ys : List Answered) → frames_for c (xs ++ ys) ≡ frames_for c xs ++ frames_for c ys
-frames_for-append c xs ys =
-    ap (flat_map (λ (x : Answered). answer_frame x.event.conn x.reply)) (filter-append (λ (x : Answered). x.event.conn == c) xs ys)
-    ∙ flat_map-append (λ (x : Answered). answer_frame x.event.conn x.reply) (entries_of c xs) (entries_of c ys)
 
 named_cons : (c number i : ℕ) (x : Answered) (xs : List Answered) (rest : List Receipt) → named_in c number (i + 1) xs ≡ rest
     → named_in c number i (x ∷ xs) ≡ (if x.event.conn == c then receipt number i ∷ rest else rest)
@@ -62,7 +55,6 @@ finds-append : (c number i j : ℕ) (xs ys : List Answered) (a b x : Left) → j
 finds-append c number i j xs ys a b x is first second = record {
   events = behind _ _ _ _ _ _ (asked_by-append c xs ys) first.events second.events;
   receipts = behind _ _ _ _ _ _ (named_in-append c number i xs ys ∙ ap (λ k. named_in c number i xs ++ named_in c number k ys) (sym is)) first.receipts second.receipts;
-  replies = behind _ _ _ _ _ _ (frames_for-append c xs ys) first.replies second.replies;
 }
 
 finds_all-segment : (c : ℕ) (ps : List Piece) (p : Piece) (a b x : Left) → FindsAll c ps a b → Finds c p.number 0 p.entries b x → FindsAll c (ps ++ p ∷ []) a x
@@ -72,23 +64,21 @@ finds_all-segment c ps p a b x first second =
     let whole = joined-append ps (p ∷ []) ∙ ap (λ (l : List Answered). joined ps ++ l) one in record {
       events = behind _ _ _ _ _ _ (ap (asked_by c) whole ∙ asked_by-append c (joined ps) p.entries) first.events second.events;
       receipts = behind _ _ _ _ _ _ (named_for-append c ps (p ∷ []) ∙ ap (λ (l : List Receipt). named_for c ps ++ l) names) first.receipts second.receipts;
-      replies = behind _ _ _ _ _ _ (ap (frames_for c) whole ∙ frames_for-append c (joined ps) p.entries) first.replies second.replies;
     }
 
 -- one entry, of a session's connection
 pub found_entry : (c number i : ℕ) (x : Answered) (a b : Left) → x.event.conn ≡ c → a.events ≡ x.event ∷ b.events → a.receipts ≡ receipt number i ∷ b.receipts
-    → a.replies ≡ answer_frame x.event.conn x.reply ++ b.replies → Finds c number i (x ∷ []) a b
-found_entry c number i x a b own events receipts replies =
+    → Finds c number i (x ∷ []) a b
+found_entry c number i x a b own events receipts =
     let test : (x.event.conn == c) ≡ true = grind (arith, nat_tests, own) in record {
       events = rw test events;
       receipts = rw test receipts;
-      replies = rw test (replies ∙ ap (λ (l : List ℕ). l ++ b.replies) (sym (append-nil (answer_frame x.event.conn x.reply))));
     }
 
 -- of another connection
 pub passed_entry : (c number i : ℕ) (x : Answered) (a : Left) → (x.event.conn ≡ c → ⊥) → Finds c number i (x ∷ []) a a
 passed_entry c number i x a other =
-    let test : (x.event.conn == c) ≡ false = grind (arith, nat_tests, other) in record { events = rw test refl; receipts = rw test refl; replies = rw test refl }
+    let test : (x.event.conn == c) ≡ false = grind (arith, nat_tests, other) in record { events = rw test refl; receipts = rw test refl }
 
 both_true : {a b : Bool} → a ≡ true → b ≡ true → (a && b) ≡ true
 both_true p q = rw p q
@@ -96,7 +86,7 @@ both_true p q = rw p q
 -- ---- of all sessions
 
 pub no_entry : (asked answered : List Conversation) (found : List Found) (number : ℕ) → FindsEach asked answered found found number 0 []
-no_entry asked answered found number = record { count = refl; known = refl; each = λ k d f lt. record { events = refl; receipts = refl; replies = refl } }
+no_entry asked answered found number = record { count = refl; known = refl; each = λ k d f lt. record { events = refl; receipts = refl } }
 
 pub finds_each-append : (asked answered : List Conversation) (a b x : List Found) (number i j : ℕ) (xs ys : List Answered) → j ≡ i + length xs
     → FindsEach asked answered a b number i xs → FindsEach asked answered b x number j ys → FindsEach asked answered a x number i (xs ++ ys)
@@ -107,7 +97,7 @@ finds_each-append asked answered a b x number i j xs ys is first second = record
 }
 
 pub no_segment : (asked answered : List Conversation) (found : List Found) → FindsSegments asked answered found found []
-no_segment asked answered found = record { count = refl; known = refl; each = λ k d f lt. record { events = refl; receipts = refl; replies = refl } }
+no_segment asked answered found = record { count = refl; known = refl; each = λ k d f lt. record { events = refl; receipts = refl } }
 
 pub finds_segments-one : (asked answered : List Conversation) (a b x : List Found) (ps : List Piece) (p : Piece)
     → FindsSegments asked answered a b ps → FindsEach asked answered b x p.number 0 p.entries → FindsSegments asked answered a x (ps ++ p ∷ [])
@@ -166,10 +156,10 @@ finds_each-entry asked answered before after number i j s t g next x distinct as
 -- ---- at the end
 
 -- all is found, and nothing is left
-pub answered_of : (asked answered : List Conversation) (before found : List Found) (ps : List Piece) → FindsSegments asked answered before found ps
+pub named_of : (asked answered : List Conversation) (before found : List Found) (ps : List Piece) → FindsSegments asked answered before found ps
     → before ≡ replicate (length asked) not_begun
-    → length answered ≡ length asked → AreFound asked answered found (length asked) → AreAnswered ps asked answered
-answered_of asked answered before found ps finds none count end = record {
+    → length answered ≡ length asked → AreFound asked answered found (length asked) → AreNamed ps asked answered
+named_of asked answered before found ps finds none count end = record {
   count = count;
   each = λ k d lt.
       let f = not_begun in
@@ -178,7 +168,6 @@ answered_of asked answered before found ps finds none count end = record {
       let all = subst (λ (p : Left × Left). FindsAll (slice_index_or asked k d).connection ps p.0 p.1) (λ t. (begun t, end.nothing k d f lt t)) first in record {
         connection = end.connections k d lt;
         asked = sym (all.events ∙ append-nil (asked_by (slice_index_or asked k d).connection (joined ps)));
-        replies = all.replies ∙ append-nil (frames_for (slice_index_or asked k d).connection (joined ps));
         receipts = all.receipts ∙ append-nil (named_for (slice_index_or asked k d).connection ps);
       };
 }
@@ -191,16 +180,8 @@ known_all sessions [] = refl
 known_all sessions (x ∷ xs) = ap (λ b. b && list_all (λ (x : Answered). list_any (λ (s : Session). s.connection == x.event.conn) (map asked sessions)) xs) (known_asked sessions x.event.conn)
     ∙ ap (λ b. is_known sessions x.event.conn && b) (known_all sessions xs)
 
-pub merge_of : (sessions answered : List Conversation) (ps : List Piece) → are_known sessions (joined ps) ≡ true → AreAnswered ps sessions answered → Merges sessions ps
-merge_of sessions answered ps known served = record {
+pub merge_of : (sessions answered : List Conversation) (ps : List Piece) → are_known sessions (joined ps) ≡ true → AreNamed ps sessions answered → Merges sessions ps
+merge_of sessions answered ps known named = record {
   known = known_all sessions (joined ps) ∙ known;
-  each = All-map (λ (s : Session). asked_by s.connection (joined ps) ≡ s.events) asked sessions (λ k d lt. (served.each k d lt).asked);
+  each = All-map (λ (s : Session). asked_by s.connection (joined ps) ≡ s.events) asked sessions (λ k d lt. (named.each k d lt).asked);
 }
-
--- ---- the answer of one entry
-
--- an answer's frame stands next, and behind it what is left then
-pub frame_first : (replies rest frame : List ℕ) (bytes n : ℕ) → rest ≡ drop bytes replies → rest ≡ frame ++ drop (length frame) rest → n ≡ length frame
-    → drop bytes replies ≡ frame ++ drop (bytes + n) replies
-frame_first replies rest frame bytes n is parts count =
-    sym is ∙ parts ∙ ap (λ (l : List ℕ). frame ++ l) (ap (drop (length frame)) is ∙ drop-drop (length frame) bytes replies ∙ ap (λ k. drop k replies) (omega (arith, count)))

@@ -1,6 +1,6 @@
 -- Sessions in their order, before they are served and after.
-use Rattle.std.proofs.Common.{◌≡◌, ◌+◌, ◌<◌, ◌≤◌, ℕ, zero, suc, length, get_or, true, List, [], ◌∷◌, ◌++◌, length-append, refl, sym, ap, subst, ◌∙◌, arith, inl, inr}
-use Rattle.std.specs.Prelude.{map, slice_index_or, Option, Result, Ok, Err, OnErr}
+use Rattle.std.proofs.Common.{◌≡◌, ◌<◌, ◌≤◌, ℕ, suc, length, true, List, [], ◌∷◌, ◌++◌, length-append, refl, sym, ap, subst, ◌∙◌, arith, inl, inr}
+use Rattle.std.specs.Prelude.{slice_index_or, Option, Result, Ok, Err, OnErr}
 use Rattle.std.proofs.lemmas.List.{get_or_append_left}
 use Rattle.std.proofs.Math.Seq.{get_or-append_seam}
 use Rattle.std.proofs.Math.Nat.{eq-or-lt_of_le}
@@ -13,7 +13,7 @@ use Rattle.pps_types.proofs.KnownBytes.{keeps_itself}
 use Rattle.std.specs.Io.KnownBytes.{Appends}
 use Rattle.pps_lock.specs.Trace.{Piece, Replays}
 use Rattle.pps_dispatch.specs.Sessions.{Conversation}
-use Rattle.pps_dispatch.specs.History.{joined, Joins, Merges, AreServed}
+use Rattle.pps_dispatch.specs.History.{joined, Joins, Merges, AreServedByName}
 use Rattle.pps_dispatch.specs.Printed.{sessions_text, connections_of}
 use Rattle.pps_dispatch.specs.Serving.{connection_at, IsOfScript, AreOfScripts, AreServedAs, PrintsAll, PrintsSome}
 
@@ -43,8 +43,8 @@ of_scripts-more sessions session k connection one of count is = record { each = 
     ]
 
 -- after serving they have the connections that they had
-pub same-connections : (ps : List Piece) (olds news : List Conversation) → AreServed ps olds news → connections_of news ≡ connections_of olds
-same-connections ps olds news served = by olds news served.answered.count (λ k d lt. (served.answered.each k d lt).connection)
+pub same-connections : (ps : List Piece) (olds news : List Conversation) → AreServedByName ps olds news → connections_of news ≡ connections_of olds
+same-connections ps olds news served = by olds news served.named.count (λ k d lt. (served.named.each k d lt).connection)
   where
     by : (os ns : List Conversation) → length ns ≡ length os → ((k : ℕ) (d : Conversation) → k < length os → (slice_index_or ns k d).connection ≡ (slice_index_or os k d).connection)
         → connections_of ns ≡ connections_of os
@@ -73,7 +73,7 @@ prints-none X E files a (Ok x) = tt
 prints-none X E files a (Err e) = inl (keeps_itself a)
 
 module _ (files : List (List ℕ)) (olds news : List Conversation) (history : List Piece) (a b : Option (List ℕ))
-    (served : AreServedAs (length files) olds history) (answered : AreServed history olds news) where
+    (served : AreServedAs (length files) olds history) (answered : AreServedByName history olds news) where
   -- what is written of the sessions that came back is that of those that were served
   same-text : sessions_text files (connections_of news) (joined history) ≡ sessions_text files (connections_of olds) (joined history)
   same-text = ap (λ cs. sessions_text files cs (joined history)) (same-connections history olds news answered)

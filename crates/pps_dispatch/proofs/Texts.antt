@@ -1,15 +1,13 @@
 -- Texts that are made or written part after part.
-use Rattle.std.proofs.Common.{◌≡◌, ◌+◌, ◌<◌, ◌≤◌, ℕ, zero, suc, length, drop, get_or, take, map, Bor, Bool, true, false, List, [], ◌∷◌, ◌++◌, Option, Some, None, append_assoc, append-nil, add-one, refl, sym, ap, subst, ◌∙◌, arith}
+use Rattle.std.proofs.Common.{◌≡◌, ◌+◌, ◌<◌, ◌≤◌, ℕ, zero, suc, length, drop, get_or, take, map, Bor, false, List, [], ◌∷◌, ◌++◌, Option, Some, None, append_assoc, append-nil, add-one, refl, sym, ap, subst, ◌∙◌, arith}
 use Rattle.std.specs.Prelude.{codes, decimal}
-use Rattle.std.specs.List.{flat_map}
 use Rattle.std.proofs.lemmas.Grind.{flat_map-append}
 use Rattle.std.proofs.lemmas.List.{drop_all, length-map, get_or-map, take_more, flat_map_more}
 use Rattle.std.proofs.Math.Seq.{take-append_seam, take-length}
 use Rattle.std.specs.Io.KnownBytes.{Appends, Keeps}
-use Rattle.pps_types.specs.Merge.{entries_of}
 use Rattle.pps_types.specs.Runs.{Answered}
 use Rattle.pps_types.specs.Writing.{SendsPart, Holds}
-use Rattle.pps_types.proofs.KnownBytes.{Appends-none, Appends-then, Appends-same}
+use Rattle.pps_types.proofs.KnownBytes.{Appends-then, Appends-same}
 use Rattle.pps_types.proofs.Writing.{holds-part, holds-sent, part-more}
 use Rattle.pps_script.specs.Answer.{answer_line}
 use Rattle.pps_script.specs.Script.{answers_of}

@@ -36,6 +36,10 @@ ReplaysAll first ps last = Replays first.content (joined ps) last.content
 abbrev pub asked_by : ℕ → List Answered → List Event
 asked_by c xs = events_of (entries_of c xs)
 
+-- the frames of the answers of entries, one after the other
+abbrev pub frames_of : List Answered → List ℕ
+frames_of xs = flat_map (λ x. answer_frame x.event.conn x.reply) xs
+
 -- the frames of its answers
 abbrev pub frames_for : ℕ → List Answered → List ℕ
 frames_for c xs = flat_map (λ x. answer_frame x.event.conn x.reply) (entries_of c xs)
@@ -50,6 +54,25 @@ named_in c number index (x ∷ xs) =
 abbrev pub named_for : ℕ → List Piece → List Receipt
 named_for c [] = []
 named_for c (p ∷ ps) = named_in c p.number 0 p.entries ++ named_for c ps
+
+-- ---- what holds once all are served, before the frames of their answers are made
+
+-- the new session is of the old one's connection; that connection's entries ask what the old one asks, and the new one has
+-- their names
+pub record IsNamed (ps : List Piece) (old new : Conversation) : Type 0 where
+  pub connection : new.connection ≡ old.connection
+  pub asked : asked_by old.connection (joined ps) ≡ old.events
+  pub receipts : new.receipts ≡ named_for old.connection ps
+
+-- each of them, one by one
+pub record AreNamed (ps : List Piece) (olds news : List Conversation) : Type 0 where
+  pub count : length news ≡ length olds
+  pub each : (k : ℕ) (d : Conversation) → k < length olds → IsNamed ps (slice_index_or olds k d) (slice_index_or news k d)
+
+-- they have the names of their entries, and the same messages
+pub record AreServedByName (ps : List Piece) (olds news : List Conversation) : Type 0 where
+  pub named : AreNamed ps olds news
+  pub messages : (k : ℕ) (d : Conversation) → k < length olds → (slice_index_or news k d).events ≡ (slice_index_or olds k d).events
 
 -- ---- what holds once all are served
 
@@ -79,6 +102,15 @@ with_messages_of s other = record s { events = other.events }
 pub record HaveMessages (olds others news : List Conversation) : Type 0 where
   pub count : length news ≡ length olds
   pub each : (k : ℕ) (d : Conversation) → k < length olds → slice_index_or news k d ≡ with_messages_of (slice_index_or olds k d) (slice_index_or others k d)
+
+-- a session with the frames of its answers in this history
+abbrev pub with_frames_of : List Piece → Conversation → Conversation
+with_frames_of ps s = record s { replies = frames_for s.connection (joined ps) }
+
+-- each session with the frames of its answers
+pub record HaveFrames (ps : List Piece) (olds news : List Conversation) : Type 0 where
+  pub count : length news ≡ length olds
+  pub each : (k : ℕ) (d : Conversation) → k < length olds → slice_index_or news k d ≡ with_frames_of ps (slice_index_or olds k d)
 
 -- the entries are the sessions' messages, each once and in its session's order, and there are no others
 abbrev pub Merges : List Conversation → List Piece → Type 0

@@ -9,7 +9,7 @@ use Rattle.pps_script.specs.ScriptLines.{line_of}
 use Rattle.pps_script.specs.declared.script_line.ScriptLine.{ScriptLine}
 use Rattle.pps_script.specs.declared.script_line.ScriptLine.TheVariants.{Nothing, Command}
 use Rattle.pps_script.specs.Script.{script_of}
-use Rattle.pps_dispatch.specs.Sessions.{Conversation, are_of, AreFrames, unanswered}
+use Rattle.pps_dispatch.specs.Sessions.{Conversation, are_of, unanswered}
 use Rattle.pps_dispatch.specs.declared.session_fault.SessionFault.{SessionFault}
 use Rattle.pps_dispatch.specs.declared.session_fault.SessionFault.TheVariants.{BadLine, OutOfMemory}
 
@@ -19,12 +19,6 @@ use Rattle.pps_dispatch.specs.declared.session_fault.SessionFault.TheVariants.{B
 pub record Asks (connection : ℕ) (text : List ℕ) (events : List Event) : Type 0 where
   pub script : script_of false text ≡ record { events = events; bad = None }
   pub own : are_of connection events ≡ true
-
--- the bytes are the frames of these events, one after the other
-pub record AsksInFrames (connection : ℕ) (text bytes : List ℕ) : Type 0 where
-  pub events : List Event
-  pub asks : Asks connection text events
-  pub frames : AreFrames bytes events
 
 -- the session's messages are these events, and nothing of it is answered yet
 pub record IsSessionOf (connection : ℕ) (text : List ℕ) (session : Conversation) : Type 0 where

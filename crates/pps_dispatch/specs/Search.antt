@@ -1,16 +1,15 @@
 -- What is found of the sessions, as the entries of the history are gone through.
-use Rattle.std.specs.Prelude.{◌≡◌, ℕ, ◌+◌, ◌<◌, Bool, true, List, [], ◌∷◌, ◌++◌, length, slice_index_or, drop, Some, IsSome}
+use Rattle.std.specs.Prelude.{◌≡◌, ℕ, ◌<◌, Bool, true, List, [], ◌∷◌, ◌++◌, length, slice_index_or, drop, Some, IsSome}
 use Rattle.std.specs.List.{list_all}
 use Rattle.std.specs.Ordering.{nat_cmp}
 use Rattle.std.specs.BTreeMap.{BTreeMap, get}
 use Rattle.pps_types.specs.declared.event.Event.{Event}
-use Rattle.pps_types.specs.Frame.{answer_frame}
 use Rattle.pps_types.specs.Runs.{Answered}
 use Rattle.pps_lock.specs.declared.book.Receipt.{Receipt}
 use Rattle.pps_lock.specs.Trace.{Piece}
 use Rattle.pps_dispatch.specs.declared.history.Found.{Found}
 use Rattle.pps_dispatch.specs.Sessions.{Conversation, is_known}
-use Rattle.pps_dispatch.specs.History.{joined, asked_by, frames_for, named_in, named_for}
+use Rattle.pps_dispatch.specs.History.{joined, asked_by, named_in, named_for}
 
 -- ---- sessions by their connections
 
@@ -29,28 +28,22 @@ HasConnectionAt sessions number connection = (d : Conversation) → (slice_index
 
 -- nothing has been found
 abbrev pub not_begun : Found
-not_begun = record { messages = 0; bytes = 0 }
+not_begun = record { messages = 0 }
 
 -- what has not been found so far
 pub record Left : Type 0 where
   pub events : List Event
   pub receipts : List Receipt
-  pub replies : List ℕ
 
 abbrev pub nothing_left : Left
-nothing_left = record { events = []; receipts = []; replies = [] }
+nothing_left = record { events = []; receipts = [] }
 
--- what is left of the messages of the one session and of what the other was answered, behind what was found
+-- what is left of the messages of the one session and of the names that the other has, after what was found
 abbrev pub left_of : Conversation → Conversation → Found → Left
 left_of asked answered found = record {
   events = drop found.messages asked.events;
   receipts = drop found.messages answered.receipts;
-  replies = drop found.bytes answered.replies;
 }
-
--- the bytes have this frame at that place
-abbrev pub HasAt : List ℕ → (place : ℕ) → (frame : List ℕ) → Type 0
-HasAt bytes place frame = drop place bytes ≡ frame ++ drop (place + length frame) bytes
 
 -- what the session asks next is the entry's event
 abbrev pub FindsEvent : Conversation → Found → Answered → Found → Type 0
@@ -60,22 +53,15 @@ FindsEvent asked found entry next = drop found.messages asked.events ≡ entry.e
 abbrev pub FindsReceipt : Conversation → Found → Receipt → Found → Type 0
 FindsReceipt answered found place next = drop found.messages answered.receipts ≡ place ∷ drop next.messages answered.receipts
 
--- its next answer is the entry's
-abbrev pub FindsReply : Conversation → Found → Answered → Found → Type 0
-FindsReply answered found entry next =
-    drop found.bytes answered.replies ≡ answer_frame entry.event.conn entry.reply ++ drop next.bytes answered.replies
-
 -- between the one and the other these entries are found, the first of which is at that index of its segment
 pub record Finds (c number index : ℕ) (xs : List Answered) (before after : Left) : Type 0 where
   pub events : before.events ≡ asked_by c xs ++ after.events
   pub receipts : before.receipts ≡ named_in c number index xs ++ after.receipts
-  pub replies : before.replies ≡ frames_for c xs ++ after.replies
 
 -- these segments are found
 pub record FindsAll (c : ℕ) (ps : List Piece) (before after : Left) : Type 0 where
   pub events : before.events ≡ asked_by c (joined ps) ++ after.events
   pub receipts : before.receipts ≡ named_for c ps ++ after.receipts
-  pub replies : before.replies ≡ frames_for c (joined ps) ++ after.replies
 
 -- ---- of all sessions
 

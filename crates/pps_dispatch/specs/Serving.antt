@@ -1,5 +1,5 @@
 -- Scripts that are served together: the one history of their messages, and what is printed of it. Own.
-use Rattle.std.specs.Prelude.{◌≡◌, ◌⊎◌, ℕ, ◌+◌, ◌-◌, ◌^◌, ◌<◌, min, true, List, length, map, slice_index_or, Option, Result, Ok, Err}
+use Rattle.std.specs.Prelude.{◌≡◌, ◌⊎◌, ℕ, ◌+◌, ◌-◌, ◌^◌, ◌<◌, min, true, List, length, slice_index_or, Option}
 use Rattle.std.specs.Io.KnownBytes.{Appends, Keeps}
 use Rattle.pps_types.specs.Content.{Content}
 use Rattle.pps_types.specs.Machine.{start}

@@ -1,18 +1,16 @@
 //! What `serve` looks for once all workers have ended: that what came back is one history of the sessions.
-ghost use Rattle.std.specs.Prelude.{◌≡◌, ◌≤◌, ◌+◌, ℕ, List, true, length, map, replicate, IsTrue, IfOk, OnOk};
+ghost use Rattle.std.specs.Prelude.{◌≡◌, ℕ, List, true, length, map, replicate, IsTrue, IfOk, OnOk};
 ghost use Rattle.pps_types.specs.Content.{Content};
 ghost use Rattle.pps_types.specs.Merge.{are_distinct};
-ghost use Rattle.pps_types.specs.Outcome.{IsSendable};
 ghost use Rattle.pps_lock.specs.Trace.{Piece, Replays};
-ghost use Rattle.pps_dispatch.specs.History.{Joins, joined, AreAnswered, Merges};
-ghost use Rattle.pps_dispatch.specs.Search.{Knows, not_begun, HasAt, FindsEvent, FindsReceipt, FindsReply, FindsEntry, FindsSegment, FindsSegments, AreFound};
+ghost use Rattle.pps_dispatch.specs.History.{Joins, joined, AreNamed, Merges};
+ghost use Rattle.pps_dispatch.specs.Search.{Knows, not_begun, FindsEvent, FindsReceipt, FindsEntry, FindsSegment, FindsSegments, AreFound};
 
 use crate::alike::is_same;
 use crate::fault::ServeError;
 use crate::session::Session;
 use crate::session_index::SessionIndex;
 use pps_engine::Engine;
-use pps_frame::encode_outcome;
 use pps_lock::{Entry, Receipt, Segment};
 use std::alloc::Global;
 
@@ -37,61 +35,39 @@ pub fn joined_segments_replay()
     ensures { (n : ℕ) (c d : Content) (ps : List Piece) → Joins n c ps d → Replays c (joined ps) d }
 {}
 
-/// How much of a session was found in the trace so far: so many messages with their receipts, and so many bytes of answers.
+/// How much of a session was found in the trace so far: so many messages, with their receipts.
 #[derive(Clone, Copy)]
 pub(crate) struct Found {
     messages: usize,
-    bytes: usize,
-}
-
-// Whether these bytes stand at that place.
-fn stand_at(bytes: &[u8], place: usize, frame: &[u8]) -> bool
-    ensures within { IsTrue result → place + length frame.now ≤ length bytes.now }
-    ensures parts { IsTrue result → HasAt bytes.now place frame.now }
-{
-    if bytes.len() < place {
-        return false;
-    }
-    let rest = &bytes[place..];
-    rest.starts_with(frame)
 }
 
 // What is found of a session with one entry more.
 fn found_next(
-    alloc: Global,
     entry: &Entry,
     place: Receipt,
     asked: &Session,
     answered: &Session,
     found: Found,
 ) -> Result<Found, ServeError>
-    requires { IsSendable entry.now.reply }
     ensures events { IfOk result (λ next. FindsEvent asked.now found entry.now next) }
     ensures receipts { IfOk result (λ next. FindsReceipt answered.now found place next) }
-    ensures replies { IfOk result (λ next. FindsReply answered.now found entry.now next) }
 {
-    let frame = encode_outcome(alloc, entry.event().conn, entry.reply())?;
     let Some(message) = asked.messages().get(found.messages) else {
         return Err(ServeError::Mismatch);
     };
     let Some(receipt) = answered.receipts().get(found.messages) else {
         return Err(ServeError::Mismatch);
     };
-    if !is_same(message.event(), entry.event())
-        || *receipt != place
-        || !stand_at(answered.replies(), found.bytes, &frame)
-    {
+    if !is_same(message.event(), entry.event()) || *receipt != place {
         return Err(ServeError::Mismatch);
     }
     Ok(Found {
         messages: found.messages + 1,
-        bytes: found.bytes + frame.len(),
     })
 }
 
-// Finds one entry more: its session has this message, this receipt and this answer next.
+// Finds one entry more: its session has this message and this receipt next.
 fn find_entry(
-    alloc: Global,
     index: &SessionIndex,
     asked: &[Session],
     answered: &[Session],
@@ -103,14 +79,12 @@ fn find_entry(
     requires index { Knows index.now.numbers asked.now (length asked.now) }
     requires answered { length answered.now ≡ length asked.now }
     requires found { length found.old ≡ length asked.now }
-    requires sends { IsSendable entry.now.reply }
     ensures { OnOk result (FindsEntry asked.now answered.now found.old found.new place entry.now) }
 {
     let Some(number) = index.session_of(asked, entry.event().conn) else {
         return Err(ServeError::Mismatch);
     };
     let next = found_next(
-        alloc,
         entry,
         place,
         &asked[number],
@@ -123,7 +97,6 @@ fn find_entry(
 
 // Finds the entries of one segment more.
 fn find_segment(
-    alloc: Global,
     index: &SessionIndex,
     asked: &[Session],
     answered: &[Session],
@@ -136,13 +109,12 @@ fn find_segment(
     requires found { length found.old ≡ length asked.now }
     ensures { OnOk result (FindsSegment asked.now answered.now found.old found.new segment.now) }
 {
-    segment.replays();
     for (place, entry) in segment.entries().iter().enumerate() {
         let receipt = Receipt {
             segment: segment.number(),
             index: place,
         };
-        find_entry(alloc, index, asked, answered, found, entry, receipt)?;
+        find_entry(index, asked, answered, found, entry, receipt)?;
     }
     Ok(())
 }
@@ -162,7 +134,7 @@ fn find_segments(
 {
     let index = SessionIndex::new(alloc, asked)?;
     for segment in segments {
-        find_segment(alloc, &index, asked, answered, found, segment)?;
+        find_segment(&index, asked, answered, found, segment)?;
     }
     Ok(())
 }
@@ -172,12 +144,10 @@ fn is_all(asked: &Session, answered: &Session, found: Found) -> bool
     ensures connection { IsTrue result → answered.now.connection ≡ asked.now.connection }
     ensures events { IsTrue result → length asked.now.events ≡ found.messages }
     ensures receipts { IsTrue result → length answered.now.receipts ≡ found.messages }
-    ensures replies { IsTrue result → length answered.now.replies ≡ found.bytes }
 {
     answered.conn() == asked.conn()
         && asked.messages().len() == found.messages
         && answered.receipts().len() == found.messages
-        && answered.replies().len() == found.bytes
 }
 
 // Whether that is all there is of the sessions.
@@ -206,7 +176,7 @@ fn find_all(
     requires answered { length answered.now ≡ length asked.now }
     requires found { found.old ≡ replicate (length asked.now) not_begun }
     ensures merge { OnOk result (Merges asked.now segments.now) }
-    ensures answered { OnOk result (AreAnswered segments.now asked.now answered.now) }
+    ensures named { OnOk result (AreNamed segments.now asked.now answered.now) }
 {
     find_segments(alloc, asked, answered, found, segments)?;
     if !are_all(asked, answered, found) {
@@ -215,8 +185,8 @@ fn find_all(
     Ok(())
 }
 
-/// Finds that the entries of the segments are a merge of the messages, and that each session was answered what its entries
-/// say, with their names as receipts. It goes through the entries once.
+/// Finds that the entries of the segments are a merge of the messages, and that each session has the names of its entries
+/// as receipts. It goes through the entries once.
 pub(crate) fn check_history(
     alloc: Global,
     segments: &[Segment],
@@ -225,15 +195,12 @@ pub(crate) fn check_history(
 ) -> Result<(), ServeError>
     requires { are_distinct (map (λ s. s.connection) asked.now) ≡ true }
     ensures merge { OnOk result (Merges asked.now segments.now) }
-    ensures answered { OnOk result (AreAnswered segments.now asked.now answered.now) }
+    ensures named { OnOk result (AreNamed segments.now asked.now answered.now) }
 {
     if answered.len() != asked.len() {
         return Err(ServeError::Mismatch);
     }
-    let none = Found {
-        messages: 0,
-        bytes: 0,
-    };
+    let none = Found { messages: 0 };
     let mut found = Vec::from_elem(alloc, none, asked.len())?;
     find_all(alloc, segments, asked, answered, found.as_mut_slice())
 }

@@ -4,9 +4,11 @@
 
 mod alike;
 mod fault;
+mod framing;
 mod gate;
 mod history;
 mod message;
+mod named_entry;
 mod printed_history;
 mod printed_sessions;
 mod run_queue;
@@ -29,7 +31,7 @@ pub use run_queue::{
     none_stands_twice, put_in, split_off, take_out,
 };
 pub use scripts::session_of;
-pub use serving::{Served, serve};
+pub use serving::{Served, serve, serve_named};
 pub use session::{Session, distinct};
 pub use session_fault::SessionFault;
 pub use shared_book::SharedBook;

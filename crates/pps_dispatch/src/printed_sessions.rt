@@ -1,5 +1,5 @@
 //! What is printed of sessions that were served.
-ghost use Rattle.std.specs.Prelude.{◌≡◌, ◌++◌, false, All, Some, IsSome, OnOk, IfOk};
+ghost use Rattle.std.specs.Prelude.{◌≡◌, ◌++◌, false, All, OnOk, IfOk};
 ghost use Rattle.std.specs.Prelude.{length, map, string_bytes};
 ghost use Rattle.pps_types.specs.Device.{device_failed, device_stalls};
 ghost use Rattle.pps_types.specs.Exchange.{AnswerFaultIs};
@@ -9,23 +9,15 @@ ghost use Rattle.pps_dispatch.specs.History.{joined};
 ghost use Rattle.pps_script.specs.Script.{answers_of};
 ghost use Rattle.pps_dispatch.specs.Printed.{session_line, session_text};
 ghost use Rattle.pps_dispatch.specs.Printed.{sessions_text, connections_of};
-ghost use Rattle.pps_dispatch.specs.Named.{entry_named, Names};
+ghost use Rattle.pps_dispatch.specs.Named.{Names};
 
+use crate::named_entry::entry_at;
 use crate::session::Session;
-use pps_lock::{Entry, Receipt, Segment};
+use pps_lock::Segment;
 use pps_script::print_answer;
 use pps_types::{AnswerFault, Conn, Device};
 use std::alloc::{AllocError, Global};
 use std::io::Write;
-
-// The entry that has this name.
-fn entry_at<'s>(segments: &'s [Segment], name: Receipt) -> &'s Entry
-    requires { IsSome (entry_named segments.now name) }
-    ensures { entry_named segments.now name ≡ Some result.now }
-{
-    let segment = &segments[name.segment as usize];
-    &segment.entries()[name.index]
-}
 
 // The line before a session's answers.
 #[tactic(auto, using(crate::proofs::Regroup::regroup))]

@@ -1,25 +1,45 @@
 //! The session that a script asks for.
-ghost use Rattle.std.specs.Prelude.{◌≡◌, IfOk, IfErr, OnOk};
+ghost use Rattle.std.specs.Prelude.{◌≡◌, ◌≤◌, ◌↔◌, length, IsTrue, IfOk, IfErr, OnOk};
+ghost use Rattle.pps_types.specs.Frame.{event_body, longest_body};
 ghost use Rattle.pps_script.specs.ScriptLines.{line_of};
-ghost use Rattle.pps_dispatch.specs.Scripts.{AsksInFrames, IsSessionOf, TellsFirstBad};
+ghost use Rattle.pps_dispatch.specs.Scripts.{Asks, IsSessionOf, TellsFirstBad};
 ghost use Rattle.pps_dispatch.specs.Reading.{AddsLine, FailsLine};
 
+use crate::message::Message;
 use crate::session::Session;
 use crate::session_fault::SessionFault;
-use pps_frame::encode_request;
 use pps_script::{ScriptLine, read_line};
-use pps_types::{Conn, Refusal, split_at_first};
+use pps_types::{Conn, Event, Request, split_at_first};
 use std::alloc::Global;
 
-// Adds the frame of what a line asks for, if it asks for anything. The number is the line's.
+/// The most bytes of the fields of a request's frame. Its kind and its connection are three bytes of its body beside them.
+const FIELDS_MAX: usize = 131_069;
+
+// Whether an event has a frame: the body of one has at most 131,072 bytes.
+fn has_frame(event: &Event) -> bool
+    ensures { IsTrue result ↔ (length (event_body event.now) ≤ longest_body) }
+{
+    match &event.request {
+        Request::Open { text, .. } => text.len() <= FIELDS_MAX - 1,
+        Request::Write { bytes, .. } => bytes.len() <= FIELDS_MAX - 4,
+        Request::Unlink { path } => path.len() <= FIELDS_MAX,
+        Request::Mkdir { path } => path.len() <= FIELDS_MAX,
+        Request::List { path } => path.len() <= FIELDS_MAX,
+        Request::Attach | Request::Detach | Request::Receive => true,
+        Request::Read { .. } | Request::Close { .. } | Request::Notify { .. } => true,
+    }
+}
+
+// Adds what a line asks for, if it asks for anything. The number is the line's.
 fn push_line(
     alloc: Global,
-    frames: &mut Vec<u8>,
+    messages: &mut Vec<Message>,
     conn: Conn,
     line: &[u8],
     number: u64,
 ) -> Result<(), SessionFault>
-    ensures ok { OnOk result (AddsLine conn (line_of line.now) frames.old.items frames.new.items) }
+    ensures ok { OnOk result (AddsLine conn (line_of line.now) messages.old.items
+        messages.new.items) }
     ensures err { IfErr result (λ fault. FailsLine conn (line_of line.now) number fault) }
 {
     let event = match read_line(alloc, line)? {
@@ -30,34 +50,32 @@ fn push_line(
     if event.conn != conn {
         return Err(SessionFault::BadLine { line: number });
     }
-    match encode_request(alloc, &event) {
-        Err(Refusal::TooLarge) => Err(SessionFault::BadLine { line: number }),
-        Err(_) => Err(SessionFault::OutOfMemory),
-        Ok(frame) => {
-            frames.extend_from_slice(frame.as_slice())?;
-            Ok(())
-        }
+    if !has_frame(&event) {
+        return Err(SessionFault::BadLine { line: number });
     }
+    messages.reserve(1)?;
+    messages.push_reserved(Message::new(alloc, event)?);
+    Ok(())
 }
 
-// The frames of what a script asks for, one after the other.
-fn frames_of(alloc: Global, conn: Conn, text: &[u8]) -> Result<Vec<u8>, SessionFault>
-    ensures ok { IfOk result (λ frames. AsksInFrames conn text.now frames.items) }
+// What a script asks for, as messages in its order.
+fn asked_messages(alloc: Global, conn: Conn, text: &[u8]) -> Result<Vec<Message>, SessionFault>
+    ensures ok { IfOk result (λ messages. Asks conn text.now messages.items) }
     ensures err { IfErr result (λ fault. TellsFirstBad conn text.now fault) }
 {
-    let mut frames = Vec::new(alloc);
+    let mut messages = Vec::new(alloc);
     let mut rest = text;
     let mut number: u64 = 1;
     'lines: while let Some((line, behind)) = split_at_first(b'\n', rest) {
-        push_line(alloc, &mut frames, conn, line, number)?;
+        push_line(alloc, &mut messages, conn, line, number)?;
         rest = behind;
         number = number.saturating_add(1);
     }
     if rest.is_empty() {
-        return Ok(frames);
+        return Ok(messages);
     }
-    push_line(alloc, &mut frames, conn, rest, number)?;
-    Ok(frames)
+    push_line(alloc, &mut messages, conn, rest, number)?;
+    Ok(messages)
 }
 
 /// The session of a script: its messages are what the lines ask for, each once and in their order. Nothing of it is
@@ -69,9 +87,6 @@ pub fn session_of(alloc: Global, conn: Conn, text: &[u8]) -> Result<Session, Ses
     ensures ok { IfOk result (λ session. IsSessionOf conn text.now session) }
     ensures err { IfErr result (λ fault. TellsFirstBad conn text.now fault) }
 {
-    let frames = frames_of(alloc, conn, text)?;
-    match Session::from_frames(alloc, conn, frames.as_slice()) {
-        Ok(session) => Ok(session),
-        Err(_) => Err(SessionFault::OutOfMemory),
-    }
+    let messages = asked_messages(alloc, conn, text)?;
+    Ok(Session::starting(alloc, conn, messages))
 }

@@ -1,9 +1,10 @@
 //! Many sessions, served by several workers as one history.
 ghost use Rattle.std.specs.Prelude.{◌≡◌, ◌≤◌, true, length, map, vec_len, IfOk};
 ghost use Rattle.pps_types.specs.Merge.{are_distinct};
-ghost use Rattle.pps_dispatch.specs.History.{Joins, ReplaysAll, AreServed, HaveMessages, Merges};
+ghost use Rattle.pps_dispatch.specs.History.{Joins, ReplaysAll, AreServed, AreServedByName, HaveMessages, Merges};
 
 use crate::fault::ServeError;
+use crate::framing::frame_answers;
 use crate::gate::Gate;
 use crate::history::{check_history, joined_end, joined_segments_replay};
 use crate::run_queue::{SessionCount, fill, new_queue};
@@ -25,16 +26,8 @@ pub struct Served {
     pub sessions: Vec<Session>,
 }
 
-/// Serves all sessions, 1 to 8 workers at a time, over a trace that is cut off at its limit, 1 to 65,536 entries. No two
-/// sessions may be of one connection. The first worker runs on this thread, once the others are started; one whose thread
-/// cannot be started is left out.
-///
-/// The segments join, from what the engine stands for to what the one that comes back stands for. Their entries are the
-/// sessions' messages, each once and in its session's order, and no others. Each session comes back with its messages, the
-/// frames of its entries' answers, in order, and their names.
-///
-/// The errors of workers come first, and of these the first worker's. Nothing rests on what workers promise: `serve` keeps
-/// the engine and the sessions as it was handed them, and compares.
+/// `serve_named`, and the frames of the answers, which are made from the history: each session comes back with its
+/// messages, the frames of its entries' answers, in order, and their names.
 pub fn serve<G: Gate + Sync, R: Threads + Wait + Sync>(
     rt: &R,
     alloc: Global,
@@ -51,6 +44,43 @@ pub fn serve<G: Gate + Sync, R: Threads + Wait + Sync>(
     ensures replays { IfOk result (λ s. ReplaysAll engine s.segments.items s.engine) }
     ensures merge { IfOk result (λ s. Merges sessions.items s.segments.items) }
     ensures served { IfOk result (λ s. AreServed s.segments.items sessions.items s.sessions.items) }
+{
+    let mut served = serve_named(rt, alloc, engine, sessions, workers, trace_limit, gate)?;
+    frame_answers(
+        alloc,
+        served.segments.as_slice(),
+        served.sessions.as_mut_slice(),
+    )?;
+    Ok(served)
+}
+
+/// Serves all sessions, 1 to 8 workers at a time, over a trace that is cut off at its limit, 1 to 65,536 entries. No two
+/// sessions may be of one connection. The first worker runs on this thread, once the others are started; one whose thread
+/// cannot be started is left out.
+///
+/// The segments join, from what the engine stands for to what the one that comes back stands for. Their entries are the
+/// sessions' messages, each once and in its session's order, and no others. Each session comes back with its messages and
+/// the names of its entries, in order: its answers are those of these entries, and no frames of them are made.
+///
+/// The errors of workers come first, and of these the first worker's. Nothing rests on what workers promise: it keeps the
+/// engine and the sessions as it was handed them, and compares.
+pub fn serve_named<G: Gate + Sync, R: Threads + Wait + Sync>(
+    rt: &R,
+    alloc: Global,
+    engine: Engine,
+    sessions: Vec<Session>,
+    workers: usize,
+    trace_limit: usize,
+    gate: &G,
+) -> Result<Served, ServeError>
+    requires workers { (1 ≤ workers) × (workers ≤ 8) }
+    requires limit { (1 ≤ trace_limit) × (trace_limit ≤ 65536) }
+    requires distinct { are_distinct (map (λ s. s.connection) sessions.items) ≡ true }
+    ensures joins { IfOk result (λ s. Joins 0 engine.content s.segments.items s.engine.content) }
+    ensures replays { IfOk result (λ s. ReplaysAll engine s.segments.items s.engine) }
+    ensures merge { IfOk result (λ s. Merges sessions.items s.segments.items) }
+    ensures named { IfOk result (λ s. AreServedByName s.segments.items sessions.items
+        s.sessions.items) }
 {
     let count = sessions.len();
     let copies = copies_of(alloc, sessions.as_slice())?;

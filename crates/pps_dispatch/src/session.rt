@@ -84,8 +84,8 @@ fn events_of(alloc: Global, bytes: &[u8]) -> Result<Vec<Event>, Refusal>
 }
 
 impl Session {
-    // A session of which nothing is answered yet.
-    fn starting(alloc: Global, conn: Conn, messages: Vec<Message>) -> Session
+    /// A session of these messages, of which nothing is answered yet.
+    pub(crate) fn starting(alloc: Global, conn: Conn, messages: Vec<Message>) -> Session
         ensures { result ≡ unanswered conn messages.items }
     {
         Session {

@@ -1,8 +1,7 @@
 //! What workers ask of the book that they share.
-ghost use Rattle.std.specs.Prelude.{◌≡◌, IfOk, IfErr};
-ghost use Rattle.pps_types.specs.Outcome.{IsSendable};
+ghost use Rattle.std.specs.Prelude.{◌≡◌, IfErr};
 
-use pps_lock::{Segment, Shared, Stepped, TraceFull};
+use pps_lock::{Receipt, Segment, Shared, TraceFull};
 use pps_types::{Event, Refusal};
 use std::sync::{Arc, Wait};
 
@@ -12,21 +11,19 @@ use std::sync::{Arc, Wait};
 /// name, that search would go down through everything an engine is made of, and not come to its end. A worker that is given
 /// anything of this kind says nothing of engines; that a book may be shared is then shown once, where `serve` makes one.
 pub trait SharedBook {
-    /// One event, as `Shared::step`.
-    fn step<R: Wait>(&self, rt: &R, event: Arc<Event>) -> Result<Stepped, TraceFull>
-        ensures sends { IfOk result (λ s. IsSendable s.reply) }
-        ensures full { IfErr result (λ f. f.event ≡ event) };
+    /// One event, as `Shared::enter`.
+    fn enter<R: Wait>(&self, rt: &R, event: Arc<Event>) -> Result<Receipt, TraceFull>
+        ensures { IfErr result (λ f. f.event ≡ event) };
 
     /// The trace so far, cut off, as `Shared::cut`.
     fn cut<R: Wait>(&self, rt: &R) -> Result<Segment, Refusal>;
 }
 
 impl SharedBook for Shared {
-    fn step<R: Wait>(&self, rt: &R, event: Arc<Event>) -> Result<Stepped, TraceFull>
-        ensures sends { IfOk result (λ s. IsSendable s.reply) }
-        ensures full { IfErr result (λ f. f.event ≡ event) }
+    fn enter<R: Wait>(&self, rt: &R, event: Arc<Event>) -> Result<Receipt, TraceFull>
+        ensures { IfErr result (λ f. f.event ≡ event) }
     {
-        Shared::step(self, rt, event)
+        Shared::enter(self, rt, event)
     }
 
     fn cut<R: Wait>(&self, rt: &R) -> Result<Segment, Refusal> {

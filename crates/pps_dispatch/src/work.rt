@@ -1,7 +1,6 @@
 //! Workers, each of which serves sessions until none waits.
 ghost use Rattle.std.specs.Prelude.{◌≡◌, ◌≤◌, ◌+◌, ◌∷◌, length, vec_len, vec_capacity, All, Err, IfOk, IfSome};
 ghost use Rattle.crossbeam_queue.specs.Passes.{IsPassOf, ruled_capacity};
-ghost use Rattle.pps_types.specs.Outcome.{IsSendable};
 ghost use Rattle.pps_dispatch.specs.History.{first_error};
 
 use crate::fault::ServeError;
@@ -9,8 +8,7 @@ use crate::gate::Gate;
 use crate::run_queue::{QueuePass, RunQueue, SessionCount, join_to, put_in, split_off, take_out};
 use crate::session::Session;
 use crate::shared_book::SharedBook;
-use pps_frame::encode_outcome;
-use pps_lock::{Segment, Stepped};
+use pps_lock::{Receipt, Segment};
 use pps_types::Event;
 use std::alloc::Global;
 use std::snapshot::Snapshot;
@@ -25,19 +23,17 @@ pub struct Worked {
     pub segments: Vec<Segment>,
 }
 
-// Steps one event. Each time that the trace is full it is cut off, and the same event is tried again.
-fn step_through<B: SharedBook, R: Wait>(
+// Enters one event into the trace. Each time that the trace is full it is cut off, and the same event is tried again.
+fn enter_through<B: SharedBook, R: Wait>(
     rt: &R,
     book: &B,
     event: Arc<Event>,
     segments: &mut Vec<Segment>,
-) -> Result<Stepped, ServeError>
-    ensures { IfOk result (λ s. IsSendable s.reply) }
-{
+) -> Result<Receipt, ServeError> {
     let mut event = event;
     for _ in rt.forever() {
-        match book.step(rt, event) {
-            Ok(stepped) => return Ok(stepped),
+        match book.enter(rt, event) {
+            Ok(receipt) => return Ok(receipt),
             Err(full) => event = full.event,
         }
         segments.reserve(1)?;
@@ -49,7 +45,6 @@ fn step_through<B: SharedBook, R: Wait>(
 // Serves the next message of the session, if there is one. Gives whether messages are left.
 fn serve_next<B: SharedBook, G: Gate, R: Wait>(
     rt: &R,
-    alloc: Global,
     book: &B,
     session: &mut Session,
     gate: &G,
@@ -63,9 +58,7 @@ fn serve_next<B: SharedBook, G: Gate, R: Wait>(
     session.receipts.reserve(1)?;
     let event = session.messages[session.served].shared()?;
     gate.enter(conn, index);
-    let Stepped { reply, receipt } = step_through(rt, book, event, segments)?;
-    let frame = encode_outcome(alloc, conn, &reply)?;
-    session.replies.extend_from_slice(&frame)?;
+    let receipt = enter_through(rt, book, event, segments)?;
     session.receipts.push_reserved(receipt);
     session.served += 1;
     gate.leave(conn, index);
@@ -75,14 +68,13 @@ fn serve_next<B: SharedBook, G: Gate, R: Wait>(
 // The same of the session in a slot, whose lock is held for so long.
 fn serve_slot<B: SharedBook, G: Gate, R: Wait>(
     rt: &R,
-    alloc: Global,
     book: &B,
     slot: &Mutex<Session>,
     gate: &G,
     segments: &mut Vec<Segment>,
 ) -> Result<bool, ServeError> {
     let mut session = slot.lock(rt);
-    serve_next(rt, alloc, book, &mut session, gate, segments)
+    serve_next(rt, book, &mut session, gate, segments)
 }
 
 /// Serves sessions until it finds that none waits. It takes a session's number out of the run queue, serves one message of
@@ -109,7 +101,7 @@ pub fn worker<N: SessionCount, B: SharedBook, G: Gate, R: Wait>(
         let Some(number) = take_out(rt, queue, &mut pass) else {
             break;
         };
-        let more = serve_slot(rt, alloc, book, &slots[number], gate, &mut segments)?;
+        let more = serve_slot(rt, book, &slots[number], gate, &mut segments)?;
         if more {
             put_in(rt, queue, &mut pass, number);
         }

@@ -16,7 +16,7 @@ use Rattle.pps_types.proofs.Lists.{all-weaken}
 use Rattle.service_laws.proofs.Rising.{rising-above, rising-lower}
 use Rattle.service_laws.proofs.Settlings.{all-append, all-or}
 use Rattle.service_laws.specs.Told.{entries_told, handle_after, handles_opened, HandlesRise, AreNumbered, is_woken, offer_all}
-use Rattle.service_laws.specs.SettlingReplies.{late_answer, pulse_and_reply}
+use Rattle.pps_types.specs.SettlingReplies.{late_answer, pulse_and_reply}
 use Rattle.service_laws.proofs.SettlingLists.{all-passing}
 use Rattle.service_laws.proofs.SettlingHandles.{handles-after, handle_after-number}
 use Rattle.service_laws.proofs.SettlingSight.{handle_after-telling}

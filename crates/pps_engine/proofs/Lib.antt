@@ -18,4 +18,5 @@ pub mod Marks
 pub mod Plans
 pub mod Lists
 pub mod Restored
+pub mod Runs
 pub mod Sends

@@ -2,7 +2,6 @@
 use Rattle.std.proofs.Common.{subst, ap, sym, ◌∙◌, append-nil, arith, eqb, eqb-true, ne_eqb}
 use Rattle.std.specs.Prelude.{◌≡◌, ◌<◌, ◌+◌, ℕ, List, [], ◌∷◌, ◌++◌, Bool, true, false, cond, map, find, length, nat_lt, option_map, Option, Some, Ok, refl}
 use Rattle.std.proofs.lemmas.Bool.Decides.{nat_tests}
-use Rattle.std.specs.Option.{option_map_or}
 use Rattle.pps_types.specs.declared.event.Event.{Event}
 use Rattle.pps_types.specs.declared.found.Found.{Found}
 use Rattle.pps_types.specs.declared.found.Found.TheVariants.{Object as FoundObject, Directory as FoundDirectory}
@@ -17,16 +16,13 @@ use Rattle.pps_types.specs.Rests.{Seen}
 use Rattle.pps_types.specs.Content.{Content, at}
 use Rattle.pps_types.specs.Stands.{StepsSeen}
 use Rattle.pps_types.specs.WellFormed.{AreRising}
-use Rattle.service_laws.proofs.Kept.{longer-none, longest-length}
+use Rattle.pps_types.proofs.Chains.{longer-none, longest-length}
 use Rattle.service_laws.proofs.WellSteps.{step-content}
 use Rattle.service_laws.specs.Bounds.{IsBound}
 use Rattle.service_laws.proofs.BoundedEvents.{step-keeps, step-sends}
 use Rattle.image_laws.proofs.Proved.{saving-stays}
-use Rattle.number_table.specs.Numbered.{Entry as Numbering, value_under, has_number}
-use Rattle.engine_servers.specs.declared.seats.Seats.{Seats}
-use Rattle.engine_servers.specs.Seated.{kept_of}
-use Rattle.engine_targets.specs.Opened.{is_directory, number_of}
-use Rattle.open_handles.specs.Whole.{kept_at}
+use Rattle.sub_reader.specs.Opened.{is_directory, number_of}
+use Rattle.open_handles.specs.Whole.{Seating, kept_at, kept_for, kept_if, kept_under}
 use Rattle.service_state.specs.Tables.{Tabled, content_in}
 use Rattle.pps_engine.specs.declared.planned.Pending.{Pending}
 use Rattle.pps_engine.specs.Events.{moves_pending, CanCarry}
@@ -79,37 +75,37 @@ longer-nothing : (xs : List Entry) → longer xs [] ≡ xs
 longer-nothing xs = let e : nat_lt (length xs) 0 ≡ false = grind (arith, nat_tests) in ap (λ b. cond b [] xs) e
 
 -- the lists of another kind of target
-held-other : (d : Bool) (target : ℕ) (es : List (Numbering Seats)) (zs : List Chained) → held_records d target (map (chain_of (cond d false true)) es ++ zs) ≡ held_records d target zs
+held-other : (d : Bool) (target : ℕ) (es : List Seating) (zs : List Chained) → held_records d target (map (chain_of (cond d false true)) es ++ zs) ≡ held_records d target zs
 held-other d target [] zs = refl
 held-other true target (e ∷ es) zs = longer-none (held_records true target (map (chain_of false) es ++ zs)) ∙ held-other true target es zs
 held-other false target (e ∷ es) zs = longer-none (held_records false target (map (chain_of true) es ++ zs)) ∙ held-other false target es zs
 
 -- a list of the target's own kind
-held-first : (d : Bool) (target : ℕ) (e : Numbering Seats) (zs : List Chained) → held_records d target (chain_of d e ∷ zs) ≡ longer (cond (eqb e.number target) (kept_of e.value) []) (held_records d target zs)
+held-first : (d : Bool) (target : ℕ) (e : Seating) (zs : List Chained) → held_records d target (chain_of d e ∷ zs) ≡ longer (cond (eqb e.number target) (kept_for e) []) (held_records d target zs)
 held-first true target e zs = refl
 held-first false target e zs = refl
 
 module _ (d : Bool) (target : ℕ) (zs : List Chained) (none : held_records d target zs ≡ []) where
-  held-above : (low high : ℕ) (es : List (Numbering Seats)) → target < low → AreRising low (map (λ (e : Numbering Seats). e.number) es) high → held_records d target (map (chain_of d) es ++ zs) ≡ []
+  held-above : (low high : ℕ) (es : List Seating) → target < low → AreRising low (map (λ (e : Seating). e.number) es) high → held_records d target (map (chain_of d) es ++ zs) ≡ []
   held-above low high [] lt r = none
   held-above low high (e ∷ es) lt r =
       held-first d target e (map (chain_of d) es ++ zs)
-      ∙ ap (λ b. longer (cond b (kept_of e.value) []) (held_records d target (map (chain_of d) es ++ zs))) (ne_eqb e.number target (λ same. let le = r.0 in omega arith))
+      ∙ ap (λ b. longer (cond b (kept_for e) []) (held_records d target (map (chain_of d) es ++ zs))) (ne_eqb e.number target (λ same. let le = r.0 in omega arith))
       ∙ longer-none (held_records d target (map (chain_of d) es ++ zs))
       ∙ held-above (e.number + 1) high es (let le = r.0 in omega arith) r.1
 
-  held-own : (low high : ℕ) (es : List (Numbering Seats)) → AreRising low (map (λ (e : Numbering Seats). e.number) es) high → held_records d target (map (chain_of d) es ++ zs) ≡ option_map_or kept_of (value_under target es) []
+  held-own : (low high : ℕ) (es : List Seating) → AreRising low (map (λ (e : Seating). e.number) es) high → held_records d target (map (chain_of d) es ++ zs) ≡ kept_under target es
   held-own low high [] r = none
   held-own low high (e ∷ es) r = held-first d target e (map (chain_of d) es ++ zs) ∙ by (eqb e.number target) refl (held-own (e.number + 1) high es r.1)
     where
-      by : (b : Bool) → eqb e.number target ≡ b → held_records d target (map (chain_of d) es ++ zs) ≡ option_map_or kept_of (value_under target es) []
-          → longer (cond b (kept_of e.value) []) (held_records d target (map (chain_of d) es ++ zs)) ≡ option_map_or kept_of (option_map (λ (e : Numbering Seats). e.value) (cond b (Some e) (find (has_number target) es))) []
-      by true is rest = ap (longer (kept_of e.value)) (held-above (e.number + 1) high es (let same = eqb-true e.number target is in omega arith) r.1) ∙ longer-nothing (kept_of e.value)
+      by : (b : Bool) → eqb e.number target ≡ b → held_records d target (map (chain_of d) es ++ zs) ≡ kept_under target es
+          → longer (cond b (kept_for e) []) (held_records d target (map (chain_of d) es ++ zs)) ≡ kept_if (cond b (Some e) (find (λ (x : Seating). eqb x.number target) es))
+      by true is rest = ap (longer (kept_for e)) (held-above (e.number + 1) high es (let same = eqb-true e.number target is in omega arith) r.1) ∙ longer-nothing (kept_for e)
       by false is rest = longer-none (held_records d target (map (chain_of d) es ++ zs)) ∙ rest
 
 pub holds-just : (t : Tabled) → ((f : Found) → kept_at f t.handles ≡ kept_records_seen (content_in t) (is_directory f) (number_of f))
-    → AreRising 0 (map (λ (e : Numbering Seats). e.number) t.handles.objects.entries) t.handles.objects.next
-    → AreRising 0 (map (λ (e : Numbering Seats). e.number) t.handles.directories.entries) t.handles.directories.next → HoldsJust t
+    → AreRising 0 (map (λ (e : Seating). e.number) t.handles.objects.entries) t.handles.objects.next
+    → AreRising 0 (map (λ (e : Seating). e.number) t.handles.directories.entries) t.handles.directories.next → HoldsJust t
 holds-just t owed objects directories true target =
     held-other true target t.handles.objects.entries (map (chain_of true) t.handles.directories.entries)
     ∙ ap (held_records true target) (sym (append-nil (map (chain_of true) t.handles.directories.entries)))

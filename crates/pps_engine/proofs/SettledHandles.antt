@@ -9,11 +9,11 @@ use Rattle.pps_types.specs.Content.{Content}
 use Rattle.pps_types.specs.Plan.{Move, apply_all_seen, effect, settling}
 use Rattle.pps_types.proofs.Lists.{all-weaken, all-all}
 use Rattle.service_laws.specs.Told.{entries_told, is_woken}
-use Rattle.service_laws.specs.SettlingReplies.{follows}
+use Rattle.service_laws.specs.SettlingMoves.{follows}
 use Rattle.service_laws.specs.SettlingLaws.{EventsAreSettled}
 use Rattle.service_laws.proofs.SettlingLists.{flat_map-same}
 use Rattle.service_laws.proofs.SettlingEvents.{nobody}
-use Rattle.engine_targets.specs.Woken.{woken_by}
+use Rattle.sub_reader.specs.Woken.{woken_by}
 use Rattle.pps_engine.specs.SettlingTold.{IsToldBy}
 use Rattle.pps_engine.specs.Behind.{follows_behind, follows_numbered, is_dead_behind, members_behind}
 use Rattle.pps_engine.proofs.SettlingTells.{IsPlain, AreTelling, effect-tells}

@@ -63,7 +63,7 @@ parting-tells : (c : Content) (h : Open Seen) (k : HandleKind) → AreTelling (p
 parting-tells c h ServerHandle = on_target-tells c h Deleted None refl
 parting-tells c h ClientHandle = on_target-tells c h (Closed h.number) None refl
 parting-tells c h NamesHandle = tt
-parting-tells c h (ObjectHandle delta) = of-either AreTelling (h.critical && h.writes) _ [] (on_target-tells c h Dropped None refl) tt
+parting-tells c h (ObjectHandle delta) = of-either AreTelling (h.options.critical && h.writes) _ [] (on_target-tells c h Dropped None refl) tt
 parting-tells c h (DirectoryHandle delta) = tt
 
 closing-tells : (c : Content) (h : Open Seen) → AreTelling (closing c h)
@@ -76,7 +76,7 @@ closings-tells c (h ∷ hs) = all-append IsTelling (closing c h) (closings (appl
 preparing-tells : (c : Content) (mode : Mode) (spec : OpenSpec) (found : Option LiveObject) → AreTelling (preparing c mode spec found)
 preparing-tells c mode spec None = of-either AreTelling spec.all [] _ tt ((refl, tt), tt)
 preparing-tells c mode spec (Some o) =
-    of-either AreTelling spec.server _ _ ((refl, refl), ((refl, tt), tt)) (of-either AreTelling (is_some o.object.server) _ _ ((refl, refl), tt) (of-either AreTelling mode.t _ [] ((refl, refl), tt) tt))
+    of-either AreTelling spec.options.server _ _ ((refl, refl), ((refl, tt), tt)) (of-either AreTelling (is_some o.object.server) _ _ ((refl, refl), tt) (of-either AreTelling mode.t _ [] ((refl, refl), tt) tt))
 
 unlinking-tells : (o : Option LiveObject) (d : Option Directory) → AreTelling (unlinking o d)
 unlinking-tells (Some o) d = ((refl, refl), tt)

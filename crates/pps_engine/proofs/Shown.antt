@@ -5,7 +5,7 @@ use Rattle.pps_types.specs.History.{Attribute, Entry, line_of}
 use Rattle.pps_types.specs.Reading.{Open, Member, is_directory_kind}
 use Rattle.pps_types.specs.Rests.{Seen}
 use Rattle.pps_types.specs.Content.{Content}
-use Rattle.service_laws.specs.SettlingReplies.{gives_everything}
+use Rattle.pps_types.specs.SettlingReplies.{gives_everything}
 use Rattle.whole_texts.specs.Woken.{Behind, ShowsWaiting}
 use Rattle.pps_engine.specs.Behind.{state_behind, row_member, rows_behind, is_dead_behind, members_behind}
 

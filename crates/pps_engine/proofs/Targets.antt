@@ -16,7 +16,8 @@ use Rattle.pps_types.specs.Plan.{Move, Attaches, Leaves, Creates, AppendsRecord,
 use Rattle.pps_types.proofs.Lists.{map-then, all-all}
 use Rattle.service_laws.specs.Told.{entry_told, entries_told}
 use Rattle.service_laws.specs.SettlingTargets.{object_by, object_after, members_by, members_after}
-use Rattle.service_laws.specs.SettlingReplies.{pulse_and_reply, follows}
+use Rattle.pps_types.specs.SettlingReplies.{pulse_and_reply}
+use Rattle.service_laws.specs.SettlingMoves.{follows}
 use Rattle.pps_engine.specs.Behind.{state_left, state_by, state_behind, Row, row_of, row_member, row_left, row_by, rows_left, rows_by, rows_behind, follows_behind}
 use Rattle.pps_engine.proofs.SettlingTells.{creates, IsPlain}
 

@@ -11,7 +11,7 @@ use Rattle.pps_types.specs.Reading.{Open, Member, is_directory_kind}
 use Rattle.pps_types.specs.Rests.{Seen}
 use Rattle.pps_types.specs.Content.{Content, LiveObject, object_numbered, members, handle_numbered}
 use Rattle.pps_types.specs.Plan.{Move}
-use Rattle.service_laws.specs.SettlingReplies.{pulse_and_reply}
+use Rattle.pps_types.specs.SettlingReplies.{pulse_and_reply}
 use Rattle.name_table.specs.Standing.{Placed, known_of}
 use Rattle.pps_engine.specs.declared.settled_attributes.Attributes.{Attributes}
 use Rattle.pps_engine.specs.declared.settled_attributes.Attributes.TheVariants.{Lent, Made}

@@ -13,8 +13,8 @@ use Rattle.notify_box.specs.Connections.{AreOwned}
 use Rattle.notify_box.specs.Standing.{CanArm, CanPark}
 use Rattle.name_table.specs.Listed.{IsBare}
 use Rattle.name_table.specs.Standing.{IsReadyToMake}
-use Rattle.engine_targets.specs.declared.opening.Pulse.{Pulse}
-use Rattle.engine_targets.specs.Opened.{armed_pulse}
+use Rattle.sub_reader.specs.declared.opening.Pulse.{Pulse}
+use Rattle.sub_reader.specs.Opened.{armed_pulse}
 use Rattle.whole_texts.specs.declared.answer.Effect.{Effect}
 use Rattle.whole_texts.specs.declared.answer.Effect.TheVariants.{Parks as EffectParks}
 use Rattle.whole_texts.specs.Answered as reads

@@ -7,9 +7,9 @@ use Rattle.pps_types.specs.History.{Entry}
 use Rattle.pps_types.specs.Reading.{Open, Member, is_directory_kind}
 use Rattle.pps_types.specs.Rests.{Seen}
 use Rattle.pps_types.specs.Plan.{Move}
-use Rattle.service_laws.specs.SettlingReplies.{gives_everything, pulse_and_reply}
+use Rattle.pps_types.specs.SettlingReplies.{gives_everything, pulse_and_reply}
 use Rattle.name_table.specs.Standing.{Named, named_content}
-use Rattle.engine_targets.specs.Opened.{handle_at}
+use Rattle.sub_reader.specs.Opened.{handle_at}
 use Rattle.whole_texts.specs.declared.following.Following.{Following}
 use Rattle.whole_texts.specs.Woken.{Waiting, IsWoken}
 use Rattle.whole_texts.specs.Followed.{moves_of, Adds}

@@ -9,11 +9,11 @@ ghost use Rattle.pps_engine.specs.Events.{is_attach, attach_by, IsDone, IsRefuse
 use crate::doing::Doing;
 use crate::done::{Done, boxed};
 use crate::requests;
-use engine_targets::Pulse;
 use pps_types::{Conn, Event, Outcome, Refusal, Request};
 use service_laws::events_are_settled;
 use service_state::{Tables, numbers_are_within};
 use std::alloc::Global;
+use sub_reader::Pulse;
 
 // A connection attaches.
 fn attach(tables: &mut Tables, alloc: Global, conn: Conn) -> Result<Done, Refusal>

@@ -1,16 +1,16 @@
 //! What an event does, and how it is carried out.
 ghost use Rattle.std.specs.Prelude.{◌≡◌, ◌∷◌, [], ◌++◌};
 ghost use Rattle.pps_types.specs.Plan as planning;
-ghost use Rattle.engine_targets.specs.Opened.{armed_pulse};
+ghost use Rattle.sub_reader.specs.Opened.{armed_pulse};
 ghost use Rattle.whole_texts.specs.Answered as reads;
 ghost use Rattle.service_state.specs.Tied.{Moves};
 ghost use Rattle.pps_engine.specs.Doing.{moves_in, CanDo, CanRead, CanNotice};
 
-use engine_targets::Pulse;
 use notify_box::Outbox;
 use path_requests::Opens;
 use pps_types::{Bytes, Conn, DirId, Handle};
 use service_state::{Beginning, Tables};
+use sub_reader::Pulse;
 use whole_texts::Effect;
 
 /// What an event does where no check refuses it.

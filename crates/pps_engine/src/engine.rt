@@ -11,9 +11,8 @@ ghost use Rattle.pps_engine.specs.Standing.{coming, HoldsJust, IsSound};
 
 use crate::planned::{Pending, Planned, carry_out, plan};
 use name_table::questions_are_told;
-use open_options::Path;
 use pps_types::limits::DEFAULT_LIMIT;
-use pps_types::{Event, Handle, Outcome, Refusal};
+use pps_types::{Bytes, Event, Handle, Outcome, Refusal};
 use service_state::Tables;
 use std::alloc::{AllocError, Global};
 use std::marker::Model;
@@ -271,13 +270,13 @@ impl Engine {
     }
 
     /// How many records are kept of what a path names, if anything is there. It takes no memory.
-    pub fn kept(&self, path: &Path) -> Option<usize>
+    pub fn kept(&self, path: &[Bytes]) -> Option<usize>
         ensures { result ≡ kept_seen self.now.content path.now }
     {
         questions_are_told();
         let tables: &Tables = &self.tables;
         tables.holds_what_is_owed();
-        let found = tables.names().at(path.names())?;
+        let found = tables.names().at(path)?;
         Some(tables.handles().kept(found))
     }
 

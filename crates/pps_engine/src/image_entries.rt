@@ -7,14 +7,13 @@ ghost use Rattle.pps_engine.specs.Entries.{saved_directories, saved_objects, Are
 
 use crate::order::path_order;
 use crate::saved_entry::SavedEntry;
-use name_table::{NamedDirectory, NamedObject, Names};
-use number_table::Iter;
+use name_table::{NamedDirectories, NamedObject, NamedObjects, Names};
 use std::alloc::{AllocError, Global};
 
 // Pushes the directories but the root.
 fn push_directories<'a>(
     entries: &mut Vec<SavedEntry<'a>>,
-    directories: Iter<'a, NamedDirectory>,
+    directories: NamedDirectories<'a>,
 ) -> Result<(), AllocError>
     ensures { OnOk result (Gains entries.old entries.new (saved_directories directories.entry)) }
 {
@@ -36,7 +35,7 @@ fn is_kept(object: &NamedObject) -> bool
 // Pushes the objects that are kept.
 fn push_objects<'a>(
     entries: &mut Vec<SavedEntry<'a>>,
-    objects: Iter<'a, NamedObject>,
+    objects: NamedObjects<'a>,
 ) -> Result<(), AllocError>
     ensures { OnOk result (Gains entries.old entries.new (saved_objects objects.entry)) }
 {

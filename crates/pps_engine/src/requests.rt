@@ -10,13 +10,13 @@ ghost use Rattle.pps_engine.specs.EventTold.{number_opened};
 
 use crate::doing::Doing;
 use crate::done::{Done, boxed};
-use engine_targets::Pulse;
 use handle_requests::Closing;
 use path_requests::{Opens, Unlinked};
 use pps_types::{Action, Bytes, Conn, Handle, Mode, Outcome, Refusal};
 use service_laws::events_are_settled;
 use service_state::{Tables, numbers_are_within};
 use std::alloc::Global;
+use sub_reader::Pulse;
 
 /// A connection leaves.
 pub(crate) fn detach(tables: &mut Tables, alloc: Global, conn: Conn) -> Result<Done, Refusal>

@@ -9,11 +9,11 @@ ghost use Rattle.pps_engine.specs.WokenHandles.{needs_everything, follows_by, Ad
 use crate::settled_attributes::Attributes;
 use crate::settled_members::{members_of, rows_behind};
 use crate::settled_objects::state_behind;
-use engine_targets::Opening;
 use name_table::Names;
 use pps_types::{DirId, ObjId, Refusal};
 use server_queue::Entry;
 use std::alloc::Global;
+use sub_reader::Opening;
 use whole_texts::{Following, Member, TargetAfter, Woken, follow, gives_everything};
 
 /// Whether a late reply gives everything of the target.

@@ -5,12 +5,12 @@ ghost use Rattle.whole_texts.specs.Followed.{Adds};
 ghost use Rattle.pps_engine.specs.WokenHandles.{follows_at};
 
 use crate::settled_replies::{follow_directory, follow_object, follow_records, needs_target};
-use engine_targets::{is_directory_kind, number_of};
 use name_table::Names;
 use open_handles::Handles;
 use pps_types::{DirId, Handle, ObjId, Refusal};
 use server_queue::Entry;
 use std::alloc::Global;
+use sub_reader::{is_directory_kind, number_of};
 use whole_texts::{Following, Woken};
 
 /// Whether a handle is among those that close.

@@ -7,7 +7,7 @@ use Rattle.pps_types.specs.Content.{Content}
 use Rattle.pps_types.specs.Frame.{HasFrame}
 use Rattle.pps_types.specs.Writing.{SendsPart}
 use Rattle.pps_types.proofs.KnownBytes.{Appends-none, Appends-same, Consumes-none, keeps_itself}
-use Rattle.service_laws.proofs.StandsLaw.{runs-stand}
+use Rattle.pps_engine.proofs.Runs.{runs-stand}
 use Rattle.pps_types.proofs.Writing.{holds-part, holds-sent, part-more}
 use Rattle.pps_frame.specs.declared.ends.Ended.{Ended}
 use Rattle.pps_frame.specs.declared.ends.Ended.TheVariants.{Clean}

@@ -8,7 +8,7 @@ use Rattle.std.proofs.lemmas.List.Elements.{All-nil, All-cons, All-append}
 use Rattle.pps_types.specs.declared.event.Event.{Event}
 use Rattle.pps_types.specs.Frame as frames
 use Rattle.pps_types.specs.Frame.{IsBytes, frame, HasFrame, stream_of, front_of}
-use Rattle.service_laws.proofs.FrameStreams.{IsFront, fronts}
+use Rattle.pps_frame.proofs.FrameStreams.{IsFront, fronts}
 use Rattle.pps_frame.specs.declared.decoder.Front.{Front}
 use Rattle.pps_frame.specs.Front.{IsFirst}
 

@@ -6,7 +6,7 @@ use Rattle.std.proofs.lemmas.List.Elements.{All-nil, All-head}
 use Rattle.std.specs.List.{flat_map}
 use Rattle.pps_types.specs.declared.event.Event.{Event}
 use Rattle.pps_types.specs.Frame.{told, longest_body, event_body, frame, HasFrame, stream_of, IsPartial, IsMalformed, too_short, too_long, no_event, Feeds, IsNoBody}
-use Rattle.service_laws.proofs.FrameStreams.{told_frame, stream_cons}
+use Rattle.pps_frame.proofs.FrameStreams.{told_frame, stream_cons}
 use Rattle.pps_frame.specs.declared.decoder.Taken.{Taken}
 use Rattle.pps_frame.specs.Front.{lacks, Takes, IsGathered}
 use Rattle.pps_frame.proofs.Gathering.{told_front, lacks_length, lacks_body}

@@ -11,8 +11,7 @@ use Rattle.pps_types.specs.Frame.{HasFrame, frame, stream_of, Held, Feeds, IsMal
 use Rattle.pps_types.specs.Runs.{Answered, events_of}
 use Rattle.pps_types.specs.Writing.{SendsPart, Holds}
 use Rattle.pps_types.proofs.KnownBytes.{Appends-same, Consumes-none, Consumes-then, Consumes-same, keeps_itself}
-use Rattle.service_laws.proofs.RunJoins.{runs-append}
-use Rattle.service_laws.proofs.StandsLaw.{runs-stand}
+use Rattle.pps_engine.proofs.Runs.{runs-append, runs-stand}
 use Rattle.pps_types.proofs.Writing.{holds-none, holds-then, holds-part, holds-sent}
 use Rattle.pps_frame.specs.declared.ends.Ended.{Ended}
 use Rattle.pps_frame.specs.declared.ends.Ended.TheVariants.{Clean, Truncated, Malformed}

@@ -12,7 +12,7 @@ use Rattle.pps_types.specs.Writing.{SendsPart, Holds}
 use Rattle.pps_types.specs.Frame.{answer_frame}
 use Rattle.pps_types.specs.Runs.{Answered, events_of}
 use Rattle.pps_types.specs.Stands.{StepsSeen}
-use Rattle.service_laws.proofs.RunJoins.{runs-append}
+use Rattle.pps_engine.proofs.Runs.{runs-append}
 use Rattle.pps_types.proofs.Writing.{holds-then, holds-part, holds-same, part-more}
 use Rattle.pps_frame.specs.declared.ends.RunError.{RunError}
 use Rattle.pps_frame.specs.declared.ends.RunError.TheVariants.{OutOfMemory, ReadFault, WriteFault}

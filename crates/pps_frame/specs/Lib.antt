@@ -1,3 +1,4 @@
+pub mod FrameLaws
 pub mod Encoded
 pub mod Front
 pub mod Faults

@@ -9,11 +9,11 @@ use Rattle.pps_types.specs.Content.{Content}
 use Rattle.pps_types.specs.Plan.{may_lack_memory}
 use Rattle.pps_types.specs.Runs.{Answered}
 use Rattle.pps_types.specs.Stands.{StepsSeen}
-use Rattle.service_laws.proofs.RunJoins.{runs-append}
+use Rattle.pps_engine.proofs.Runs.{runs-append}
 use Rattle.pps_lock.specs.declared.book.Receipt.{Receipt}
 use Rattle.pps_lock.specs.declared.book.Stepped.{Stepped}
 use Rattle.pps_lock.specs.declared.book.TraceFull.{TraceFull}
-use Rattle.pps_lock.specs.Trace.{Log, Replays, IsRecorded, answer_to, receipt, numbered}
+use Rattle.pps_lock.specs.Trace.{Log, Replays, Enters, IsRecorded, IsEntered, KeepsSegment, answer_to, receipt, next_receipt, numbered}
 
 -- an event that may be marked for want of memory, and is, leaves what stands
 pub marked : (c : Content) (e : Event) → may_lack_memory c e ≡ true → StepsSeen c e (Err OutOfMemory) c
@@ -55,3 +55,10 @@ pub step-recorded : (old new : Log) (e : Event) (result : Result Stepped TraceFu
     → OnOk result ((new.base ≡ old.base) × (new.number ≡ old.number) × (new.limit ≡ old.limit)) → IfOk result (λ s. IsRecorded e s.reply s.receipt)
 step-recorded old new e (Ok s) replays added named same = recorded old new e s.reply s.receipt replays same.1 added named
 step-recorded old new e (Err f) replays added named same = tt
+
+-- what a book has entered is recorded in it
+pub enter-recorded : (old new : Log) (e : Event) (result : Result Receipt TraceFull) → Replays new.base new.trace new.engine
+    → OnOk result (Enters old new e) → IfOk result (λ name. name ≡ next_receipt old) → OnOk result (KeepsSegment old new) → IfOk result (λ name. IsEntered e name)
+enter-recorded old new e (Ok name) replays enters named same =
+    record { reply = enters.reply; recorded = recorded old new e enters.reply name replays same.1 enters.added named }
+enter-recorded old new e (Err f) replays enters named same = tt

@@ -1,5 +1,5 @@
 -- A trace of events with their answers, and what it tells of what stood before it and what stands after it.
-use Rattle.std.specs.Prelude.{◌≡◌, ◌≤◌, ◌⊎◌, ℕ, ◌+◌, ◌-◌, ◌^◌, List, [], ◌∷◌, ◌++◌, All, Some, length, slice_get}
+use Rattle.std.specs.Prelude.{◌≡◌, ◌≤◌, ◌⊎◌, ℕ, ◌+◌, ◌-◌, ◌^◌, List, [], ◌∷◌, ◌++◌, All, Some, OnErr, length, slice_get}
 use Rattle.pps_types.specs.declared.event.Event.{Event}
 use Rattle.pps_types.specs.declared.refusal.Refusal.{Refusal}
 use Rattle.pps_types.specs.declared.refusal.Refusal.TheVariants.{OutOfMemory, TableFull}
@@ -75,6 +75,16 @@ StepsLogSeen old event reply new = StepsSeen old.engine event reply new.engine
 abbrev pub KeepsSegment : (old new : Log) → Type 0
 KeepsSegment old new = (new.base ≡ old.base) × (new.number ≡ old.number) × (new.limit ≡ old.limit)
 
+-- The trace has one entry more, of this event, with an answer that the engine gave it in this step. It fits a frame, and after a
+-- refusal the engine is as it was.
+pub record Enters (old new : Log) (event : Event) : Type 0 where
+  pub reply : Reply
+  pub added : AddsEntry old new event reply
+  pub steps : StepsLog old event reply new
+  pub seen : StepsLogSeen old event reply new
+  pub kept : OnErr reply (new.engine ≡ old.engine)
+  pub sends : IsSendable reply
+
 -- the trace has no room for an entry more: what was given comes back, and nothing is changed
 abbrev pub FindsNoRoom : {E : Type 0} → (old new : Log) → (given back : E) → Type 0
 FindsNoRoom old new given back = (back ≡ given) × (new ≡ old) × (length old.trace ≡ old.limit)
@@ -97,3 +107,8 @@ pub record IsRecorded (event : Event) (reply : Reply) (place : Receipt) : Type 0
   pub number : segment.number ≡ place.segment
   pub replays : Replays segment.base segment.entries segment.end
   pub entry : slice_get segment.entries place.index ≡ Some (answer_to event reply)
+
+-- the same with some answer
+pub record IsEntered (event : Event) (place : Receipt) : Type 0 where
+  pub reply : Reply
+  pub recorded : IsRecorded event reply place

@@ -3,7 +3,7 @@ ghost use Rattle.std.specs.Prelude.{◌≡◌, ◌<◌, ◌≤◌, ◌-◌, ◌^
 ghost use Rattle.std.specs.Arc.{arc_value};
 ghost use Rattle.pps_types.specs.Outcome.{IsSendable};
 ghost use Rattle.pps_types.specs.Stands.{StepsSeen, Runs, RunsSeen};
-ghost use Rattle.pps_lock.specs.Trace.{numbered, emptied, next_receipt, AddsEntry, StepsLog, StepsLogSeen, KeepsSegment, FindsNoRoom, next_book, RefusesCut};
+ghost use Rattle.pps_lock.specs.Trace.{numbered, emptied, next_receipt, AddsEntry, StepsLog, StepsLogSeen, Enters, KeepsSegment, FindsNoRoom, next_book, RefusesCut};
 
 use crate::entry::Entry;
 use crate::segment::Segment;
@@ -150,6 +150,28 @@ impl Book {
         let (reply, kept) = answered(&mut self.engine, &event);
         self.trace.push_reserved(Entry::new(event, kept));
         Ok(Stepped { reply, receipt })
+    }
+
+    /// One event, of which the entry alone is made: its answer is the machine's, or OutOfMemory where it may be. The name is
+    /// that of the entry, which comes after the others and holds the answer. After a refusal the engine is as it was. If the
+    /// trace has no room for an entry, the event comes back and all is as it was.
+    pub fn enter(&mut self, event: Arc<Event>) -> Result<Receipt, TraceFull>
+        ensures enters { OnOk result (Enters self.old self.new (arc_value event)) }
+        ensures named { IfOk result (λ name. name ≡ next_receipt self.old) }
+        ensures same { OnOk result (KeepsSegment self.old self.new) }
+        ensures room { OnOk result (length self.old.trace < self.old.limit) }
+        ensures full { IfErr result (λ f. FindsNoRoom self.old self.new event f.event) }
+    {
+        let index = self.trace.len();
+        if index >= self.limit {
+            return Err(TraceFull { event });
+        }
+        let reply = self.engine.step(&event);
+        self.trace.push_reserved(Entry::new(event, reply));
+        Ok(Receipt {
+            segment: self.number,
+            index,
+        })
     }
 
     /// The trace as a segment, behind which the book begins anew with the next number. Where it is refused, all is as it

@@ -2,9 +2,9 @@
 ghost use Rattle.std.specs.Prelude.{◌≡◌, ◌≤◌, ◌⊎◌, IfOk, IfErr, length};
 ghost use Rattle.std.specs.Arc.{arc_value};
 ghost use Rattle.pps_types.specs.Outcome.{IsSendable};
-ghost use Rattle.pps_lock.specs.Trace.{Replays, IsRecorded};
+ghost use Rattle.pps_lock.specs.Trace.{Replays, IsRecorded, IsEntered};
 
-use crate::book::{Book, Stepped, TraceFull};
+use crate::book::{Book, Receipt, Stepped, TraceFull};
 use crate::segment::Segment;
 use pps_types::{Event, Refusal};
 use std::sync::{Arc, Mutex, Wait};
@@ -38,6 +38,19 @@ impl Shared {
         let stepped = book.step(event);
         book.replays();
         stepped
+    }
+
+    /// `Book::enter` of the book that is found. It waits for the lock.
+    ///
+    /// The event is that of an entry, at the place that is named, of a trace that replays.
+    pub fn enter<R: Wait>(&self, rt: &R, event: Arc<Event>) -> Result<Receipt, TraceFull>
+        ensures entered { IfOk result (λ name. IsEntered (arc_value event) name) }
+        ensures full { IfErr result (λ f. f.event ≡ event) }
+    {
+        let mut book = self.book.lock(rt);
+        let entered = book.enter(event);
+        book.replays();
+        entered
     }
 
     /// `Book::cut` of the book that is found: a segment that replays, or TableFull or OutOfMemory. It waits for the lock.

@@ -1,4 +1,5 @@
 pub mod Numbers
+pub mod Paths
 pub mod Regroup
 pub mod Restored
 pub mod Added

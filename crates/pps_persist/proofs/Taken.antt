@@ -10,7 +10,6 @@ use Rattle.pps_types.specs.Content.{Content}
 use Rattle.pps_types.specs.Stands.{Stands}
 use Rattle.pps_types.specs.Image as image
 use Rattle.pps_types.specs.Image.{Image, Saved, SavedDirectory, SavedObject, SavedLine, Position, First, Between, Within, Behind, path_of, is_directory_entry, same_sort, are_beside, has_parent, may_follow, with_entry, in_object, loaded_with, first_line, directory_line, object_line, end_line, entry_line, attribute_line, line_read, IsImage, started}
-use Rattle.service_laws.proofs.ImageStarts.{images-start}
 use Rattle.pps_persist.specs.declared.reading.EntryLine.{EntryLine}
 use Rattle.pps_persist.specs.declared.reading.EntryLine.TheVariants.{Directory, Object as ObjectLine, End}
 use Rattle.pps_persist.specs.Lines.{position_after}
@@ -19,6 +18,7 @@ use Rattle.image_laws.proofs.Good.{good}
 use Rattle.image_laws.proofs.Lines.{read_all-append}
 use Rattle.image_laws.proofs.Options.{map-some, or-some, if-some}
 use Rattle.image_laws.proofs.Printed.{few-entries}
+use Rattle.image_laws.proofs.Proved.{starts-stand}
 use Rattle.pps_engine.specs.Serving.{Serving}
 use Rattle.pps_persist.specs.declared.errors.Fault.{Fault}
 use Rattle.pps_persist.specs.declared.errors.Fault.TheVariants as faults
@@ -143,7 +143,7 @@ module _ (l : List ℕ) (read : Option EntryLine) (says : Says l read) (lines : 
       record {
         image = i;
         reads = leads ∙ ap (option_and_then (position_after b.r)) is ∙ ap (λ (t : Bool). cond t (Some (Behind i)) None) (equal count (length b.r.entries) (whole ∙ b.holds.count));
-        stands = record { made = images-start.made i b.holds.follow; same = b.holds.content };
+        stands = starts-stand i b.holds.follow old.engine.content b.holds.content;
       }
     where
       equal : (x y : ℕ) → x ≡ y → eqb x y ≡ true

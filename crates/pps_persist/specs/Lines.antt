@@ -1,5 +1,5 @@
 -- What the lines of an image say to its reader. Own.
-use Rattle.std.specs.Prelude.{◌≡◌, ◌<◌, ◌≤◌, ◌==◌, ◌^◌, ℕ, true, false, List, length, if◌then◌else◌, Option, Some, None, option_map, option_and_then}
+use Rattle.std.specs.Prelude.{◌≡◌, ◌<◌, ◌≤◌, ◌==◌, ◌^◌, ℕ, Bool, true, false, List, length, if◌then◌else◌, Option, Some, None, option_map, option_and_then}
 use Rattle.std.specs.List.{list_all}
 use Rattle.pps_types.specs.declared.line.Line.{Line}
 use Rattle.pps_types.specs.declared.line.Mark.TheVariants.{Keep}
@@ -7,10 +7,14 @@ use Rattle.pps_types.specs.Bytes.{is_empty}
 use Rattle.pps_types.specs.Text.{set_line}
 use Rattle.pps_types.specs.Names.{Path}
 use Rattle.pps_types.specs.Image.{SavedDirectory, Position, Between, Behind, Loaded, may_follow, with_entry, object_of, plain_number, loaded_with, as_line, set_of}
-use Rattle.image_laws.specs.Images.{is_plain, IsSavedPath}
+use Rattle.image_laws.specs.Images.{is_plain, IsImageLine, IsSavedPath}
 use Rattle.pps_persist.specs.declared.reading.Beginning.{Beginning}
 use Rattle.pps_persist.specs.declared.reading.EntryLine.{EntryLine}
 use Rattle.pps_persist.specs.declared.reading.EntryLine.TheVariants.{Directory, Object, End}
+
+-- whether it has no line feed
+abbrev pub is_plain_line : List ℕ → Bool
+is_plain_line line = list_all is_plain line
 
 -- it has no line feed
 abbrev pub IsPlain : List ℕ → Type 0
@@ -41,6 +45,14 @@ ReadsAs line text read = (r : Loaded) → line r text ≡ option_and_then (posit
 -- the same where fewer than 2^32 entries were loaded
 abbrev pub ReadsAfterFew : (Loaded → List ℕ → Option Position) → List ℕ → Option EntryLine → Type 0
 ReadsAfterFew line text read = (r : Loaded) → length r.entries < 2 ^ 32 → line r text ≡ option_and_then (position_after r) read
+
+-- an attribute that an image may have, as the line that sets it
+abbrev pub IsImageAttribute : Line → Type 0
+IsImageAttribute line = IsImageLine line
+
+-- a path that an image may have, or the root's
+abbrev pub IsImagePath : Path → Type 0
+IsImagePath path = IsSavedPath path
 
 -- a path that was read: the root's, or one that an image may have
 abbrev pub IsReadPath : Path → Type 0

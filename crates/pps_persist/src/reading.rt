@@ -8,6 +8,7 @@ ghost use Rattle.pps_persist.specs.Lines.{IsPlain, begun_by, attribute_in, Reads
 use crate::number::read_number;
 use attr_text::read_set;
 use open_options::{Path, read_path};
+use pps_types::limits::{LIMIT_MAX, TEXT_MAX};
 use pps_types::{Line, Mark, Refusal, WriteLine, after_prefix, number_up_to, split_at_first};
 use std::alloc::{AllocError, Global};
 
@@ -36,9 +37,9 @@ pub fn read_beginning(line: &[u8]) -> Option<Beginning>
         });
     }
     let limit = after_prefix(b"PPSIMAGE 2 ", line)?;
-    let default_limit = number_up_to(5, 65_535, limit)?;
+    let default_limit = number_up_to(5, LIMIT_MAX, limit)?;
     Some(Beginning {
-        longest: 65_536,
+        longest: TEXT_MAX,
         default_limit,
     })
 }

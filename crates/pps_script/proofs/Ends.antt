@@ -8,7 +8,7 @@ use Rattle.pps_types.specs.Writing.{SendsPart, Holds}
 use Rattle.pps_types.specs.Runs.{Answered, events_of}
 use Rattle.pps_types.specs.Stands.{RunsSeen}
 use Rattle.pps_types.proofs.KnownBytes.{Appends-same, Consumes-none, keeps_itself}
-use Rattle.service_laws.proofs.StandsLaw.{runs-stand}
+use Rattle.pps_engine.proofs.Runs.{runs-stand}
 use Rattle.pps_types.proofs.Writing.{holds-part, holds-sent, part-more}
 use Rattle.pps_script.specs.declared.manner.Manner.{Manner}
 use Rattle.pps_script.specs.declared.fault.ScriptFault.{ScriptFault}

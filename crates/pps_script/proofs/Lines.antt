@@ -15,7 +15,7 @@ use Rattle.pps_types.specs.declared.exchange.AnswerFault.TheVariants as answers
 use Rattle.pps_types.specs.Exchange.{Answers}
 use Rattle.pps_types.specs.Runs.{Answered, events_of}
 use Rattle.pps_types.specs.Stands.{StepsSeen, RunsSeen}
-use Rattle.service_laws.proofs.RunJoins.{runs-append}
+use Rattle.pps_engine.proofs.Runs.{runs-append}
 use Rattle.pps_types.proofs.Writing.{holds-then, holds-part, holds-same, part-more}
 use Rattle.pps_script.specs.declared.manner.Manner.{Manner}
 use Rattle.pps_script.specs.ScriptLines.{line_of}

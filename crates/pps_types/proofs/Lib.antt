@@ -1,4 +1,5 @@
 pub mod Lists
+pub mod Chains
 pub mod KnownBytes
 pub mod Writing
 pub mod Sames
@@ -9,3 +10,4 @@ pub mod SameBytes
 pub mod RisingPlaces
 pub mod RisingEdits
 pub mod Fitting
+pub mod Places

@@ -60,7 +60,7 @@ letters_fit mode = (mode.r || mode.w) && (not mode.t || mode.w)
 
 -- `.all` is only read, and a server reads and writes
 abbrev pub mode_fits : Mode → OpenSpec → Bool
-mode_fits mode spec = not (spec.all && (mode.w || mode.c || mode.t)) && not (spec.server && not (mode.r && mode.w))
+mode_fits mode spec = not (spec.all && (mode.w || mode.c || mode.t)) && not (spec.options.server && not (mode.r && mode.w))
 
 -- one more handle
 abbrev pub handle_checks : Content → List Check
@@ -87,7 +87,7 @@ object_checks c path = Refuse (nat_le 256 (objects_beside c path)) TableFull ∷
 -- the last element is a name
 abbrev pub name_checks : Content → Mode → OpenSpec → Option Found → List Check
 name_checks c mode spec found =
-    (Refuse (is_none found && not mode.c) NotFound ∷ Refuse (found_as is_directory found) IsDirectory ∷ Refuse (spec.server && found_as (is_used c) found) Busy ∷ [])
+    (Refuse (is_none found && not mode.c) NotFound ∷ Refuse (found_as is_directory found) IsDirectory ∷ Refuse (spec.options.server && found_as (is_used c) found) Busy ∷ [])
     ++ handle_checks c ++ (if is_none found then object_checks c spec.names else [])
 
 abbrev pub open_checks : Content → Mode → OpenSpec → List Check
@@ -212,7 +212,7 @@ write_checks c bytes h =
 
 -- a critical publisher of an alive object
 abbrev pub drops : Content → Open Seen → Bool
-drops c h = h.critical && h.writes && not (target_is_dead c h)
+drops c h = h.options.critical && h.writes && not (target_is_dead c h)
 
 abbrev pub close_checks : Content → Open Seen → List Check
 close_checks c h = wants h.kind

@@ -123,7 +123,7 @@ abbrev pub target_is_dead : Content → Open Seen → Bool
 target_is_dead c h = not (is_directory_kind h.kind) && is_none (object_numbered c h.target)
 
 abbrev pub everything : Content → Open Seen → List ℕ
-everything c h = everything_of h.kind h.filter (is_over h.seen) (not (target_is_dead c h)) (target_members c h)
+everything c h = everything_of h.kind h.options.filter (is_over h.seen) (not (target_is_dead c h)) (target_members c h)
 
 abbrev pub read_answer : Content → Open Seen → ℕ → Answer
 read_answer c h max = answer h h.seen (everything c h) (target_is_dead c h) max

@@ -22,6 +22,7 @@ pub mod Machine
 pub mod Runs
 pub mod Stands
 pub mod Owed
+pub mod SettlingReplies
 pub mod Frame
 pub mod Image
 pub mod Restore

@@ -2,7 +2,7 @@
 -- QNX PPS guide, on pathname open options; `.all` in delta mode, `deltadir`, `limit=`, `critical` and which bytes names have are our own.
 use Rattle.std.specs.Prelude.{ℕ, List, [], ◌∷◌, Bool, true, false, not, ◌&&◌, ◌||◌, ◌==◌, nat_le, if◌then◌else◌, Option, Some, None, is_some, unwrap_or, option_map, option_and_then, ok_or, Result, Ok, length, codes}
 use Rattle.std.specs.List.{list_all, list_any}
-use Rattle.std.specs.Option.{option_or}
+use Rattle.std.specs.Option.{option_map_or}
 use Rattle.pps_types.specs.declared.refusal.Refusal.{Refusal}
 use Rattle.pps_types.specs.declared.refusal.Refusal.TheVariants.{BadPath, BadOption}
 use Rattle.pps_types.specs.Bytes.{same, is_empty, is_between, starts_with, number_up_to, after_prefix, split_at_first, pieces, plain_pieces, ◌>>=◌}
@@ -51,40 +51,59 @@ open_path path = if nat_le (length path) 1024 then option_and_then (λ elements.
 
 -- ---- options
 
+-- those that the handle keeps as they are
+pub record HandleOptions : Type 0 where
+  pub wait : Bool
+  pub reflect : Bool
+  pub critical : Bool
+  pub filter : Option (List Part)
+
+-- all of them
 pub record Options : Type 0 where
   pub delta : Bool
   pub deltadir : Bool
-  pub wait : Bool
   pub nopersist : Bool
-  pub reflect : Bool
   pub server : Bool
-  pub critical : Bool
-  pub filter : Option (List Part)
   pub limit : Option ℕ
+  pub of_handle : HandleOptions
+
+abbrev pub no_handle_options : HandleOptions
+no_handle_options = record { wait = false; reflect = false; critical = false; filter = None }
 
 abbrev pub no_options : Options
-no_options = record { delta = false; deltadir = false; wait = false; nopersist = false; reflect = false; server = false; critical = false; filter = None; limit = None }
+no_options = record { delta = false; deltadir = false; nopersist = false; server = false; limit = None; of_handle = no_handle_options }
+
+-- the options with these of the handle
+abbrev pub with_handle : Options → HandleOptions → Options
+with_handle o kept = record o { of_handle = kept }
 
 -- `f=`, once
 abbrev pub with_filter : Options → List ℕ → Option Options
-with_filter o text = if is_some o.filter then None else option_map (λ parts. record o { filter = Some parts }) (parts_of text)
+with_filter o text =
+    if is_some o.of_handle.filter then None
+    else option_map (λ parts. with_handle o (record (o.of_handle) { filter = Some parts })) (parts_of text)
 
 -- `limit=`, once: 1 to 65,535
 abbrev pub with_limit : Options → List ℕ → Option Options
 with_limit o text = if is_some o.limit then None else option_map (λ n. record o { limit = Some n }) (number_up_to 5 65535 text)
 
--- The options with one more. An empty one says nothing; a word may stand again.
+-- the options with a word, if the text is one; it may come again
+abbrev pub with_word : Options → List ℕ → Option Options
+with_word o text =
+    if same text (codes "delta") then Some (record o { delta = true }) else
+    if same text (codes "deltadir") then Some (record o { deltadir = true }) else
+    if same text (codes "wait") then Some (with_handle o (record (o.of_handle) { wait = true })) else
+    if same text (codes "nopersist") then Some (record o { nopersist = true }) else
+    if same text (codes "reflect") then Some (with_handle o (record (o.of_handle) { reflect = true })) else
+    if same text (codes "server") then Some (record o { server = true }) else
+    if same text (codes "critical") then Some (with_handle o (record (o.of_handle) { critical = true })) else None
+
+-- the options with one more; an empty one says nothing
 abbrev pub with_option : Options → List ℕ → Option Options
 with_option o text =
     if is_empty text then Some o else
-    if same text (codes "delta") then Some (record o { delta = true }) else
-    if same text (codes "deltadir") then Some (record o { deltadir = true }) else
-    if same text (codes "wait") then Some (record o { wait = true }) else
-    if same text (codes "nopersist") then Some (record o { nopersist = true }) else
-    if same text (codes "reflect") then Some (record o { reflect = true }) else
-    if same text (codes "server") then Some (record o { server = true }) else
-    if same text (codes "critical") then Some (record o { critical = true }) else
-    option_or (option_and_then (with_filter o) (after_prefix (codes "f=") text)) (option_and_then (with_limit o) (after_prefix (codes "limit=") text))
+    option_map_or (with_filter o) (after_prefix (codes "f=") text)
+    (option_map_or (with_limit o) (after_prefix (codes "limit=") text) (with_word o text))
 
 abbrev pub options_from : Options → List (List ℕ) → Option Options
 options_from o [] = Some o
@@ -92,7 +111,7 @@ options_from o (text ∷ texts) = option_and_then (λ p. options_from p texts) (
 
 -- options that do not go together, or not with `.all`, or not without it
 abbrev pub do_options_clash : Bool → Options → Bool
-do_options_clash all o = (o.deltadir && (not all || o.delta || is_some o.filter)) || (all && (o.server || o.critical))
+do_options_clash all o = (o.deltadir && (not all || o.delta || is_some o.of_handle.filter)) || (all && (o.server || o.of_handle.critical))
 
 -- at most 4,096 bytes without a line feed, cut at each plain comma
 abbrev pub options_text : Bool → List ℕ → Option Options
@@ -103,22 +122,14 @@ options_text all text =
 
 -- ---- the text
 
--- What an open asks for. Where no limit is given, the service's default stands.
+-- What an open asks for. If no limit is given, the service's default holds.
 pub record OpenSpec : Type 0 where
   pub names : Path
   pub all : Bool
-  pub delta : Bool
-  pub deltadir : Bool
-  pub wait : Bool
-  pub nopersist : Bool
-  pub reflect : Bool
-  pub server : Bool
-  pub critical : Bool
-  pub filter : Option (List Part)
-  pub limit : Option ℕ
+  pub options : Options
 
 abbrev pub open_spec : OpenPath → Options → OpenSpec
-open_spec p o = record { names = p.names; all = p.all; delta = o.delta; deltadir = o.deltadir; wait = o.wait; nopersist = o.nopersist; reflect = o.reflect; server = o.server; critical = o.critical; filter = o.filter; limit = o.limit }
+open_spec p o = record { names = p.names; all = p.all; options = o }
 
 -- the path before the first `?`, and the options behind it
 abbrev pub open_parts : List ℕ → List ℕ × List ℕ

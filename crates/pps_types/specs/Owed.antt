@@ -57,11 +57,11 @@ takes_everything h debt cursor = is_none cursor || is_past_limit h debt || (is_f
 abbrev pub answer_with : {S : Type 0} → Open S → List Entry → Option ℕ → List ℕ → Bool → ℕ → Answer
 answer_with h history cursor everything dead max =
     if takes_everything h (owed h history cursor) cursor then whole_answer everything max
-    else owed_answer h.wait (map (block h) (owed h history cursor)) dead max
+    else owed_answer h.options.wait (map (block h) (owed h history cursor)) dead max
 
 abbrev pub answer_of : Machine → Open (Option ℕ) → ℕ → Answer
 answer_of m h max =
-    answer_with h m.history h.seen (everything_of h.kind h.filter (is_past_limit h (owed h m.history h.seen)) (not (is_dead m h)) (members_of_target m h)) (is_dead m h) max
+    answer_with h m.history h.seen (everything_of h.kind h.options.filter (is_past_limit h (owed h m.history h.seen)) (not (is_dead m h)) (members_of_target m h)) (is_dead m h) max
 
 -- ---- how much a handle is owed
 

@@ -149,28 +149,28 @@ new_object c spec = record {
   number = c.next_object;
   directory = unwrap_or (parent_number c spec.names) 0;
   name = last_name spec.names;
-  nopersist = spec.nopersist;
-  server = if spec.server then Some c.next_handle else None;
+  nopersist = spec.options.nopersist;
+  server = if spec.options.server then Some c.next_handle else None;
 }
 
 -- the object at the path, as the open finds it and leaves it
 abbrev pub preparing : Content → Mode → OpenSpec → Option LiveObject → List Move
 preparing c mode spec None = if spec.all then [] else Creates (new_object c spec) ∷ []
 preparing c mode spec (Some o) =
-    if spec.server then AppendsRecord (entry_of o.object Deleted None) ∷ Creates (new_object c spec) ∷ [] else
+    if spec.options.server then AppendsRecord (entry_of o.object Deleted None) ∷ Creates (new_object c spec) ∷ [] else
     if is_some o.object.server then AppendsRecord (entry_of o.object (Opened c.next_handle) None) ∷ [] else
     if mode.t then AppendsRecord (entry_of o.object Truncated None) ∷ [] else []
 
 abbrev pub kind_opened : OpenSpec → Option LiveObject → HandleKind
 kind_opened spec found =
-    if spec.server then ServerHandle else
-    if spec.all then (if spec.deltadir then NamesHandle else DirectoryHandle spec.delta) else
-    if option_map_or (λ o. is_some o.object.server) found false then ClientHandle else ObjectHandle spec.delta
+    if spec.options.server then ServerHandle else
+    if spec.all then (if spec.options.deltadir then NamesHandle else DirectoryHandle spec.options.delta) else
+    if option_map_or (λ o. is_some o.object.server) found false then ClientHandle else ObjectHandle spec.options.delta
 
 abbrev pub target_of : Content → OpenSpec → Option LiveObject → ℕ
 target_of c spec found =
     if spec.all then option_map_or (λ d. d.number) (directory_at c spec.names) 0 else
-    if spec.server then c.next_object else option_map_or (λ o. o.object.number) found c.next_object
+    if spec.options.server then c.next_object else option_map_or (λ o. o.object.number) found c.next_object
 
 abbrev pub new_handle : Content → ℕ → Mode → OpenSpec → Option LiveObject → Open (Unit {0})
 new_handle c conn mode spec found = record {
@@ -181,11 +181,8 @@ new_handle c conn mode spec found = record {
   kind = kind_opened spec found;
   reads = mode.r;
   writes = mode.w;
-  wait = spec.wait;
-  reflect = spec.reflect;
-  critical = spec.critical;
-  filter = spec.filter;
-  limit = unwrap_or spec.limit c.default_limit;
+  options = spec.options.of_handle;
+  limit = unwrap_or spec.options.limit c.default_limit;
   seen = tt;
   parked = None;
   armed = None;
@@ -228,7 +225,7 @@ writing c h text = if is_empty text.lines then [] else on_target c h (written_ki
 abbrev pub parting : Content → Open Seen → HandleKind → List Move
 parting c h ServerHandle = on_target c h Deleted None
 parting c h ClientHandle = on_target c h (Closed h.number) None
-parting c h (ObjectHandle delta) = if h.critical && h.writes then on_target c h Dropped None else []
+parting c h (ObjectHandle delta) = if h.options.critical && h.writes then on_target c h Dropped None else []
 parting c h _ = []
 
 -- a parked read ends with the handle, before anything that the close tells others

@@ -14,6 +14,7 @@ use Rattle.pps_types.specs.declared.record.Record.{Record}
 use Rattle.pps_types.specs.Text.{print_header, print_lines}
 use Rattle.pps_types.specs.Filter.{Part, matches}
 use Rattle.pps_types.specs.History.{Entry}
+use Rattle.pps_types.specs.OpenText.{HandleOptions}
 
 -- ---- handles
 
@@ -27,10 +28,7 @@ pub record Open (S : Type 0) : Type 0 where
   pub kind : HandleKind
   pub reads : Bool
   pub writes : Bool
-  pub wait : Bool
-  pub reflect : Bool
-  pub critical : Bool
-  pub filter : Option (List Part)
+  pub options : HandleOptions
   pub limit : ℕ
   pub seen : S
   pub parked : Option ℕ
@@ -38,7 +36,7 @@ pub record Open (S : Type 0) : Type 0 where
 
 -- the same open, with another thing known of what it has seen
 abbrev pub reseen : {S T : Type 0} → (Open S → T) → Open S → Open T
-reseen see h = record { number = h.number; connection = h.connection; target = h.target; name = h.name; kind = h.kind; reads = h.reads; writes = h.writes; wait = h.wait; reflect = h.reflect; critical = h.critical; filter = h.filter; limit = h.limit; seen = see h; parked = h.parked; armed = h.armed }
+reseen see h = record { number = h.number; connection = h.connection; target = h.target; name = h.name; kind = h.kind; reads = h.reads; writes = h.writes; options = h.options; limit = h.limit; seen = see h; parked = h.parked; armed = h.armed }
 
 abbrev pub is_object_kind : HandleKind → Bool
 is_object_kind (ObjectHandle delta) = true
@@ -135,7 +133,7 @@ print_shown name (Some s) = print_header s.mark (name ++ s.suffix) ++ print_line
 
 -- what a record of the object of that name looks like to a handle
 abbrev pub block_of : {S : Type 0} → Open S → List ℕ → Kind → List ℕ
-block_of h name kind = print_shown name (shown h.kind h.number h.filter kind)
+block_of h name kind = print_shown name (shown h.kind h.number h.options.filter kind)
 
 abbrev pub block : {S : Type 0} → Open S → Entry → List ℕ
 block h e = block_of h e.name e.record_of.kind
@@ -147,7 +145,7 @@ is_writer number writer = option_map_or (λ w. w == number) writer false
 
 -- of the records of its target: not its own, unless it is an object's handle that reflects, and none without a block
 abbrev pub sees : {S : Type 0} → Open S → Record → Bool
-sees h r = h.reads && (not (is_writer h.number r.writer) || (h.reflect && is_object_kind h.kind)) && is_some (shown h.kind h.number h.filter r.kind)
+sees h r = h.reads && (not (is_writer h.number r.writer) || (h.options.reflect && is_object_kind h.kind)) && is_some (shown h.kind h.number h.options.filter r.kind)
 
 -- a record of the target, or of an object directly in it
 abbrev pub concerns : {S : Type 0} → Open S → Entry → Bool

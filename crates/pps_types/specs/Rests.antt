@@ -91,7 +91,7 @@ is_over _ = false
 -- The answer to a read of max bytes, by what everything is, and whether the target is a dead object.
 abbrev pub answer : Open Seen → Seen → List ℕ → Bool → ℕ → Answer
 answer h (News true) everything dead max = whole_answer everything max
-answer h (News false) everything dead max = idle_answer dead h.wait
+answer h (News false) everything dead max = idle_answer dead h.options.wait
 answer h Unread everything dead max = whole_answer everything max
 answer h Over everything dead max = whole_answer everything max
-answer h (Owed rest) everything dead max = owed_answer h.wait (map (block h) (filter (visible h) rest)) dead max
+answer h (Owed rest) everything dead max = owed_answer h.options.wait (map (block h) (filter (visible h) rest)) dead max

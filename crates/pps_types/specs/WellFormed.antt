@@ -115,7 +115,7 @@ pub record AreTold (c : Content) : Type 0 where
 
 -- only a handle that waits has one, and only while it has no news
 pub record AreParked (c : Content) : Type 0 where
-  pub idle : AllByRecursion (λ h. is_some h.parked ≡ true → (h.wait ≡ true) × (news h ≡ false)) c.handles
+  pub idle : AllByRecursion (λ h. is_some h.parked ≡ true → (h.options.wait ≡ true) × (news h ≡ false)) c.handles
 
 -- ---- all of it
 

@@ -1,5 +1,5 @@
 -- Bytes that are written, or held until they are. Own.
-use Rattle.std.specs.Prelude.{◌≡◌, ◌⊎◌, ℕ, Bool, true, false, List, [], ◌++◌, take, Option, Result, Ok, Err}
+use Rattle.std.specs.Prelude.{◌≡◌, ◌⊎◌, ℕ, Bool, true, List, ◌++◌, take, Option, Result, Ok, Err}
 use Rattle.std.specs.Io.KnownBytes.{Appends}
 use Rattle.pps_types.specs.Device.{counted_once_more, device_inner, device_failed, device_stalls}
 use Rattle.pps_types.specs.declared.device.Device.{Device}

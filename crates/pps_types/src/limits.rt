@@ -27,6 +27,9 @@ pub const HANDLES_MAX: usize = 65_535;
 /// The most items, armed pulses and parked reads of a connection together.
 pub const OUTBOX_MAX: usize = 1_024;
 
+/// The highest number of a connection.
+pub const CONNECTION_MAX: u16 = 1_024;
+
 // ---- what is asked for
 
 /// The most bytes of a path, `.all` included.

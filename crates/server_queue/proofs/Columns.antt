@@ -61,8 +61,8 @@ column NamesHandle number parts k is h = absurd cc
 column ServerHandle number parts k is h = to_server k h
 column ClientHandle number parts k is h = to_client number k h
 
-sees_is : (h : Open Seen) (r : Record) → (h.reads && ((not (is_writer h.number r.writer) || (h.reflect && is_object_kind h.kind)) && is_some (shown h.kind h.number h.filter r.kind))) ≡ sees h r
-sees_is h r = by h.reads (not (is_writer h.number r.writer)) (h.reflect && is_object_kind h.kind) (is_some (shown h.kind h.number h.filter r.kind))
+sees_is : (h : Open Seen) (r : Record) → (h.reads && ((not (is_writer h.number r.writer) || (h.options.reflect && is_object_kind h.kind)) && is_some (shown h.kind h.number h.options.filter r.kind))) ≡ sees h r
+sees_is h r = by h.reads (not (is_writer h.number r.writer)) (h.options.reflect && is_object_kind h.kind) (is_some (shown h.kind h.number h.options.filter r.kind))
   where
     by : (a b c d : Bool) → (a && ((b || c) && d)) ≡ ((a && (b || c)) && d)
     by true b c d = refl
@@ -72,5 +72,5 @@ pub blocks_are : (h : Open Seen) (owed : List Entry) → IsOwedTo h owed → que
 blocks_are h [] is = refl
 blocks_are h (e ∷ owed) is =
     let sees_it : sees h e.record_of ≡ true = right_of (concerns h e) (sees h e.record_of) is.seen.0 in
-    let same : shown h.kind h.number h.filter e.record_of.kind ≡ queue_shown e.record_of.kind = column h.kind h.number h.filter e.record_of.kind is.kind (last_of h.reads (not (is_writer h.number e.record_of.writer) || (h.reflect && is_object_kind h.kind)) (is_some (shown h.kind h.number h.filter e.record_of.kind)) (sees_is h e.record_of ∙ sees_it)) in
+    let same : shown h.kind h.number h.options.filter e.record_of.kind ≡ queue_shown e.record_of.kind = column h.kind h.number h.options.filter e.record_of.kind is.kind (last_of h.reads (not (is_writer h.number e.record_of.writer) || (h.options.reflect && is_object_kind h.kind)) (is_some (shown h.kind h.number h.options.filter e.record_of.kind)) (sees_is h e.record_of ∙ sees_it)) in
     ap (λ s. print_shown e.name s ∷ queue_blocks owed) (sym same) ∙ ap (λ bs. block h e ∷ bs) (blocks_are h owed record { kind = is.kind; seen = is.seen.1 })

@@ -1,40 +1,46 @@
--- The blocks from a place on.
-use Rattle.std.proofs.Common.{◌≡◌, ℕ, zero, suc, ◌+◌, ◌-◌, ◌≤◌, ◌<◌, true, false, cond, List, [], ◌∷◌, ◌++◌, length, take, drop, Some, append_assoc, append-nil, ◌∙◌, sym, ap, arith, leb}
-use Rattle.std.specs.Prelude.{slice_get}
-use Rattle.std.specs.List.{concat}
-use Rattle.std.proofs.lemmas.List.{length-append}
-use Rattle.std.proofs.lemmas.Option.{same_Some}
-use Rattle.std.proofs.lemmas.Bool.Decides.{nat_tests}
+-- The longest run of whole blocks that fits, one block after the other.
+use Rattle.std.proofs.Common.{◌≡◌, ℕ, ◌+◌, ◌<◌, ◌≤◌, Some, None, List, ◌∷◌, ◌++◌, length, drop, sym, ap, subst, ◌∙◌, arith}
+use Rattle.std.specs.Prelude.{Result, Ok, Err, IsErrAnd, slice_get}
+use Rattle.std.proofs.lemmas.Grind.{common_steps}
+use Rattle.pps_types.specs.declared.refusal.Refusal.{Refusal}
+use Rattle.pps_types.specs.Names.{refusal_of}
+use Rattle.pps_types.specs.Reading.{fitting}
 use Rattle.pps_types.specs.History.{Entry}
-use Rattle.pps_types.specs.Reading.{fitting, with_block}
+use Rattle.pps_types.proofs.Places.{from_place}
+use Rattle.server_queue.specs.declared.fitting.Fitting.{Fitting}
 use Rattle.server_queue.specs.Blocks.{queue_block, queue_blocks}
+use Rattle.server_queue.specs.Given.{refused_for, RefusesTooSmall, Gives, EndsBefore, RefusesBlock}
 
--- what stands at a place comes first from there on
-from_place : (all : List Entry) (i : ℕ) (e : Entry) → slice_get all i ≡ Some e → drop i all ≡ e ∷ drop (i + 1) all
-from_place [] i e is = absurd cc
-from_place (x ∷ all) zero e is = ap (λ y. y ∷ all) (same_Some x e is)
-from_place (x ∷ all) (suc i) e is = let more : suc (i + 1) ≡ suc i + 1 = omega arith in from_place all i e is ∙ ap (λ k. e ∷ drop k (x ∷ all)) more
+-- ---- a read of so many bytes, of these blocks
 
-one_fits : (left : ℕ) (b : List ℕ) (bs : List (List ℕ)) → length b ≤ left → (fitting left (b ∷ bs)).0 ≡ 1 + (fitting (left - length b) bs).0
-one_fits left b bs fits = let t : leb (length b) left ≡ true = grind (arith, nat_tests) in ap (λ t. (cond t (with_block b (fitting (left - length b) bs)) (0, [])).0) t
+module _ (max : ℕ) (all : List (List ℕ)) where
+  -- so much is given before the blocks `rest`; what fits of these goes after it
+  pub record Runs (rest : List (List ℕ)) (run : Fitting) : Type 0 where
+    pub same : fitting max all ≡ (run.given.count + (fitting run.room rest).0, run.given.text.items ++ (fitting run.room rest).1)
+    pub few : length rest ≤ length all
+    pub none : run.given.count ≡ 0 → (rest ≡ all) × (run.room ≡ max)
+    pub some : 0 < run.given.count → refused_for max all ≡ None
 
-none_fits : (left : ℕ) (b : List ℕ) (bs : List (List ℕ)) → left < length b → (fitting left (b ∷ bs)).0 ≡ 0
-none_fits left b bs more = let t : leb (length b) left ≡ false = grind (arith, nat_tests) in ap (λ t. (cond t (with_block b (fitting (left - length b) bs)) (0, [])).0) t
+  module _ (b : List ℕ) (rest : List (List ℕ)) (old : Fitting) (p : Runs (b ∷ rest) old) where
+    pub given_more : (new : Fitting) → Gives b old new → Runs rest new
+    given_more new g = grind (arith, common_steps)
 
-pub fits_more : (all : List Entry) (i left : ℕ) (e : Entry) → slice_get all i ≡ Some e → length (queue_block e) ≤ left → (fitting left (queue_blocks (drop i all))).0 ≡ 1 + (fitting (left - length (queue_block e)) (queue_blocks (drop (i + 1) all))).0
-fits_more all i left e is fits = ap (λ es. (fitting left (queue_blocks es)).0) (from_place all i e is) ∙ one_fits left (queue_block e) (queue_blocks (drop (i + 1) all)) fits
+    -- the run ends before the block: it is the longest
+    pub ended : (new : Fitting) → EndsBefore b old new → (new.given.count, new.given.text.items) ≡ fitting max all
+    ended new e = grind (arith, common_steps)
 
-pub fits_no_more : (all : List Entry) (i left : ℕ) (e : Entry) → slice_get all i ≡ Some e → left < length (queue_block e) → (fitting left (queue_blocks (drop i all))).0 ≡ 0
-fits_no_more all i left e is more = ap (λ es. (fitting left (queue_blocks es)).0) (from_place all i e is) ∙ none_fits left (queue_block e) (queue_blocks (drop (i + 1) all)) more
+    -- the block is the first, and needs more than there is room for
+    pub refused_small : {X : Type 0} (result : Result X Refusal) (r : Refusal) → refusal_of result ≡ Some r → RefusesBlock b old r → RefusesTooSmall max all result
+    refused_small result r is refuses = grind (arith, common_steps)
 
-pub concat_more : (all : List Entry) (i : ℕ) (e : Entry) → slice_get all i ≡ Some e → concat (take (i + 1) (queue_blocks all)) ≡ concat (take i (queue_blocks all)) ++ queue_block e
-concat_more [] i e is = absurd cc
-concat_more (x ∷ all) zero e is = append-nil (queue_block x) ∙ ap queue_block (same_Some x e is)
-concat_more (x ∷ all) (suc i) e is =
-    let more : suc i + 1 ≡ suc (i + 1) = omega arith in
-    ap (λ k. concat (take k (queue_blocks (x ∷ all)))) more
-    ∙ ap (λ bs. queue_block x ++ bs) (concat_more all i e is)
-    ∙ sym (append_assoc (queue_block x) (concat (take i (queue_blocks all))) (queue_block e))
+-- the refusal that `?` passes on
+pub refusal-is : {X : Type 0} (result : Result X Refusal) (r : Refusal) → IsErrAnd result (λ e. e ≡ r) → refusal_of result ≡ Some r
+refusal-is (Ok x) r is = absurd is
+refusal-is (Err e) r is = ap Some is
 
-pub length_more : (all : List Entry) (i : ℕ) (e : Entry) → slice_get all i ≡ Some e → length (concat (take (i + 1) (queue_blocks all))) ≡ length (concat (take i (queue_blocks all))) + length (queue_block e)
-length_more all i e is = ap length (concat_more all i e is) ∙ length-append (concat (take i (queue_blocks all))) (queue_block e)
+-- ---- the blocks of a queue from a place on
+
+pub queue-runs : (max : ℕ) (all : List (List ℕ)) (entries : List Entry) (i : ℕ) (e : Entry) (text : List ℕ) (run : Fitting) → slice_get entries i ≡ Some e → text ≡ queue_block e
+    → Runs max all (queue_blocks (drop i entries)) run → Runs max all (text ∷ queue_blocks (drop (i + 1) entries)) run
+queue-runs max all entries i e text run at is p =
+    subst (λ bs. Runs max all bs run) (ap queue_blocks (from_place entries i e at) ∙ ap (λ t. t ∷ queue_blocks (drop (i + 1) entries)) (sym is)) p

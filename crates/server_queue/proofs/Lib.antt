@@ -1,4 +1,3 @@
 pub mod Columns
 pub mod Fits
-pub mod Needs
 pub mod Tallies

@@ -1,6 +1,5 @@
 -- What records look like in a queue, which has none but those that its handle is given.
-use Rattle.std.specs.Prelude.{ℕ, List, ◌++◌, map, take}
-use Rattle.std.specs.List.{concat}
+use Rattle.std.specs.Prelude.{ℕ, List, ◌++◌, map}
 use Rattle.std.specs.declared.collections.VecDeque.{VecDeque}
 use Rattle.pps_types.specs.History.{Entry}
 use Rattle.pps_types.specs.Reading.{print_shown}
@@ -16,7 +15,3 @@ module _ {A : Type 0} where
   -- the blocks of what is owed and, after that, of more records
   abbrev pub blocks_with : VecDeque Entry A → List Entry → List (List ℕ)
   blocks_with owed extra = queue_blocks (owed.items ++ extra)
-
-  -- the first so many of them, one after the other
-  abbrev pub first_blocks : ℕ → VecDeque Entry A → List Entry → List ℕ
-  first_blocks count owed extra = concat (take count (blocks_with owed extra))

@@ -1,9 +1,11 @@
 pub mod Blocks
+pub mod Given
 pub mod Messages
 pub mod OwedTo
 pub mod Queued
 pub mod Reads
 pub mod Senders
 pub mod Shared
+pub mod Shown
 pub mod Tally
 pub mod Printed

@@ -1,63 +1,121 @@
-//! The blocks of what is queued and, behind that, of more records: how many fit, and their text.
-ghost use Rattle.std.specs.Prelude.{◌≡◌, ◌<◌, ◌≤◌, ◌+◌, ◌++◌, Some, length, OnOk, slice_get};
-ghost use Rattle.pps_types.specs.Reading as reading;
-ghost use Rattle.server_queue.specs.Blocks.{blocks_with, first_blocks};
+//! The longest run of whole blocks that fits into the room of a read, one block after the other.
+ghost use Rattle.std.specs.Prelude.{◌≡◌, ◌≤◌, ◌<◌, ◌+◌, ◌^◌, length, OnOk, OnErr, IfOk, IfErr};
+ghost use Rattle.pps_types.specs.declared.refusal.Refusal.TheVariants.{OutOfMemory};
+ghost use Rattle.server_queue.specs.Given.{needs_len};
 
-use crate::block::{block_len, put_block};
-use crate::entry::Entry;
-use std::alloc::AllocError;
-use std::collections::VecDeque;
+use crate::plan::GivenBlocks;
+use crate::shown::Shown;
+use pps_types::Refusal;
+use std::alloc::Global;
 
-/// The record at a place.
-pub(crate) fn entry_at<'a>(owed: &'a VecDeque<Entry>, extra: &'a [Entry], place: usize) -> &'a Entry
-    requires { place < length owed.now.items + length extra.now }
-    ensures { slice_get (owed.now.items ++ extra.now) place ≡ Some result.now }
+/// The most bytes beyond a first block for which memory is taken with it.
+const MOST_AHEAD: usize = 4_096;
+
+/// How many bytes more than the first block each later one may have, before more memory is taken.
+const SPARE: usize = 8;
+
+/// The refusal of a read that needs so many bytes: TooSmall, with the size, or OutOfMemory if that is no number of 32
+/// bits. It takes no memory.
+pub fn too_small(need: Option<usize>) -> Refusal
+    ensures { result ≡ needs_len need }
 {
-    if place < owed.len() {
-        return &owed[place];
+    let Some(need) = need else {
+        return Refusal::OutOfMemory;
+    };
+    match u32::try_from(need) {
+        Ok(need) => Refusal::TooSmall { need },
+        Err(_) => Refusal::OutOfMemory,
     }
-    &extra[place - owed.len()]
 }
 
-/// How many blocks fit into some room, and what they leave of it.
-#[derive(Clone, Copy)]
-pub(crate) struct Fitting {
-    pub(crate) count: usize,
-    pub(crate) left: usize,
-}
-
-/// How many blocks fit into the room, from the first on. It takes no memory.
-pub(crate) fn count_fitting(owed: &VecDeque<Entry>, extra: &[Entry], room: usize) -> Fitting
-    ensures fits { result.count ≡ (reading.fitting room (blocks_with owed.now extra.now)).0 }
-    ensures in_range { result.count ≤ length owed.now.items + length extra.now }
-    ensures left { length (first_blocks result.count owed.now extra.now) + result.left ≡ room }
+// For how many bytes memory is taken before a block of that length, if there is room for it, and so many records may
+// follow: before the first block for as many blocks of its length, and enough for these to differ a little, but for no
+// more than 4,096 bytes beyond it; and else for the block itself.
+fn memory_for(is_first: bool, len: usize, room: usize, records: u64) -> usize
+    requires { len ≤ room }
+    ensures enough { len ≤ result }
+    ensures within { result ≤ room }
+    ensures ahead { result ≤ len + 4096 }
 {
-    let mut left = room;
-    let count = owed.len() + extra.len();
-    'places: for place in 0..count {
-        let Some(len) = block_len(entry_at(owed, extra, place)) else {
-            return Fitting { count: place, left };
-        };
-        if len > left {
-            return Fitting { count: place, left };
+    if !is_first {
+        return len;
+    }
+    let most = if room - len < MOST_AHEAD {
+        room
+    } else {
+        len + MOST_AHEAD
+    };
+    let all = len.saturating_add(SPARE).saturating_mul(records as usize);
+    all.min(most).max(len)
+}
+
+/// A read in the making: the blocks that it gives so far, and the room that they leave for more.
+#[derive(Drop)]
+pub struct Fitting {
+    /// What it gives.
+    pub given: GivenBlocks,
+    /// How many bytes more it may give.
+    pub room: usize,
+}
+
+impl Fitting {
+    ghost use Rattle.server_queue.specs.Given.{GivesNothing, Gives, GivesIfItFits, GivesTheSame, RefusesBlock};
+    ghost use Rattle.server_queue.specs.Shown.{printed_as};
+
+    /// A read of at most `max` bytes, which gives nothing yet. It takes no memory.
+    pub fn new(alloc: Global, max: u32) -> Fitting
+        ensures { GivesNothing max result }
+    {
+        Fitting {
+            given: GivenBlocks::nothing(alloc),
+            room: max as usize,
         }
-        left -= len;
     }
-    Fitting { count, left }
-}
 
-/// Puts so many blocks, from the first on.
-pub(crate) fn put_blocks(
-    out: &mut Vec<u8>,
-    owed: &VecDeque<Entry>,
-    extra: &[Entry],
-    count: usize,
-) -> Result<(), AllocError>
-    requires { count ≤ length owed.now.items + length extra.now }
-    ensures { OnOk result (out.new.items ≡ out.old.items ++ first_blocks count owed.now extra.now) }
-{
-    'places: for place in 0..count {
-        put_block(out, entry_at(owed, extra, place))?;
+    // A block of that length, for which there is room, is put. So many records may follow, with this one.
+    #[inline(always)]
+    fn put_sized(
+        &mut self,
+        shown: &Shown<'_>,
+        name: &[u8],
+        len: usize,
+        records: u64,
+    ) -> Result<(), Refusal>
+        requires len { len ≡ length (printed_as name.now shown.now) }
+        requires room { len ≤ self.old.room }
+        requires count { self.old.given.count + 1 < 2 ^ 64 }
+        ensures ok { OnOk result (Gives (printed_as name.now shown.now) self.old self.new) }
+        ensures err { IfErr result (λ r. r ≡ OutOfMemory) }
+        ensures kept { OnErr result (GivesTheSame self.old self.new) }
+    {
+        let memory = memory_for(self.given.count == 0, len, self.room, records);
+        self.given.text.reserve(memory)?;
+        shown.push(&mut self.given.text, name);
+        self.given.count += 1;
+        self.room -= len;
+        Ok(())
     }
-    Ok(())
+
+    /// Puts one block more, of an object of that name, if there is room for it, and says whether there was: else the run
+    /// ends here. So many records may follow, with this one.
+    ///
+    /// It is TooSmall, with the size, if the first block does not fit, before any memory is taken; else OutOfMemory is the
+    /// only error, and comes only if there is room. After an error the same is given as before.
+    #[inline(always)]
+    pub fn put(&mut self, shown: &Shown<'_>, name: &[u8], records: u64) -> Result<bool, Refusal>
+        requires { self.old.given.count + 1 < 2 ^ 64 }
+        ensures ok { IfOk result (GivesIfItFits (printed_as name.now shown.now) self.old self.new) }
+        ensures err { IfErr result (RefusesBlock (printed_as name.now shown.now) self.old) }
+        ensures kept { OnErr result (GivesTheSame self.old self.new) }
+    {
+        let room = self.room;
+        match shown.len(name) {
+            Some(len) if len <= room => {
+                self.put_sized(shown, name, len, records)?;
+                Ok(true)
+            }
+            need if self.given.count == 0 => Err(too_small(need)),
+            _ => Ok(false),
+        }
+    }
 }

@@ -1,17 +1,17 @@
 //! What a read gives of a queue, before the queue moves on.
-ghost use Rattle.std.specs.Prelude.{[], ◌≡◌, ◌≢◌, ◌≤◌, ◌<◌, ◌^◌, ◌+◌, ◌++◌, Some, None, length, IfOk};
+ghost use Rattle.std.specs.Prelude.{[], ◌≡◌, ◌≢◌, ◌<◌, ◌^◌, ◌+◌, ◌++◌, Some, None, length, IfOk, slice_get};
 ghost use Rattle.pps_types.specs.Names.{refusal_of};
-ghost use Rattle.pps_types.specs.declared.refusal.Refusal.TheVariants.{OutOfMemory, TooSmall};
+ghost use Rattle.pps_types.specs.declared.refusal.Refusal.TheVariants.{OutOfMemory};
 ghost use Rattle.pps_types.specs.Reading as reading;
 ghost use Rattle.pps_types.specs.Refused.{LacksMemory};
-ghost use Rattle.server_queue.specs.Blocks.{blocks_with, first_blocks};
+ghost use Rattle.server_queue.specs.Blocks.{blocks_with};
 ghost use Rattle.server_queue.specs.Reads.{read_refusal, first_len};
 
-use crate::block::block_len;
 use crate::entry::Entry;
-use crate::fitting::{count_fitting, entry_at, put_blocks};
+use crate::fitting::Fitting;
+use crate::shown::Shown;
 use pps_types::Refusal;
-use std::alloc::{AllocError, Global};
+use std::alloc::Global;
 use std::collections::VecDeque;
 
 /// What a read gives: the blocks of the first records.
@@ -36,37 +36,22 @@ impl GivenBlocks {
     }
 }
 
-// The refusal of a read that needs so many bytes.
-fn too_small(need: usize) -> Refusal
-    ensures small { need < 2 ^ 32 → result ≡ TooSmall need }
-    ensures large { 2 ^ 32 ≤ need → result ≡ OutOfMemory }
+// The record at a place of what is queued and, after that, of more records.
+fn entry_at<'a>(owed: &'a VecDeque<Entry>, extra: &'a [Entry], place: usize) -> &'a Entry
+    requires { place < length owed.now.items + length extra.now }
+    ensures { slice_get (owed.now.items ++ extra.now) place ≡ Some result.now }
 {
-    match u32::try_from(need) {
-        Ok(need) => Refusal::TooSmall { need },
-        Err(_) => Refusal::OutOfMemory,
+    if place < owed.len() {
+        return &owed[place];
     }
+    &extra[place - owed.len()]
 }
 
-// The text of so many blocks, from the first on, which has that length.
-fn text_of(
-    alloc: Global,
-    owed: &VecDeque<Entry>,
-    extra: &[Entry],
-    count: usize,
-    len: usize,
-) -> Result<Vec<u8>, AllocError>
-    requires { count ≤ length owed.now.items + length extra.now }
-    ensures { IfOk result (λ text. text.items ≡ first_blocks count owed.now extra.now) }
-{
-    let mut text = Vec::with_capacity(alloc, len)?;
-    put_blocks(&mut text, owed, extra, count)?;
-    Ok(text)
-}
-
-/// What a read of `max` bytes gives of what is queued and, behind that, of more records: the longest run of whole
+/// What a read of `max` bytes gives of what is queued and, after that, of more records: the longest run of whole
 /// blocks that fits.
 ///
-/// It is TooSmall, with the size, where the first block does not fit, and takes no memory before that is known.
+/// It is TooSmall, with the size, if the first block does not fit, and takes no memory before that is known.
+#[tactic(auto, using(pps_types::proofs::Places::from_place, crate::proofs::Fits::given_more, crate::proofs::Fits::ended))]
 pub(crate) fn plan_read(
     alloc: Global,
     owed: &VecDeque<Entry>,
@@ -81,25 +66,14 @@ pub(crate) fn plan_read(
     ensures ok { IfOk result (λ plan. (plan.count, plan.text.items)
         ≡ reading.fitting max (blocks_with owed.now extra.now)) }
 {
-    if owed.is_empty() && extra.is_empty() {
-        return Ok(GivenBlocks {
-            count: 0,
-            text: Vec::new(alloc),
-        });
+    let mut run = Fitting::new(alloc, max);
+    let count = owed.len() + extra.len();
+    'places: for place in 0..count {
+        let entry = entry_at(owed, extra, place);
+        let shown = Shown::in_queue(entry);
+        if !run.put(&shown, entry.name(), (count - place) as u64)? {
+            return Ok(run.given);
+        }
     }
-    let Some(need) = block_len(entry_at(owed, extra, 0)) else {
-        return Err(Refusal::OutOfMemory);
-    };
-    if need > max as usize {
-        return Err(too_small(need));
-    }
-    let room = max as usize;
-    let fitting = count_fitting(owed, extra, room);
-    match text_of(alloc, owed, extra, fitting.count, room - fitting.left) {
-        Ok(text) => Ok(GivenBlocks {
-            count: fitting.count,
-            text,
-        }),
-        Err(_) => Err(Refusal::OutOfMemory),
-    }
+    Ok(run.given)
 }

@@ -101,7 +101,7 @@ parting-alive : (c d : Content) → d.objects ≡ c.objects → (h : Open Seen) 
 parting-alive c d same h ServerHandle = target-alive c d same h Deleted None
 parting-alive c d same h ClientHandle = target-alive c d same h (Closed h.number) None
 parting-alive c d same h NamesHandle = tt
-parting-alive c d same h (ObjectHandle delta) = elim (h.critical && h.writes) as (λ b. AreAlive d (cond b (on_target c h Dropped None) [])) [ true ↦ target-alive c d same h Dropped None | false ↦ tt ]
+parting-alive c d same h (ObjectHandle delta) = elim (h.options.critical && h.writes) as (λ b. AreAlive d (cond b (on_target c h Dropped None) [])) [ true ↦ target-alive c d same h Dropped None | false ↦ tt ]
 parting-alive c d same h (DirectoryHandle delta) = tt
 
 closing-alive : (c : Content) (h : Open Seen) → AreAlive c (closing c h)
@@ -132,9 +132,9 @@ directory-for (DirectoryHandle d) o e = refl
 directory-for NamesHandle o e = refl
 
 module _ (c : Content) (b : Basis c) (conn : ℕ) (mode : Mode) (spec : OpenSpec) where
-  open-new-alive : (d : Content) → Order d → d.next_object ≡ c.next_object → (found : Option LiveObject) → spec.all ≡ false → (spec.server ≡ false → found ≡ None)
+  open-new-alive : (d : Content) → Order d → d.next_object ≡ c.next_object → (found : Option LiveObject) → spec.all ≡ false → (spec.options.server ≡ false → found ≡ None)
       → IsAlive (apply_seen (Creates (new_object c spec)) d) (Opens (new_handle c conn mode spec found))
-  open-new-alive d r number found all only = go spec.server refl
+  open-new-alive d r number found all only = go spec.options.server refl
     where
       H : Open (Unit {0})
       H = new_handle c conn mode spec found
@@ -142,7 +142,7 @@ module _ (c : Content) (b : Basis c) (conn : ℕ) (mode : Mode) (spec : OpenSpec
       N : Object
       N = new_object c spec
 
-      go : (v : Bool) → spec.server ≡ v → is_for H.kind (server_of (apply_seen (Creates N) d) H.target) ≡ true
+      go : (v : Bool) → spec.options.server ≡ v → is_for H.kind (server_of (apply_seen (Creates N) d) H.target) ≡ true
       go true v = (λ i. is_for (kind i) (server_of (apply_seen (Creates N) d) (target i))) ∙ ap (is_for ServerHandle) (last-server d r N (sym number) ∙ ap (λ s. Some (cond s (Some c.next_handle) None)) v)
         where
           kind : H.kind ≡ ServerHandle
@@ -150,16 +150,16 @@ module _ (c : Content) (b : Basis c) (conn : ℕ) (mode : Mode) (spec : OpenSpec
 
           target : H.target ≡ N.number
           target = rw (all, v) refl
-      go false v = (λ i. is_for (kind i) (server_of (apply_seen (Creates N) d) (target i))) ∙ ap (is_for (ObjectHandle spec.delta)) (last-server d r N (sym number) ∙ ap (λ s. Some (cond s (Some c.next_handle) None)) v)
+      go false v = (λ i. is_for (kind i) (server_of (apply_seen (Creates N) d) (target i))) ∙ ap (is_for (ObjectHandle spec.options.delta)) (last-server d r N (sym number) ∙ ap (λ s. Some (cond s (Some c.next_handle) None)) v)
         where
           target : H.target ≡ N.number
           target = rw (only v, all, v) refl
 
-          kind : H.kind ≡ ObjectHandle spec.delta
+          kind : H.kind ≡ ObjectHandle spec.options.delta
           kind = rw (only v, v, all) refl
 
   open-found-alive : spec.all ≡ false → (o : LiveObject) → object_at c spec.names ≡ Some o → AreAlive c (opening c conn mode spec (Some o))
-  open-found-alive all o found = go spec.server refl (is_some o.object.server) refl mode.t
+  open-found-alive all o found = go spec.options.server refl (is_some o.object.server) refl mode.t
     where
       H : Open (Unit {0})
       H = new_handle c conn mode spec (Some o)
@@ -170,17 +170,17 @@ module _ (c : Content) (b : Basis c) (conn : ℕ) (mode : Mode) (spec : OpenSpec
       its : server_of c o.object.number ≡ Some o.object.server
       its = ap (option_map (λ (x : LiveObject). x.object.server)) own
 
-      target : spec.server ≡ false → H.target ≡ o.object.number
+      target : spec.options.server ≡ false → H.target ≡ o.object.number
       target v = rw (all, v) refl
 
-      client : (k : Bool) → spec.server ≡ false → is_some o.object.server ≡ k → H.kind ≡ cond k ClientHandle (ObjectHandle spec.delta)
-      client k v e = rw (v, all) (ap (λ b. cond b ClientHandle (ObjectHandle spec.delta)) e)
+      client : (k : Bool) → spec.options.server ≡ false → is_some o.object.server ≡ k → H.kind ≡ cond k ClientHandle (ObjectHandle spec.options.delta)
+      client k v e = rw (v, all) (ap (λ b. cond b ClientHandle (ObjectHandle spec.options.delta)) e)
 
-      may : (d : Content) → server_of d o.object.number ≡ server_of c o.object.number → spec.server ≡ false → (k : Bool) → is_some o.object.server ≡ k → is_for H.kind (server_of d H.target) ≡ true
+      may : (d : Content) → server_of d o.object.number ≡ server_of c o.object.number → spec.options.server ≡ false → (k : Bool) → is_some o.object.server ≡ k → is_for H.kind (server_of d H.target) ≡ true
       may d same v true e = (λ i. is_for (client true v e i) (server_of d (target v i))) ∙ ap (is_for ClientHandle) (same ∙ its) ∙ e
-      may d same v false e = (λ i. is_for (client false v e i) (server_of d (target v i))) ∙ ap (is_for (ObjectHandle spec.delta)) (same ∙ its) ∙ ap not e
+      may d same v false e = (λ i. is_for (client false v e i) (server_of d (target v i))) ∙ ap (is_for (ObjectHandle spec.options.delta)) (same ∙ its) ∙ ap not e
 
-      go : (v : Bool) → spec.server ≡ v → (k : Bool) → is_some o.object.server ≡ k → (t : Bool)
+      go : (v : Bool) → spec.options.server ≡ v → (k : Bool) → is_some o.object.server ≡ k → (t : Bool)
           → AreAlive c (cond v (AppendsRecord (entry_of o.object Deleted None) ∷ Creates (new_object c spec) ∷ []) (cond k (AppendsRecord (entry_of o.object (Opened c.next_handle) None) ∷ []) (cond t (AppendsRecord (entry_of o.object Truncated None) ∷ []) [])) ++ Opens H ∷ [])
       go true v k e t = (of-found c o Deleted None own, (tt, (open-new-alive (apply_seen (AppendsRecord (entry_of o.object Deleted None)) c) (basis-after (AppendsRecord (entry_of o.object Deleted None) ∷ []) c b (tt, tt)).order refl (Some o) all (λ w. absurd (let no = sym w ∙ v in cc)), tt)))
       go false v true e t = (of-found c o (Opened c.next_handle) None own, (may (apply_seen (AppendsRecord (entry_of o.object (Opened c.next_handle) None)) c) (kept-server c (entry_of o.object (Opened c.next_handle) None) o.object.number refl) v true e, tt))

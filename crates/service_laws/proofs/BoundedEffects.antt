@@ -122,7 +122,7 @@ refit c d same h kind writer = go (object_numbered c h.target)
 parting-fit : (c : Content) (h : Open Seen) (kind : HandleKind) → IsBound c → h.number < 2 ^ 32 → (d : Content) → d.objects ≡ c.objects → AreFit d (parting c h kind)
 parting-fit c h ServerHandle b low d same = refit c d same h Deleted None (target-fit c h Deleted None b (omega arith) (omega arith) (λ o e. shrink Deleted (λ attributes. omega arith) c b o.object.number))
 parting-fit c h ClientHandle b low d same = refit c d same h (Closed h.number) None (target-fit c h (Closed h.number) None b (omega arith) low (λ o e. shrink (Closed h.number) (λ attributes. omega arith) c b o.object.number))
-parting-fit c h (ObjectHandle delta) b low d same = elim (h.critical && h.writes) as (λ k. AreFit d (cond k (on_target c h Dropped None) []))
+parting-fit c h (ObjectHandle delta) b low d same = elim (h.options.critical && h.writes) as (λ k. AreFit d (cond k (on_target c h Dropped None) []))
     [ true ↦ refit c d same h Dropped None (target-fit c h Dropped None b (omega arith) (omega arith) (λ o e. shrink Dropped (λ attributes. kept-length (λ a. not a.n) attributes) c b o.object.number)) | false ↦ tt ]
 parting-fit c h (DirectoryHandle delta) b low d same = tt
 parting-fit c h NamesHandle b low d same = tt

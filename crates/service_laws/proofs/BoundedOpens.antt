@@ -135,10 +135,10 @@ module _ (c : Content) (conn : ℕ) (mode : Mode) (spec : OpenSpec) (b : IsBound
   name-short = elim spec.all as (λ a. length (cond a [] (last_name spec.names)) ≤ 255) [ true ↦ omega arith | false ↦ short ]
 
   listens : (found : Option LiveObject) → is_directory_kind (kind_opened spec found) ≡ true → mode.w ≡ false
-  listens found = go spec.server spec.all mode.w mode.c mode.t (mode.r && mode.w) spec.deltadir (option_map_or (λ o. is_some o.object.server) found false) fits
+  listens found = go spec.options.server spec.all mode.w mode.c mode.t (mode.r && mode.w) spec.options.deltadir (option_map_or (λ o. is_some o.object.server) found false) fits
     where
       go : (server all w x t rw deltadir client : Bool) → (not (all && (w || x || t)) && not (server && not rw)) ≡ true
-          → is_directory_kind (cond server ServerHandle (cond all (cond deltadir NamesHandle (DirectoryHandle spec.delta)) (cond client ClientHandle (ObjectHandle spec.delta)))) ≡ true → w ≡ false
+          → is_directory_kind (cond server ServerHandle (cond all (cond deltadir NamesHandle (DirectoryHandle spec.options.delta)) (cond client ClientHandle (ObjectHandle spec.options.delta)))) ≡ true → w ≡ false
       go true all w x t rw deltadir client f k = absurd (let h = k in cc)
       go false true true x t rw deltadir client f k = absurd (let h = f in cc)
       go false true false x t rw deltadir client f k = refl
@@ -170,7 +170,7 @@ new-room c spec tree placed room = go spec.names placed room
 -- preparing makes no handle
 kept-next : (c : Content) (mode : Mode) (spec : OpenSpec) (found : Option LiveObject) → (apply_all_seen (preparing c mode spec found) c).next_handle ≡ c.next_handle
 kept-next c mode spec None = elim spec.all as (λ a. (apply_all_seen (cond a [] (Creates (new_object c spec) ∷ [])) c).next_handle ≡ c.next_handle) [ true ↦ refl | false ↦ refl ]
-kept-next c mode spec (Some o) = go spec.server (is_some o.object.server) mode.t
+kept-next c mode spec (Some o) = go spec.options.server (is_some o.object.server) mode.t
   where
     go : (a b t : Bool) → (apply_all_seen (cond a (AppendsRecord (entry_of o.object Deleted None) ∷ Creates (new_object c spec) ∷ []) (cond b (AppendsRecord (entry_of o.object (Opened c.next_handle) None) ∷ []) (cond t (AppendsRecord (entry_of o.object Truncated None) ∷ []) []))) c).next_handle ≡ c.next_handle
     go true b t = refl
@@ -185,7 +185,7 @@ prepared-fit c conn mode spec b short fits room found f =
 
 -- an object at the path
 found-prepared : (c : Content) (mode : Mode) (spec : OpenSpec) (o : LiveObject) → IsBound c → HasShortEnd spec.names → c.next_handle < 4294967296 → object_at c spec.names ≡ Some o → AreFit c (preparing c mode spec (Some o))
-found-prepared c mode spec o b short ends e = go spec.server (is_some o.object.server) mode.t
+found-prepared c mode spec o b short ends e = go spec.options.server (is_some o.object.server) mode.t
   where
     there : (d : ℕ) × (parent_number c spec.names ≡ Some d) × (object_in c (last_name spec.names) d ≡ Some o)
     there = object-found c spec.names o e
@@ -212,7 +212,7 @@ none-prepared c mode spec found tree short none placed p = elim spec.all as (λ 
   where
     room : (found : Option Found) → place (at c) spec.names ≡ Ok found → first_refusal (name_checks c mode spec found) ≡ None → crowd c.objects (unwrap_or (parent_number c spec.names) 0) < 256
     room None placed p =
-        let behind = passes-both (Refuse (true && not mode.c) Refusal.NotFound ∷ Refuse false Refusal.IsDirectory ∷ Refuse (spec.server && false) Refusal.Busy ∷ []) (handle_checks c ++ object_checks c spec.names) p in
+        let behind = passes-both (Refuse (true && not mode.c) Refusal.NotFound ∷ Refuse false Refusal.IsDirectory ∷ Refuse (spec.options.server && false) Refusal.Busy ∷ []) (handle_checks c ++ object_checks c spec.names) p in
         new-room c spec tree placed (passes-both (handle_checks c) (object_checks c spec.names) behind.1).1
     room (Some (FoundDirectory number)) placed p = absurd (let h = (all-pass (name_checks c mode spec (Some (FoundDirectory number))) p).1.0 in cc)
     room (Some (FoundObject number)) placed p = absurd (is-none (directory_at c spec.names) (object_at c spec.names) none (place-at (at c) spec.names (Some (FoundObject number)) placed))
@@ -237,7 +237,7 @@ opening-fit c conn mode spec tree b short p = placed (place (at c) spec.names) r
         prepared-fit c conn mode spec b short fits behind None (rw e tt)
     by false e found there pass =
         let none = none-fails (name_checks c mode spec found) pass in
-        let behind = passes-both (Refuse (is_none found && not mode.c) Refusal.NotFound ∷ Refuse (found_as is_directory found) Refusal.IsDirectory ∷ Refuse (spec.server && found_as (is_used c) found) Refusal.Busy ∷ []) (handle_checks c ++ cond (is_none found) (object_checks c spec.names) []) none in
+        let behind = passes-both (Refuse (is_none found && not mode.c) Refusal.NotFound ∷ Refuse (found_as is_directory found) Refusal.IsDirectory ∷ Refuse (spec.options.server && found_as (is_used c) found) Refusal.Busy ∷ []) (handle_checks c ++ cond (is_none found) (object_checks c spec.names) []) none in
         let handles = passes-both (handle_checks c) (cond (is_none found) (object_checks c spec.names) []) behind.1 in
         prepared-fit c conn mode spec b short fits handles.0 (object_at c spec.names) (stands (object_at c spec.names) refl (handles-end c conn mode spec b short fits handles.0) none)
       where

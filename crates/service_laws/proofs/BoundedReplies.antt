@@ -55,10 +55,10 @@ owed-fits wait (b ∷ bs) dead max = elim (nat_le (length b) max) as (λ k. Fits
 
 answer-fits : (h : Open Seen) (s : Seen) (text : List ℕ) (dead : Bool) (max : ℕ) → FitsIn max (answer h s text dead max)
 answer-fits h (News true) text dead max = whole-fits text max
-answer-fits h (News false) text dead max = idle-fits dead h.wait max
+answer-fits h (News false) text dead max = idle-fits dead h.options.wait max
 answer-fits h Unread text dead max = whole-fits text max
 answer-fits h Over text dead max = whole-fits text max
-answer-fits h (Owed rest) text dead max = owed-fits h.wait (map (block h) (filter (visible h) rest)) dead max
+answer-fits h (Owed rest) text dead max = owed-fits h.options.wait (map (block h) (filter (visible h) rest)) dead max
 
 pub read-fits : (c : Content) (h : Open Seen) (max : ℕ) → FitsIn max (read_answer c h max)
 read-fits c h max = answer-fits h h.seen (everything c h) (target_is_dead c h) max
@@ -310,7 +310,7 @@ printed-length name le (Some s) small =
     rw (length-append (print_header s.mark (name ++ s.suffix)) (print_lines s.lines)) (omega (arith, head, joined, le, small.0, small.1, small.2))
 
 block-length : (h : Open Seen) (e : Entry) → IsShort e → length (block h e) < 2 ^ 32
-block-length h e short = printed-length e.name short.0 (shown h.kind h.number h.filter e.record_of.kind) (small-shown h.kind h.number h.filter e.record_of.kind short.1 short.2)
+block-length h e short = printed-length e.name short.0 (shown h.kind h.number h.options.filter e.record_of.kind) (small-shown h.kind h.number h.options.filter e.record_of.kind short.1 short.2)
 
 blocks-length : (h : Open Seen) (es : List Entry) → AllByRecursion IsShort es → AllByRecursion (λ b. length b < 2 ^ 32) (map (block h) es)
 blocks-length h [] all = all
@@ -320,15 +320,15 @@ blocks-length h (e ∷ es) all = (block-length h e all.0, blocks-length h es all
 
 small-answer : (h : Open Seen) (s : Seen) → AreShort s → (text : List ℕ) → length text < 2 ^ 32 → (dead : Bool) (max : ℕ) → IsSmallNeed (answer h s text dead max)
 small-answer h (News true) short text lt dead max = small-whole text max lt
-small-answer h (News false) short text lt dead max = small-idle dead h.wait
+small-answer h (News false) short text lt dead max = small-idle dead h.options.wait
 small-answer h Unread short text lt dead max = small-whole text max lt
 small-answer h Over short text lt dead max = small-whole text max lt
-small-answer h (Owed rest) short text lt dead max = small-owed h.wait (map (block h) (filter (visible h) rest)) dead max (blocks-length h (filter (visible h) rest) (all-filter IsShort (visible h) rest short))
+small-answer h (Owed rest) short text lt dead max = small-owed h.options.wait (map (block h) (filter (visible h) rest)) dead max (blocks-length h (filter (visible h) rest) (all-filter IsShort (visible h) rest short))
 
 pub small-read : (c : Content) (h : Open Seen) (max : ℕ) → IsBound c → IsBoundHandle h → IsSmallNeed (read_answer c h max)
 small-read c h max b bound =
     let small = targets-small c h b bound.name in
-    small-answer h h.seen bound.owed (everything c h) (everything-length h.kind h.filter (is_over h.seen) (not (target_is_dead c h)) (target_members c h) small.0 small.1) (target_is_dead c h) max
+    small-answer h h.seen bound.owed (everything c h) (everything-length h.kind h.options.filter (is_over h.seen) (not (target_is_dead c h)) (target_members c h) small.0 small.1) (target_is_dead c h) max
 
 pub needs-fit : (c : Content) (h : Open Seen) (max need : ℕ) → IsBound c → IsBoundHandle h → read_answer c h max ≡ Needs need → need < 2 ^ 32
 needs-fit c h max need b bound e = rw e at (small-read c h max b bound)

@@ -9,7 +9,8 @@ use Rattle.pps_types.specs.Reading.{is_full_style, is_delta_style, Open, Style, 
 use Rattle.pps_types.specs.Rests.{news_in, Over, Owed, Seen, News, stand, unread, keeps, from_first, seen_with, rest_of, answer}
 use Rattle.pps_types.specs.Owed.{has_news, answer_with}
 use Rattle.pps_types.proofs.Lists.{filter-from_first}
-use Rattle.service_laws.proofs.Offers.{visible-keeps, visible-reads}
+use Rattle.pps_types.proofs.Chains.{visible-keeps}
+use Rattle.service_laws.proofs.Offers.{visible-reads}
 
 module _ {X : Type 0} (test keep : X → Bool) where
   -- a weaker filter before plays no part
@@ -48,12 +49,12 @@ answer-same h H (Some cursor) everything dead max reads =
     (λ i. answer h (stand (style h.kind) (reads i) (nat_lt h.limit (length (rest-owed h (drop cursor H) i))) (rest_of h (drop cursor H))) everything dead max)
     ∙ by (style h.kind) (nat_lt h.limit (length (filter (visible h) (drop cursor H)))) (rest_of h (drop cursor H)) (filter (visible h) (drop cursor H)) (rest-owed h (drop cursor H)) (rest-is_empty h (drop cursor H))
   where
-    by : (s : Style) (o : Bool) (rest debt : List Entry) → filter (visible h) rest ≡ debt → is_empty rest ≡ is_empty debt → answer h (stand s true o rest) everything dead max ≡ cond (is_delta_style s && o || (is_full_style s && not (is_empty debt))) (whole_answer everything max) (owed_answer h.wait (map (block h) debt) dead max)
+    by : (s : Style) (o : Bool) (rest debt : List Entry) → filter (visible h) rest ≡ debt → is_empty rest ≡ is_empty debt → answer h (stand s true o rest) everything dead max ≡ cond (is_delta_style s && o || (is_full_style s && not (is_empty debt))) (whole_answer everything max) (owed_answer h.options.wait (map (block h) debt) dead max)
     by Full o rest [] same empty = ap (λ b. answer h (News (not b)) everything dead max) empty
     by Full o rest (x ∷ xs) same empty = ap (λ b. answer h (News (not b)) everything dead max) empty
     by Delta true rest debt same empty = refl
-    by Delta false rest debt same empty = ap (λ d. owed_answer h.wait (map (block h) d) dead max) same
-    by Queue o rest debt same empty = ap (λ d. owed_answer h.wait (map (block h) d) dead max) same
+    by Delta false rest debt same empty = ap (λ d. owed_answer h.options.wait (map (block h) d) dead max) same
+    by Queue o rest debt same empty = ap (λ d. owed_answer h.options.wait (map (block h) d) dead max) same
 
 pub none-over : (n : ℕ) → nat_lt n 0 ≡ false
 none-over n = grind (arith, nat_tests)

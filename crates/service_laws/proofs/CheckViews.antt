@@ -205,7 +205,7 @@ module _ (conn : ℕ) where
   more-seen c = ap (λ n. Refuse (nat_le 65535 n || nat_lt 4294967295 c.next_handle) TableFull ∷ []) (length-map (masked conn) c.handles)
 
   name-seen : (c : Content) (mode : Mode) (spec : OpenSpec) (f : Option Found) → name_checks (view conn c) mode spec f ≡ name_checks c mode spec f
-  name-seen c mode spec f = λ i. (Refuse (is_none f && not mode.c) NotFound ∷ Refuse (found_as is_directory f) IsDirectory ∷ Refuse (spec.server && found_as-seen c f i) Busy ∷ []) ++ more-seen c i ++ cond (is_none f) (object_checks c spec.names) []
+  name-seen c mode spec f = λ i. (Refuse (is_none f && not mode.c) NotFound ∷ Refuse (found_as is_directory f) IsDirectory ∷ Refuse (spec.options.server && found_as-seen c f i) Busy ∷ []) ++ more-seen c i ++ cond (is_none f) (object_checks c spec.names) []
 
   all-seen : (c : Content) (f : Option Found) → all_checks (view conn c) f ≡ all_checks c f
   all-seen c f = ap (λ xs. Refuse (is_none f) NotFound ∷ Refuse (found_as is_object f) NotDirectory ∷ xs) (more-seen c)

@@ -141,7 +141,7 @@ module _ (conn : ℕ) where
   parting-seen : (c d : Content) → c.objects ≡ d.objects → (h : Open Seen) (k : HandleKind) → parting c h k ≡ parting d (masked conn h) k
   parting-seen c d e h ServerHandle = ap (λ (os : List LiveObject). option_map_or (λ o. AppendsRecord (entry_of o.object Deleted None) ∷ []) (find (λ o. eqb o.object.number h.target) os) []) e
   parting-seen c d e h ClientHandle = ap (λ (os : List LiveObject). option_map_or (λ o. AppendsRecord (entry_of o.object (Closed h.number) None) ∷ []) (find (λ o. eqb o.object.number h.target) os) []) e
-  parting-seen c d e h (ObjectHandle delta) = ap (λ (os : List LiveObject). cond (h.critical && h.writes) (option_map_or (λ o. AppendsRecord (entry_of o.object Dropped None) ∷ []) (find (λ o. eqb o.object.number h.target) os) []) []) e
+  parting-seen c d e h (ObjectHandle delta) = ap (λ (os : List LiveObject). cond (h.options.critical && h.writes) (option_map_or (λ o. AppendsRecord (entry_of o.object Dropped None) ∷ []) (find (λ o. eqb o.object.number h.target) os) []) []) e
   parting-seen c d e h (DirectoryHandle delta) = refl
   parting-seen c d e h NamesHandle = refl
 

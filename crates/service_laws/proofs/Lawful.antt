@@ -81,7 +81,7 @@ parting-plain : (c : Content) (h : Open Seen) (k : HandleKind) → ArePlain (par
 parting-plain c h ServerHandle = on_target-plain c h _ None refl
 parting-plain c h ClientHandle = on_target-plain c h _ None refl
 parting-plain c h NamesHandle = tt
-parting-plain c h (ObjectHandle delta) = plain-cond (h.critical && h.writes) _ [] (on_target-plain c h Dropped None refl) tt
+parting-plain c h (ObjectHandle delta) = plain-cond (h.options.critical && h.writes) _ [] (on_target-plain c h Dropped None refl) tt
 parting-plain c h (DirectoryHandle delta) = tt
 
 closing-plain : (c : Content) (h : Open Seen) → ArePlain (closing c h)
@@ -113,7 +113,7 @@ lawful-cond false xs ys n p q = q
 preparing-lawful : (c : Content) (mode : Mode) (spec : OpenSpec) (found : Option LiveObject) → AreLawful c.next_object (preparing c mode spec found)
 preparing-lawful c mode spec None = lawful-cond spec.all [] (Creates (new_object c spec) ∷ []) c.next_object tt (refl, tt)
 preparing-lawful c mode spec (Some o) =
-    lawful-cond spec.server (AppendsRecord (entry_of o.object Deleted None) ∷ Creates (new_object c spec) ∷ []) _ c.next_object (refl, (refl, tt))
+    lawful-cond spec.options.server (AppendsRecord (entry_of o.object Deleted None) ∷ Creates (new_object c spec) ∷ []) _ c.next_object (refl, (refl, tt))
     (lawful-cond (is_some o.object.server) (AppendsRecord (entry_of o.object (Opened c.next_handle) None) ∷ []) _ c.next_object (refl, tt)
     (lawful-cond mode.t (AppendsRecord (entry_of o.object Truncated None) ∷ []) [] c.next_object (refl, tt) tt))
 

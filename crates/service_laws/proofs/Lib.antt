@@ -20,8 +20,6 @@ pub mod Kept
 pub mod StandsLaw
 pub mod PlainWords
 pub mod BasicLaws
-pub mod FrameEvents
-pub mod FrameStreams
 pub mod ImageStarts
 pub mod TextLaws
 pub mod Views

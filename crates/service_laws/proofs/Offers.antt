@@ -6,22 +6,20 @@ use Rattle.std.proofs.lemmas.List.{drop-append-le, drop-drop}
 use Rattle.std.proofs.lemmas.List.Elements.{filter-append}
 use Rattle.pps_types.specs.Bytes.{is_empty}
 use Rattle.pps_types.specs.History.{Entry}
-use Rattle.pps_types.specs.Reading.{Open, Style, Full, Delta, Queue, style, reseen, visible, concerns, is_chained, is_writer, is_object_kind, shown}
+use Rattle.pps_types.specs.Reading.{Open, Style, Full, Delta, Queue, style, reseen, visible, concerns, is_writer, is_object_kind, shown}
 use Rattle.pps_types.specs.Rests.{Seen, News, Unread, Over, Owed, stand, unread, keeps, from_first, pushed, past, behind, seen_of, seen_with, over_limit, rest_of}
 use Rattle.pps_types.specs.Plan.{offered, offer, left, caught_up, first_seen}
 use Rattle.pps_types.specs.Machine.{IsWithin, shown_handle, passed, passed_with, first_cursor}
+use Rattle.pps_types.proofs.Chains.{visible-keeps}
 use Rattle.pps_types.proofs.Lists.{append-nil, from_first-push, past-from_first, filter-behind}
 
 pub visible-reads : {S : Type 0} (h : Open S) (e : Entry) → visible h e ≡ true → h.reads ≡ true
-visible-reads h e = by (concerns h e) h.reads (not (is_writer h.number e.record_of.writer) || (h.reflect && is_object_kind h.kind)) (is_some (shown h.kind h.number h.filter e.record_of.kind))
+visible-reads h e = by (concerns h e) h.reads (not (is_writer h.number e.record_of.writer) || (h.options.reflect && is_object_kind h.kind)) (is_some (shown h.kind h.number h.options.filter e.record_of.kind))
   where
     by : (a b c d : Bool) → (a && (b && c && d)) ≡ true → b ≡ true
     by a true c d v = refl
     by true false c d v = v
     by false false c d v = v
-
-pub visible-keeps : {S : Type 0} (h : Open S) (e : Entry) → visible h e ≡ true → keeps h e ≡ true
-visible-keeps h e v = ap (λ b. b || (concerns h e && is_chained h.kind e.record_of.kind)) v
 
 -- the rest after one more record
 abbrev pub grown : {S : Type 0} → Open S → Entry → List Entry → List Entry

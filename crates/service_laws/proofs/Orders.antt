@@ -149,7 +149,7 @@ parting-not : (c : Content) (h : Open Seen) (k : HandleKind) → AllByRecursion 
 parting-not c h ServerHandle = on_target-not c h _ None
 parting-not c h ClientHandle = on_target-not c h _ None
 parting-not c h NamesHandle = tt
-parting-not c h (ObjectHandle delta) = all-cond NotOpens (h.critical && h.writes) _ [] (on_target-not c h Dropped None) tt
+parting-not c h (ObjectHandle delta) = all-cond NotOpens (h.options.critical && h.writes) _ [] (on_target-not c h Dropped None) tt
 parting-not c h (DirectoryHandle delta) = tt
 
 closing-not : (c : Content) (h : Open Seen) → AllByRecursion NotOpens (closing c h)
@@ -164,7 +164,7 @@ writing-not c h text = all-cond NotOpens (is_empty text.lines) [] _ tt (on_targe
 
 pub preparing-not : (c : Content) (mode : Mode) (spec : OpenSpec) (found : Option LiveObject) → AllByRecursion NotOpens (preparing c mode spec found)
 preparing-not c mode spec None = all-cond NotOpens spec.all [] _ tt (tt, tt)
-preparing-not c mode spec (Some o) = all-cond NotOpens spec.server _ _ (tt, (tt, tt)) (all-cond NotOpens (is_some o.object.server) _ _ (tt, tt) (all-cond NotOpens mode.t _ [] (tt, tt) tt))
+preparing-not c mode spec (Some o) = all-cond NotOpens spec.options.server _ _ (tt, (tt, tt)) (all-cond NotOpens (is_some o.object.server) _ _ (tt, tt) (all-cond NotOpens mode.t _ [] (tt, tt) tt))
 
 read_effect-not : (h : Open Seen) (size : ℕ) (a : Answer) → AllByRecursion NotOpens (read_effect h size a).1
 read_effect-not h size (Everything text) = (tt, tt)

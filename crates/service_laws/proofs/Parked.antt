@@ -48,15 +48,15 @@ owed-given : (b : Bool) (given : ℕ × List ℕ) (n : ℕ) → cond b (blocks_a
 owed-given true given n e = cc
 owed-given false given n e = cc
 
-waits-idle : (h : Open Seen) (s : Seen) (text : List ℕ) (dead : Bool) (max : ℕ) → HasFirst h s → answer h s text dead max ≡ Waits → (h.wait ≡ true) × (news_in h.reads s ≡ false)
+waits-idle : (h : Open Seen) (s : Seen) (text : List ℕ) (dead : Bool) (max : ℕ) → HasFirst h s → answer h s text dead max ≡ Waits → (h.options.wait ≡ true) × (news_in h.reads s ≡ false)
 waits-idle h (News true) text dead max first e = absurd (whole-given (nat_le (length text) max) text e)
-waits-idle h (News false) text dead max first e = (idle-waits dead h.wait e, refl)
+waits-idle h (News false) text dead max first e = (idle-waits dead h.options.wait e, refl)
 waits-idle h Unread text dead max first e = absurd (whole-given (nat_le (length text) max) text e)
 waits-idle h Over text dead max first e = absurd (whole-given (nat_le (length text) max) text e)
-waits-idle h (Owed []) text dead max first e = (idle-waits dead h.wait e, refl)
+waits-idle h (Owed []) text dead max first e = (idle-waits dead h.options.wait e, refl)
 waits-idle h (Owed (x ∷ xs)) text dead max first e =
     absurd (owed-given (nat_le (length (block h x)) max) (fitting max (map (block h) (x ∷ filter (visible h) xs))) (length (block h x))
-    (sym (ap (λ b. owed_answer h.wait (map (block h) (cond b (x ∷ filter (visible h) xs) (filter (visible h) xs))) dead max) first) ∙ e))
+    (sym (ap (λ b. owed_answer h.options.wait (map (block h) (cond b (x ∷ filter (visible h) xs) (filter (visible h) xs))) dead max) first) ∙ e))
 
 abbrev IsGiven : Answer → Type 0
 IsGiven (Everything text) = Unit {0}
@@ -81,7 +81,7 @@ given-news h Unread text dead max first e = given-whole (nat_le (length text) ma
 given-news h Over text dead max first e = given-whole (nat_le (length text) max) text
 given-news h (Owed []) text dead max first e = absurd (let no = e in cc)
 given-news h (Owed (x ∷ xs)) text dead max first e =
-    subst (λ b. IsGiven (owed_answer h.wait (map (block h) (cond b (x ∷ filter (visible h) xs) (filter (visible h) xs))) dead max)) (sym first)
+    subst (λ b. IsGiven (owed_answer h.options.wait (map (block h) (cond b (x ∷ filter (visible h) xs) (filter (visible h) xs))) dead max)) (sym first)
     (given-owed (nat_le (length (block h x)) max) (fitting max (map (block h) (x ∷ filter (visible h) xs))) (length (block h x)))
 
 -- ---- the handle of a number
@@ -98,7 +98,7 @@ all-numbered P Q n f other own low high (h ∷ hs) r all = go (eqb h.number n) r
 -- ---- an event parks only where there was no news
 
 abbrev Still : Content → Open Seen → Type 0
-Still c g = is_some g.parked ≡ true → (g.wait ≡ true) × (had_news c g ≡ false)
+Still c g = is_some g.parked ≡ true → (g.options.wait ≡ true) × (had_news c g ≡ false)
 
 abbrev AreStill : Content → Content → Type 0
 AreStill c d = AllByRecursion (Still c) d.handles
@@ -139,7 +139,7 @@ parting-none : (c : Content) (h : Open Seen) (k : HandleKind) → ParkNone (part
 parting-none c h ServerHandle = on_target-none c h _ None
 parting-none c h ClientHandle = on_target-none c h _ None
 parting-none c h NamesHandle = tt
-parting-none c h (ObjectHandle delta) = all-cond ParksNone (h.critical && h.writes) _ [] (on_target-none c h Dropped None) tt
+parting-none c h (ObjectHandle delta) = all-cond ParksNone (h.options.critical && h.writes) _ [] (on_target-none c h Dropped None) tt
 parting-none c h (DirectoryHandle delta) = tt
 
 closing-none : (c : Content) (h : Open Seen) → ParkNone (closing c h)
@@ -154,7 +154,7 @@ writing-none c h text = all-cond ParksNone (is_empty text.lines) [] _ tt (on_tar
 
 preparing-none : (c : Content) (mode : Mode) (spec : OpenSpec) (found : Option LiveObject) → ParkNone (preparing c mode spec found)
 preparing-none c mode spec None = all-cond ParksNone spec.all [] _ tt (tt, tt)
-preparing-none c mode spec (Some o) = all-cond ParksNone spec.server _ _ (tt, (tt, tt)) (all-cond ParksNone (is_some o.object.server) _ _ (tt, tt) (all-cond ParksNone mode.t _ [] (tt, tt) tt))
+preparing-none c mode spec (Some o) = all-cond ParksNone spec.options.server _ _ (tt, (tt, tt)) (all-cond ParksNone (is_some o.object.server) _ _ (tt, tt) (all-cond ParksNone mode.t _ [] (tt, tt) tt))
 
 none-outcome : {X : Type 0} (f : X → Outcome × List Move) → ((x : X) → ParkNone (f x).1) → (o : Option X) → ParkNone (option_map_or f o (Done, [])).1
 none-outcome f p None = tt
@@ -189,7 +189,7 @@ read-still c conn handle size b s = go (own_handle c conn handle) refl
         let own : handle_numbered c h.number ≡ Some h = all-find (λ (g : Open Seen). handle_numbered c g.number ≡ Some g) (λ g. eqb g.number handle && eqb g.connection conn) c.handles h (found-each (λ (g : Open Seen). g.number) 0 c.next_handle c.handles b.order.0) e in
         all-numbered (λ g. (g.number ≡ h.number → g ≡ h) × Still c g) (Still c) h.number (λ g. record g { parked = Some size }) (λ g other q. q.1)
         (λ g same q parked. let is : g ≡ h = q.0 (eqb-true g.number h.number same) in
-        (ap (λ (g : Open Seen). g.wait) is ∙ idle.0, ap (λ (g : Open Seen). had_news c g) is ∙ ap (λ f. option_map_or news f false) own ∙ idle.1))
+        (ap (λ (g : Open Seen). g.options.wait) is ∙ idle.0, ap (λ (g : Open Seen). had_news c g) is ∙ ap (λ f. option_map_or news f false) own ∙ idle.1))
         0 c.next_handle c.handles b.order.0
         (all-both _ _ c.handles (only-one (λ (g : Open Seen). g.number) (λ g. eqb g.number handle && eqb g.connection conn) 0 c.next_handle c.handles b.order.0 h e) s)
 
@@ -218,7 +218,7 @@ IsLeft hs g = is_some (find (λ (h : Open Seen). eqb h.number g.number) hs) ≡ 
 
 -- it waits, and if it has news it is still to be settled
 abbrev Rests : List (Open Seen) → Open Seen → Type 0
-Rests hs g = is_some g.parked ≡ true → (g.wait ≡ true) × (news g ≡ true → IsLeft hs g)
+Rests hs g = is_some g.parked ≡ true → (g.options.wait ≡ true) × (news g ≡ true → IsLeft hs g)
 
 -- the same, but for the handle h that is being settled
 abbrev RestsBut : Open Seen → List (Open Seen) → Open Seen → Type 0
@@ -311,7 +311,7 @@ module _ (c d : Content) (h : Open Seen) (hs : List (Open Seen)) where
           reply : (p : Option ℕ) → h.parked ≡ p → AreRising 0 (map (λ (g : Open Seen). g.number) z.handles) z.next_handle → AllByRecursion (RestsBut h hs) z.handles → AllByRecursion (Rests hs) (apply_all_seen (option_map_or (λ size. late_reply h (read_answer d h size)) p []) z).handles
           reply None e r2 all2 = all-imp (RestsBut h hs) (Rests hs) (λ g q parked. by g q (eqb g.number h.number) refl parked) z.handles all2
             where
-              by : (g : Open Seen) → RestsBut h hs g → (b : Bool) → eqb g.number h.number ≡ b → is_some g.parked ≡ true → (g.wait ≡ true) × (news g ≡ true → IsLeft hs g)
+              by : (g : Open Seen) → RestsBut h hs g → (b : Bool) → eqb g.number h.number ≡ b → is_some g.parked ≡ true → (g.options.wait ≡ true) × (news g ≡ true → IsLeft hs g)
               by g q false other parked = q.1 other parked
               by g q true own parked = absurd (let none : is_some g.parked ≡ false = ap is_some (q.0 own ∙ e) in let bad : false ≡ true = sym none ∙ parked in cc)
           reply (Some size) e r2 all2 = replied (read_answer d h size) (given-news h h.seen (everything d h) (target_is_dead d h) size first now) z r2 all2
@@ -383,7 +383,7 @@ settled-all c d (h ∷ hs) low high y b r all found ready =
 -- ---- each step
 
 abbrev pub IsIdle : Open Seen → Type 0
-IsIdle h = is_some h.parked ≡ true → (h.wait ≡ true) × (news h ≡ false)
+IsIdle h = is_some h.parked ≡ true → (h.options.wait ≡ true) × (news h ≡ false)
 
 abbrev pub AreIdle : Content → Type 0
 AreIdle c = AllByRecursion IsIdle c.handles

@@ -168,7 +168,7 @@ parting-safe : (c : Content) (h : Open Seen) (k : HandleKind) → AreSafe (parti
 parting-safe c h ServerHandle = on_target-safe c h _ None
 parting-safe c h ClientHandle = on_target-safe c h _ None
 parting-safe c h NamesHandle = tt
-parting-safe c h (ObjectHandle delta) = all-cond IsSafe (h.critical && h.writes) _ [] (on_target-safe c h Dropped None) tt
+parting-safe c h (ObjectHandle delta) = all-cond IsSafe (h.options.critical && h.writes) _ [] (on_target-safe c h Dropped None) tt
 parting-safe c h (DirectoryHandle delta) = tt
 
 pub closing-safe : (c : Content) (h : Open Seen) → AreSafe (closing c h)
@@ -320,9 +320,9 @@ placed-new c d spec same free = record {
     by (Some d) e = refl
 
 object-kind : (spec : OpenSpec) (found : Option LiveObject) → spec.all ≡ false → is_directory_kind (kind_opened spec found) ≡ false
-object-kind spec found all = rw all (go spec.server (option_map_or (λ o. is_some o.object.server) found false))
+object-kind spec found all = rw all (go spec.options.server (option_map_or (λ o. is_some o.object.server) found false))
   where
-    go : (server client : Bool) → is_directory_kind (cond server ServerHandle (cond client ClientHandle (ObjectHandle spec.delta))) ≡ false
+    go : (server client : Bool) → is_directory_kind (cond server ServerHandle (cond client ClientHandle (ObjectHandle spec.options.delta))) ≡ false
     go true client = refl
     go false true = refl
     go false false = refl
@@ -331,10 +331,10 @@ object-target : (d : Content) (t : ℕ) (kind : HandleKind) → is_directory_kin
 object-target d t kind e lt = subst (IsTarget d t) (sym e) lt
 
 pub all-kind : (mode : Mode) (spec : OpenSpec) → spec.all ≡ true → mode_fits mode spec ≡ true → is_directory_kind (kind_opened spec None) ≡ true
-all-kind mode spec all fits = rw (no-server, all) (by spec.deltadir)
+all-kind mode spec all fits = rw (no-server, all) (by spec.options.deltadir)
   where
-    no-server : spec.server ≡ false
-    no-server = go spec.server mode.w mode.c mode.t mode.r (subst (λ a. (not (a && (mode.w || mode.c || mode.t)) && not (spec.server && not (mode.r && mode.w))) ≡ true) all fits)
+    no-server : spec.options.server ≡ false
+    no-server = go spec.options.server mode.w mode.c mode.t mode.r (subst (λ a. (not (a && (mode.w || mode.c || mode.t)) && not (spec.options.server && not (mode.r && mode.w))) ≡ true) all fits)
       where
         go : (server w x t r : Bool) → (not (true && (w || x || t)) && not (server && not (r && w))) ≡ true → server ≡ false
         go false w x t r e = refl
@@ -344,7 +344,7 @@ all-kind mode spec all fits = rw (no-server, all) (by spec.deltadir)
         go true false false false true e = absurd (let h = e in cc)
         go true false false false false e = absurd (let h = e in cc)
 
-    by : (b : Bool) → is_directory_kind (cond b NamesHandle (DirectoryHandle spec.delta)) ≡ true
+    by : (b : Bool) → is_directory_kind (cond b NamesHandle (DirectoryHandle spec.options.delta)) ≡ true
     by true = refl
     by false = refl
 
@@ -352,7 +352,7 @@ module _ (c : Content) (b : Basis c) (conn : ℕ) (attached : is_attached c conn
   -- nothing is there
   open-new : spec.all ≡ false → IsFree c spec.names → AreFit c (opening c conn mode spec None)
   open-new all free = subst (λ a. AreFit c (cond a [] (Creates (new_object c spec) ∷ []) ++ Opens (new_handle c conn mode spec None) ∷ [])) (sym all)
-      ((refl, placed-new c c spec refl free), ((refl, attached, object-target after (target_of c spec None) (kind_opened spec None) (object-kind spec None all) (rw all (target spec.server))), tt))
+      ((refl, placed-new c c spec refl free), ((refl, attached, object-target after (target_of c spec None) (kind_opened spec None) (object-kind spec None all) (rw all (target spec.options.server))), tt))
     where
       after : Content
       after = apply_seen (Creates (new_object c spec)) c
@@ -363,7 +363,7 @@ module _ (c : Content) (b : Basis c) (conn : ℕ) (attached : is_attached c conn
 
   -- an object is there
   open-found : spec.all ≡ false → directory_at c spec.names ≡ None → is_some (directory_at c (parent spec.names)) ≡ true → (o : LiveObject) → object_at c spec.names ≡ Some o → AreFit c (opening c conn mode spec (Some o))
-  open-found all none above o found = go spec.server refl (is_some o.object.server) mode.t
+  open-found all none above o found = go spec.options.server refl (is_some o.object.server) mode.t
     where
       H : Open (Unit {0})
       H = new_handle c conn mode spec (Some o)
@@ -376,16 +376,16 @@ module _ (c : Content) (b : Basis c) (conn : ℕ) (attached : is_attached c conn
           let f = object-found c spec.names o found in
           all-find (λ (x : LiveObject). x.object.number < c.next_object) (of_name (last_name spec.names) f.0) c.objects o (rising-below (λ (x : LiveObject). x.object.number) 0 c.next_object c.objects b.order.1) f.2
 
-      new : spec.server ≡ true → H.target ≡ c.next_object
+      new : spec.options.server ≡ true → H.target ≡ c.next_object
       new s = rw (all, s) refl
 
-      old : spec.server ≡ false → H.target ≡ o.object.number
+      old : spec.options.server ≡ false → H.target ≡ o.object.number
       old s = rw (all, s) refl
 
       free : IsFree (apply_seen (AppendsRecord (entry_of o.object Deleted None)) c) spec.names
       free = record { directory = none; object = deleted-at c b.tree spec.names o found; above = above }
 
-      go : (s : Bool) → spec.server ≡ s → (k t : Bool) → AreFit c (cond s (AppendsRecord (entry_of o.object Deleted None) ∷ Creates (new_object c spec) ∷ []) (cond k (AppendsRecord (entry_of o.object (Opened c.next_handle) None) ∷ []) (cond t (AppendsRecord (entry_of o.object Truncated None) ∷ []) [])) ++ Opens H ∷ [])
+      go : (s : Bool) → spec.options.server ≡ s → (k t : Bool) → AreFit c (cond s (AppendsRecord (entry_of o.object Deleted None) ∷ Creates (new_object c spec) ∷ []) (cond k (AppendsRecord (entry_of o.object (Opened c.next_handle) None) ∷ []) (cond t (AppendsRecord (entry_of o.object Truncated None) ∷ []) [])) ++ Opens H ∷ [])
       go true s k t = (tt, ((refl, placed-new c (apply_seen (AppendsRecord (entry_of o.object Deleted None)) c) spec refl free), ((refl, attached, object-target (apply_seen (Creates (new_object c spec)) c) H.target H.kind plain (rw (new s) (omega arith))), tt)))
       go false s true t = (tt, ((refl, attached, object-target c H.target H.kind plain (rw (old s) below)), tt))
       go false s false true = (tt, ((refl, attached, object-target c H.target H.kind plain (rw (old s) below)), tt))
@@ -421,8 +421,8 @@ module _ (c : Content) (b : Basis c) (conn : ℕ) (attached : is_attached c conn
         where
           no-directory : directory_at c spec.names ≡ None
           no-directory =
-              let first = passes-both (Refuse (is_none found && not mode.c) Refusal.NotFound ∷ Refuse (found_as is_directory found) Refusal.IsDirectory ∷ Refuse (spec.server && found_as (is_used c) found) Refusal.Busy ∷ []) (handle_checks c ++ cond (is_none found) (object_checks c spec.names) []) q in
-              let pass = all-pass (Refuse (is_none found && not mode.c) Refusal.NotFound ∷ Refuse (found_as is_directory found) Refusal.IsDirectory ∷ Refuse (spec.server && found_as (is_used c) found) Refusal.Busy ∷ []) first.0 in
+              let first = passes-both (Refuse (is_none found && not mode.c) Refusal.NotFound ∷ Refuse (found_as is_directory found) Refusal.IsDirectory ∷ Refuse (spec.options.server && found_as (is_used c) found) Refusal.Busy ∷ []) (handle_checks c ++ cond (is_none found) (object_checks c spec.names) []) q in
+              let pass = all-pass (Refuse (is_none found && not mode.c) Refusal.NotFound ∷ Refuse (found_as is_directory found) Refusal.IsDirectory ∷ Refuse (spec.options.server && found_as (is_used c) found) Refusal.Busy ∷ []) first.0 in
               not-directory c spec.names (ap (found_as is_directory) (place-at (at c) spec.names found e) ∙ pass.1.0)
 
           above : is_some (directory_at c (parent spec.names)) ≡ true
@@ -465,7 +465,7 @@ module _ (conn : ℕ) where
   loose-parting c h ServerHandle = loose-target c h _ None
   loose-parting c h ClientHandle = loose-target c h _ None
   loose-parting c h NamesHandle = tt
-  loose-parting c h (ObjectHandle delta) = all-cond IsLoose (h.critical && h.writes) _ [] (loose-target c h Dropped None) tt
+  loose-parting c h (ObjectHandle delta) = all-cond IsLoose (h.options.critical && h.writes) _ [] (loose-target c h Dropped None) tt
   loose-parting c h (DirectoryHandle delta) = tt
 
   left-closes : (h : Open Seen) (hs : List (Open Seen)) (c : Content) → Order c → AreLeft (h ∷ hs) c → AreLeft hs (apply_seen (Closes h.number) c)

@@ -118,13 +118,13 @@ dead-same m h = ap (λ o. not (is_directory_kind h.kind) && is_none o) (object_n
 members-same : (m : Machine) (h : Open (Option ℕ)) → target_members (content_of m) (shown_handle m.history h) ≡ members_of_target m h
 members-same m h = λ i. cond (is_directory_kind h.kind) (map member (members-shown m h.target i)) (record { name = h.name; lines = map line_of (option_map_or (λ o. o.attributes) (object_numbered-shown m h.target i) []) } ∷ [])
 
-everything-same : (m : Machine) (h : Open (Option ℕ)) → everything (content_of m) (shown_handle m.history h) ≡ everything_of h.kind h.filter (is_past_limit h (owed h m.history h.seen)) (not (is_dead m h)) (members_of_target m h)
-everything-same m h = λ i. everything_of h.kind h.filter (over-same h m.history h.seen i) (not (dead-same m h i)) (members-same m h i)
+everything-same : (m : Machine) (h : Open (Option ℕ)) → everything (content_of m) (shown_handle m.history h) ≡ everything_of h.kind h.options.filter (is_past_limit h (owed h m.history h.seen)) (not (is_dead m h)) (members_of_target m h)
+everything-same m h = λ i. everything_of h.kind h.options.filter (over-same h m.history h.seen i) (not (dead-same m h i)) (members-same m h i)
 
 pub answer-shown : (m : Machine) (h : Open (Option ℕ)) (max : ℕ) → h.reads ≡ true → read_answer (content_of m) (shown_handle m.history h) max ≡ answer_of m h max
 answer-shown m h max reads =
     (λ i. answer (shown_handle m.history h) (seen_with h m.history h.seen) (everything-same m h i) (dead-same m h i) max)
-    ∙ answer-same (shown_handle m.history h) m.history h.seen (everything_of h.kind h.filter (is_past_limit h (owed h m.history h.seen)) (not (is_dead m h)) (members_of_target m h)) (is_dead m h) max reads
+    ∙ answer-same (shown_handle m.history h) m.history h.seen (everything_of h.kind h.options.filter (is_past_limit h (owed h m.history h.seen)) (not (is_dead m h)) (members_of_target m h)) (is_dead m h) max reads
 
 -- ---- how much a handle is owed
 

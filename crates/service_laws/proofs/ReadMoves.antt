@@ -48,10 +48,10 @@ pub blocks-owed : {S : Type 0} (h : Open S) (H : List Entry) (cursor : Option �
     → (is_none cursor ≡ false) × (is_full_style (style h.kind) ≡ false) × (is_past_limit h (owed h H cursor) ≡ false)
 blocks-owed h H cursor everything dead max n bytes e = by (is_none cursor) (is_past_limit h (owed h H cursor)) (is_full_style (style h.kind)) (owed h H cursor) e
   where
-    by : (none past full : Bool) (debt : List Entry) → cond (none || past || (full && not (is_empty debt))) (whole_answer everything max) (owed_answer h.wait (map (block h) debt) dead max) ≡ Blocks n bytes → (none ≡ false) × (full ≡ false) × (past ≡ false)
+    by : (none past full : Bool) (debt : List Entry) → cond (none || past || (full && not (is_empty debt))) (whole_answer everything max) (owed_answer h.options.wait (map (block h) debt) dead max) ≡ Blocks n bytes → (none ≡ false) × (full ≡ false) × (past ≡ false)
     by true past full debt e = absurd (not-whole everything max n bytes e)
     by false true full debt e = absurd (not-whole everything max n bytes e)
-    by false false true [] e = absurd (not-idle dead h.wait n bytes e)
+    by false false true [] e = absurd (not-idle dead h.options.wait n bytes e)
     by false false true (x ∷ xs) e = absurd (not-whole everything max n bytes e)
     by false false false debt e = (refl, refl, refl)
 

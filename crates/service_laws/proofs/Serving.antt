@@ -252,7 +252,7 @@ closing-by c h r s i ClientHandle e q keeps parts = calm-after (on_target c h (C
 closing-by c h r s i NamesHandle e q keeps parts = keeps _ (closed-plain c h i (ap is_server e) s)
 closing-by c h r s i (DirectoryHandle delta) e q keeps parts = keeps _ (closed-plain c h i (ap is_server e) s)
 closing-by c h r s i (ObjectHandle delta) e q keeps parts =
-    calm-after (cond (h.critical && h.writes) (on_target c h Dropped None) []) (all-cond IsCalm (h.critical && h.writes) (on_target c h Dropped None) [] (calm-target c h Dropped None refl) tt) _ (keeps _ (closed-plain c h i (ap is_server e) s))
+    calm-after (cond (h.options.critical && h.writes) (on_target c h Dropped None) []) (all-cond IsCalm (h.options.critical && h.writes) (on_target c h Dropped None) [] (calm-target c h Dropped None refl) tt) _ (keeps _ (closed-plain c h i (ap is_server e) s))
 
 closing-served : (c : Content) (h : Open Seen) → Order c → Served c → IsIn c h → Served (apply_all_seen (closing c h) c)
 closing-served c h r s i = go (is_some h.parked)
@@ -290,7 +290,7 @@ loose-parting : (c : Content) (h : Open Seen) (k : HandleKind) → AllByRecursio
 loose-parting c h ServerHandle = loose-target c h _ None
 loose-parting c h ClientHandle = loose-target c h _ None
 loose-parting c h NamesHandle = tt
-loose-parting c h (ObjectHandle delta) = all-cond IsLoose (h.critical && h.writes) _ [] (loose-target c h Dropped None) tt
+loose-parting c h (ObjectHandle delta) = all-cond IsLoose (h.options.critical && h.writes) _ [] (loose-target c h Dropped None) tt
 loose-parting c h (DirectoryHandle delta) = tt
 
 closing-in : (c : Content) (h g : Open Seen) → h.number < g.number → IsIn c g → IsIn (apply_all_seen (closing c h) c) g
@@ -422,9 +422,9 @@ unused c t e = all-imp (λ (h : Open Seen). (not (is_directory_kind h.kind) && e
     by h (DirectoryHandle k) b f d g q = refl
 
 module _ (c : Content) (b : Basis c) (s : Served c) (conn : ℕ) (mode : Mode) (spec : OpenSpec) where
-  open-new-served : (d : Content) → Basis d → Served d → d.next_handle ≡ c.next_handle → d.next_object ≡ c.next_object → (found : Option LiveObject) → spec.all ≡ false → (spec.server ≡ false → found ≡ None)
+  open-new-served : (d : Content) → Basis d → Served d → d.next_handle ≡ c.next_handle → d.next_object ≡ c.next_object → (found : Option LiveObject) → spec.all ≡ false → (spec.options.server ≡ false → found ≡ None)
       → Served (apply_seen (Opens (new_handle c conn mode spec found)) (apply_seen (Creates (new_object c spec)) d))
-  open-new-served d db ds next number found all only = go spec.server refl
+  open-new-served d db ds next number found all only = go spec.options.server refl
     where
       H : Open (Unit {0})
       H = new_handle c conn mode spec found
@@ -432,22 +432,22 @@ module _ (c : Content) (b : Basis c) (s : Served c) (conn : ℕ) (mode : Mode) (
       N : Object
       N = new_object c spec
 
-      go : (v : Bool) → spec.server ≡ v → Served (apply_seen (Opens H) (apply_seen (Creates N) d))
+      go : (v : Bool) → spec.options.server ≡ v → Served (apply_seen (Opens H) (apply_seen (Creates N) d))
       go true v = served-server d db.order db.held ds N H (sym number) (ap (λ s. cond s (Some c.next_handle) None) v ∙ ap Some (sym next)) (sym next) (rw v refl) (rw (all, v) refl)
       go false v = served-opened (apply_seen (Creates N) d) H may (served-created d N (sym number) (ap (λ s. cond s (Some c.next_handle) None) v) db.held ds)
         where
           target : H.target ≡ N.number
           target = rw (only v, all, v) refl
 
-          kind : H.kind ≡ ObjectHandle spec.delta
+          kind : H.kind ≡ ObjectHandle spec.options.delta
           kind = rw (only v, v, all) refl
 
           may : may_be_on H.kind H.number (server_of (apply_seen (Creates N) d) H.target) ≡ true
-          may = (λ i. may_be_on (kind i) H.number (server_of (apply_seen (Creates N) d) (target i))) ∙ ap (may_be_on (ObjectHandle spec.delta) H.number) (last-server d db.order N (sym number) ∙ ap Some (ap (λ s. cond s (Some c.next_handle) None) v))
+          may = (λ i. may_be_on (kind i) H.number (server_of (apply_seen (Creates N) d) (target i))) ∙ ap (may_be_on (ObjectHandle spec.options.delta) H.number) (last-server d db.order N (sym number) ∙ ap Some (ap (λ s. cond s (Some c.next_handle) None) v))
 
   -- an object is there
-  open-found-served : spec.all ≡ false → (o : LiveObject) → object_at c spec.names ≡ Some o → (spec.server ≡ true → Unserved c o.object.number) → Served (apply_all_seen (opening c conn mode spec (Some o)) c)
-  open-found-served all o found unserved = go spec.server refl (is_some o.object.server) refl mode.t
+  open-found-served : spec.all ≡ false → (o : LiveObject) → object_at c spec.names ≡ Some o → (spec.options.server ≡ true → Unserved c o.object.number) → Served (apply_all_seen (opening c conn mode spec (Some o)) c)
+  open-found-served all o found unserved = go spec.options.server refl (is_some o.object.server) refl mode.t
     where
       H : Open (Unit {0})
       H = new_handle c conn mode spec (Some o)
@@ -458,17 +458,17 @@ module _ (c : Content) (b : Basis c) (s : Served c) (conn : ℕ) (mode : Mode) (
       gone : Content
       gone = apply_seen (AppendsRecord (entry_of o.object Deleted None)) c
 
-      target : spec.server ≡ false → H.target ≡ o.object.number
+      target : spec.options.server ≡ false → H.target ≡ o.object.number
       target v = rw (all, v) refl
 
-      client : (k : Bool) → spec.server ≡ false → is_some o.object.server ≡ k → H.kind ≡ cond k ClientHandle (ObjectHandle spec.delta)
-      client k v e = rw (v, all) (ap (λ b. cond b ClientHandle (ObjectHandle spec.delta)) e)
+      client : (k : Bool) → spec.options.server ≡ false → is_some o.object.server ≡ k → H.kind ≡ cond k ClientHandle (ObjectHandle spec.options.delta)
+      client k v e = rw (v, all) (ap (λ b. cond b ClientHandle (ObjectHandle spec.options.delta)) e)
 
-      may : (d : Content) → server_of d o.object.number ≡ server_of c o.object.number → spec.server ≡ false → (k : Bool) → is_some o.object.server ≡ k → may_be_on H.kind H.number (server_of d H.target) ≡ true
+      may : (d : Content) → server_of d o.object.number ≡ server_of c o.object.number → spec.options.server ≡ false → (k : Bool) → is_some o.object.server ≡ k → may_be_on H.kind H.number (server_of d H.target) ≡ true
       may d same v true e = (λ i. may_be_on (client true v e i) H.number (server_of d (target v i))) ∙ ap (may_be_on ClientHandle H.number) (same ∙ its) ∙ e
-      may d same v false e = (λ i. may_be_on (client false v e i) H.number (server_of d (target v i))) ∙ ap (may_be_on (ObjectHandle spec.delta) H.number) (same ∙ its) ∙ ap not e
+      may d same v false e = (λ i. may_be_on (client false v e i) H.number (server_of d (target v i))) ∙ ap (may_be_on (ObjectHandle spec.options.delta) H.number) (same ∙ its) ∙ ap not e
 
-      go : (v : Bool) → spec.server ≡ v → (k : Bool) → is_some o.object.server ≡ k → (t : Bool)
+      go : (v : Bool) → spec.options.server ≡ v → (k : Bool) → is_some o.object.server ≡ k → (t : Bool)
           → Served (apply_all_seen (cond v (AppendsRecord (entry_of o.object Deleted None) ∷ Creates (new_object c spec) ∷ []) (cond k (AppendsRecord (entry_of o.object (Opened c.next_handle) None) ∷ []) (cond t (AppendsRecord (entry_of o.object Truncated None) ∷ []) [])) ++ Opens H ∷ []) c)
       go true v k e t = open-new-served gone (basis-after (AppendsRecord (entry_of o.object Deleted None) ∷ []) c b (tt, tt)) (deleted-served c o s (unserved v)) refl refl (Some o) all (λ w. absurd (let no = sym w ∙ v in cc))
       go false v true e t = served-opened (apply_seen (AppendsRecord (entry_of o.object (Opened c.next_handle) None)) c) H (may (apply_seen (AppendsRecord (entry_of o.object (Opened c.next_handle) None)) c) (kept-server c (entry_of o.object (Opened c.next_handle) None) o.object.number refl) v true e) (served-stays c (entry_of o.object (Opened c.next_handle) None) refl s)
@@ -491,13 +491,13 @@ module _ (c : Content) (b : Basis c) (s : Served c) (conn : ℕ) (mode : Mode) (
       by-name : spec.all ≡ false → (found : Option Found) → place (at c) spec.names ≡ Ok found → first_refusal (name_checks c mode spec found) ≡ None → Served (apply_all_seen (opening c conn mode spec (object_at c spec.names)) c)
       by-name all found e q = go (object_at c spec.names) refl
         where
-          first : (first_refusal (Refuse (is_none found && not mode.c) Refusal.NotFound ∷ Refuse (found_as is_directory found) Refusal.IsDirectory ∷ Refuse (spec.server && found_as (is_used c) found) Refusal.Busy ∷ []) ≡ None) × (first_refusal (handle_checks c ++ cond (is_none found) (object_checks c spec.names) []) ≡ None)
-          first = passes-both (Refuse (is_none found && not mode.c) Refusal.NotFound ∷ Refuse (found_as is_directory found) Refusal.IsDirectory ∷ Refuse (spec.server && found_as (is_used c) found) Refusal.Busy ∷ []) (handle_checks c ++ cond (is_none found) (object_checks c spec.names) []) q
+          first : (first_refusal (Refuse (is_none found && not mode.c) Refusal.NotFound ∷ Refuse (found_as is_directory found) Refusal.IsDirectory ∷ Refuse (spec.options.server && found_as (is_used c) found) Refusal.Busy ∷ []) ≡ None) × (first_refusal (handle_checks c ++ cond (is_none found) (object_checks c spec.names) []) ≡ None)
+          first = passes-both (Refuse (is_none found && not mode.c) Refusal.NotFound ∷ Refuse (found_as is_directory found) Refusal.IsDirectory ∷ Refuse (spec.options.server && found_as (is_used c) found) Refusal.Busy ∷ []) (handle_checks c ++ cond (is_none found) (object_checks c spec.names) []) q
 
-          busy : (spec.server && found_as (is_used c) found) ≡ false
-          busy = (all-pass (Refuse (is_none found && not mode.c) Refusal.NotFound ∷ Refuse (found_as is_directory found) Refusal.IsDirectory ∷ Refuse (spec.server && found_as (is_used c) found) Refusal.Busy ∷ []) first.0).1.1.0
+          busy : (spec.options.server && found_as (is_used c) found) ≡ false
+          busy = (all-pass (Refuse (is_none found && not mode.c) Refusal.NotFound ∷ Refuse (found_as is_directory found) Refusal.IsDirectory ∷ Refuse (spec.options.server && found_as (is_used c) found) Refusal.Busy ∷ []) first.0).1.1.0
 
-          unserved : (o : LiveObject) → object_at c spec.names ≡ Some o → spec.server ≡ true → Unserved c o.object.number
+          unserved : (o : LiveObject) → object_at c spec.names ≡ Some o → spec.options.server ≡ true → Unserved c o.object.number
           unserved o f v =
               let is : found ≡ Some (FoundObject o.object.number) = sym (place-at (at c) spec.names found e) ∙ found-object-is c spec.names o (not-directory-too c b.tree spec.names o f) f in
               let free : is_used c (FoundObject o.object.number) ≡ false = sym (λ i. v i && found_as (is_used c) (is i)) ∙ busy in

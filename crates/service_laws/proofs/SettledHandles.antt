@@ -45,13 +45,13 @@ gives-news : {S : Type 0} (h : Open S) (H : List Entry) (cursor : Option ℕ) (e
 gives-news h H cursor everything dead max e = by h.reads (is_none cursor) (owed h H cursor) (is_past_limit h (owed h H cursor)) (is_full_style (style h.kind)) e
   where
     by : (reads none : Bool) (debt : List Entry) (past full : Bool) → (reads && (none || not (is_empty debt))) ≡ true
-        → Gives (cond (none || past || (full && not (is_empty debt))) (whole_answer everything max) (owed_answer h.wait (map (block h) debt) dead max))
+        → Gives (cond (none || past || (full && not (is_empty debt))) (whole_answer everything max) (owed_answer h.options.wait (map (block h) debt) dead max))
     by false none debt past full e = absurd (let no = e in cc)
     by true true debt past full e = gives-whole everything max
     by true false debt true full e = gives-whole everything max
     by true false [] false full e = absurd (let no = e in cc)
     by true false (x ∷ xs) false true e = gives-whole everything max
-    by true false (x ∷ xs) false false e = gives-owed h.wait (block h x) (map (block h) xs) dead max
+    by true false (x ∷ xs) false false e = gives-owed h.options.wait (block h x) (map (block h) xs) dead max
 
 -- ---- moves of one handle
 

@@ -53,7 +53,7 @@ parting-behind c d before h ServerHandle ends = target-behind c d before h Delet
 parting-behind c d before h ClientHandle ends = target-behind c d before h (Closed h.number) ends
 parting-behind c d before h NamesHandle ends = elim (server_closed before h.target) as (λ b. [] ≡ cond {A = List Move} b [] []) [ true ↦ refl | false ↦ refl ]
 parting-behind c d before h (DirectoryHandle delta) ends = elim (server_closed before h.target) as (λ b. [] ≡ cond {A = List Move} b [] []) [ true ↦ refl | false ↦ refl ]
-parting-behind c d before h (ObjectHandle delta) ends = ap (λ ms. cond (h.critical && h.writes) ms []) (target-behind c d before h Dropped ends) ∙ by (h.critical && h.writes) (server_closed before h.target)
+parting-behind c d before h (ObjectHandle delta) ends = ap (λ ms. cond (h.options.critical && h.writes) ms []) (target-behind c d before h Dropped ends) ∙ by (h.options.critical && h.writes) (server_closed before h.target)
   where
     by : (a b : Bool) → cond a (cond b [] (on_target c h Dropped None)) [] ≡ cond b [] (cond a (on_target c h Dropped None) [])
     by true b = refl
@@ -112,7 +112,7 @@ parted d h ServerHandle n = told-ended d h n
 parted d h ClientHandle n = told-kept d h (Closed h.number) n (kept-closed h.number)
 parted d h NamesHandle n = refl
 parted d h (DirectoryHandle delta) n = refl
-parted d h (ObjectHandle delta) n = by (h.critical && h.writes)
+parted d h (ObjectHandle delta) n = by (h.options.critical && h.writes)
   where
     by : (b : Bool) → object_of (object_after (cond b (on_target d h Dropped None) []) n (object_numbered d n)) ≡ object_of (object_numbered d n)
     by true = told-kept d h Dropped n kept-dropped

@@ -29,7 +29,7 @@ use Rattle.service_laws.proofs.Fits.{Fits, AreFit}
 use Rattle.service_laws.proofs.Orders.{NotOpens, preparing-not, effect-of}
 use Rattle.service_laws.proofs.Settlings.{all-append}
 use Rattle.service_laws.specs.Told.{entries_told, handle_after, opened_by, handles_opened, HandlesRise, IsNumbered, AreNumbered, only_tells, closes_handle, is_woken}
-use Rattle.service_laws.specs.SettlingReplies.{follows_in}
+use Rattle.service_laws.specs.SettlingMoves.{follows_in}
 use Rattle.service_laws.proofs.SettlingLists.{flat_map-same, all-passing}
 use Rattle.service_laws.proofs.SettlingHandles.{next_handle-by}
 use Rattle.service_laws.proofs.Settling.{IsIdle, woken, settling-silent, settling-wakes}
@@ -128,7 +128,7 @@ parting-telling : (c : Content) (h : Open Seen) (k : HandleKind) → AreTelling 
 parting-telling c h ServerHandle = on_target-telling c h _ None
 parting-telling c h ClientHandle = on_target-telling c h _ None
 parting-telling c h NamesHandle = tt
-parting-telling c h (ObjectHandle delta) = of-either AreTelling (h.critical && h.writes) _ [] (on_target-telling c h Dropped None) tt
+parting-telling c h (ObjectHandle delta) = of-either AreTelling (h.options.critical && h.writes) _ [] (on_target-telling c h Dropped None) tt
 parting-telling c h (DirectoryHandle delta) = tt
 
 closing-telling : (c : Content) (h : Open Seen) → AreTelling (closing c h)
@@ -140,7 +140,7 @@ closings-telling c (h ∷ hs) = all-append IsTelling (closing c h) (closings (ap
 
 preparing-telling : (c : Content) (mode : Mode) (spec : OpenSpec) (found : Option LiveObject) → AreTelling (preparing c mode spec found)
 preparing-telling c mode spec None = of-either AreTelling spec.all [] _ tt (refl, tt)
-preparing-telling c mode spec (Some o) = of-either AreTelling spec.server _ _ (refl, (refl, tt)) (of-either AreTelling (is_some o.object.server) _ _ (refl, tt) (of-either AreTelling mode.t _ [] (refl, tt) tt))
+preparing-telling c mode spec (Some o) = of-either AreTelling spec.options.server _ _ (refl, (refl, tt)) (of-either AreTelling (is_some o.object.server) _ _ (refl, tt) (of-either AreTelling mode.t _ [] (refl, tt) tt))
 
 unlinking-telling : (o : Option LiveObject) (d : Option Directory) → AreTelling (unlinking o d)
 unlinking-telling (Some o) d = (refl, tt)

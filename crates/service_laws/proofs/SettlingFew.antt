@@ -38,7 +38,7 @@ module _ (c : Content) where
   few-parting h ServerHandle = few-target h _ None
   few-parting h ClientHandle = few-target h _ None
   few-parting h NamesHandle = tt
-  few-parting h (ObjectHandle delta) = of-either Few (h.critical && h.writes) _ [] (few-target h Dropped None) tt
+  few-parting h (ObjectHandle delta) = of-either Few (h.options.critical && h.writes) _ [] (few-target h Dropped None) tt
   few-parting h (DirectoryHandle delta) = tt
 
   few-closing : (h : Open Seen) → Few (closing c h)
@@ -71,7 +71,7 @@ module _ (c : Content) where
           by : (b : Bool) → Few ((cond b [] (Creates (new_object c spec) ∷ [])) ++ Opens (new_handle c conn mode spec None) ∷ [])
           by true = tt
           by false = tt
-      go (Some o) is = by spec.server (is_some o.object.server) mode.t
+      go (Some o) is = by spec.options.server (is_some o.object.server) mode.t
         where
           by : (s k t : Bool) → Few ((cond s (AppendsRecord (entry_of o.object Deleted None) ∷ Creates (new_object c spec) ∷ [])
               (cond k (AppendsRecord (entry_of o.object (Opened c.next_handle) None) ∷ []) (cond t (AppendsRecord (entry_of o.object Truncated None) ∷ []) []))) ++ Opens (new_handle c conn mode spec (Some o)) ∷ [])

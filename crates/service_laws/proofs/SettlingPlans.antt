@@ -16,7 +16,7 @@ use Rattle.service_laws.proofs.Passes.{passes-both, effect-fit, settling-safe}
 use Rattle.service_laws.proofs.WellSteps.{basis-in}
 use Rattle.service_laws.specs.Told.{entry_told, entries_told, handle_after, handles_opened, AreNumbered, is_woken}
 use Rattle.service_laws.specs.SettlingTargets.{NamesAreFree, makes_object, makes_directory, last_number_passed_after}
-use Rattle.service_laws.specs.SettlingReplies.{follows_in, follows}
+use Rattle.service_laws.specs.SettlingMoves.{follows_in, follows}
 use Rattle.service_laws.proofs.SettlingLists.{flat_map-same}
 use Rattle.service_laws.proofs.SettlingHandles.{handles-after}
 use Rattle.service_laws.proofs.SettlingTargets.{follows-before, free-fit}

@@ -16,7 +16,7 @@ use Rattle.pps_types.specs.Runs.{queued_by}
 use Rattle.pps_types.specs.Plan.{Move, Attaches, Leaves, Creates, AppendsRecord, Opens, Closes, CatchesUp, Advances, Parks, Arms, Queues, Takes, MakesDirectory, RemovesDirectory, on_connection, with_connection, without_connection, requeued, apply_seen, apply_all_seen, fired, late_reply}
 use Rattle.service_laws.proofs.Finds.{and-both}
 use Rattle.pps_types.proofs.Lists.{append-nil}
-use Rattle.service_laws.specs.SettlingReplies.{late_answer, pulse_and_reply}
+use Rattle.pps_types.specs.SettlingReplies.{late_answer, pulse_and_reply}
 use Rattle.service_laws.specs.SettlingQueues.{keeps_queue}
 use Rattle.service_laws.proofs.SettlingReplies.{is_given, late-given}
 use Rattle.service_laws.proofs.SettlingEvents.{turned}

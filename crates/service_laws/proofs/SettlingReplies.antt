@@ -15,7 +15,8 @@ use Rattle.pps_types.specs.Plan.{fired, late_reply}
 use Rattle.service_laws.proofs.Bridge.{answer-same}
 use Rattle.service_laws.proofs.PlainWords.{over-same}
 use Rattle.service_laws.specs.Told.{offer_all}
-use Rattle.service_laws.specs.SettlingReplies.{visible_to, gives_everything, late_answer, follows_in}
+use Rattle.pps_types.specs.SettlingReplies.{visible_to, gives_everything, late_answer}
+use Rattle.service_laws.specs.SettlingMoves.{follows_in}
 use Rattle.service_laws.proofs.SettlingSight.{seen-given, any-some, any-reads}
 use Rattle.service_laws.proofs.Settling.{woken}
 
@@ -30,18 +31,18 @@ map-some f (x ∷ xs) = refl
 
 -- what a read answers that finds this seen
 abbrev answered : Open Seen → Seen → Bool → List Member → ℕ → Answer
-answered h s dead members size = answer h s (everything_of h.kind h.filter (is_over s) (not dead) members) dead size
+answered h s dead members size = answer h s (everything_of h.kind h.options.filter (is_over s) (not dead) members) dead size
 
 -- the records stand behind all that it has read
 answered-rest : (h : Open Seen) (es : List Entry) (dead : Bool) (members : List Member) (size : ℕ) → h.reads ≡ true → list_any (visible h) es ≡ true → answered h (seen_of h (rest_of h es)) dead members size ≡ late_answer h es dead members size
 answered-rest h es dead members size reads any =
-    ap (λ over. answer h (seen_with h es (Some 0)) (everything_of h.kind h.filter over (not dead) members) dead size) (over-same h es (Some 0))
+    ap (λ over. answer h (seen_with h es (Some 0)) (everything_of h.kind h.options.filter over (not dead) members) dead size) (over-same h es (Some 0))
     ∙ answer-same h es (Some 0) everything dead size reads
-    ∙ ap (λ some. cond (is_past_limit h (visible_to h es) || (is_full_style (style h.kind) && some)) (whole_answer everything size) (owed_answer h.wait (map (block h) (visible_to h es)) dead size)) some
-    ∙ (λ i. cond (is_past_limit h (visible_to h es) || both (is_full_style (style h.kind)) i) (whole_answer everything size) (owed-some h.wait (map (block h) (visible_to h es)) dead false size (map-some (block h) (visible_to h es) ∙ some) i))
+    ∙ ap (λ some. cond (is_past_limit h (visible_to h es) || (is_full_style (style h.kind) && some)) (whole_answer everything size) (owed_answer h.options.wait (map (block h) (visible_to h es)) dead size)) some
+    ∙ (λ i. cond (is_past_limit h (visible_to h es) || both (is_full_style (style h.kind)) i) (whole_answer everything size) (owed-some h.options.wait (map (block h) (visible_to h es)) dead false size (map-some (block h) (visible_to h es) ∙ some) i))
   where
     everything : List ℕ
-    everything = everything_of h.kind h.filter (is_past_limit h (visible_to h es)) (not dead) members
+    everything = everything_of h.kind h.options.filter (is_past_limit h (visible_to h es)) (not dead) members
 
     some : not (is_empty (visible_to h es)) ≡ true
     some = any-some (visible h) es ∙ any
@@ -91,11 +92,11 @@ pub late-given : (h : Open Seen) (es : List Entry) (dead : Bool) (members : List
 late-given h es dead members size any = by (gives_everything h es)
   where
     everything : List ℕ
-    everything = everything_of h.kind h.filter (is_past_limit h (visible_to h es)) (not dead) members
+    everything = everything_of h.kind h.options.filter (is_past_limit h (visible_to h es)) (not dead) members
 
-    by : (b : Bool) → is_given (cond b (whole_answer everything size) (owed_answer h.wait (map (block h) (visible_to h es)) false size)) ≡ true
+    by : (b : Bool) → is_given (cond b (whole_answer everything size) (owed_answer h.options.wait (map (block h) (visible_to h es)) false size)) ≡ true
     by true = given-whole everything size
-    by false = given-owed h.wait (map (block h) (visible_to h es)) false size (map-some (block h) (visible_to h es) ∙ any-some (visible h) es ∙ any)
+    by false = given-owed h.options.wait (map (block h) (visible_to h es)) false size (map-some (block h) (visible_to h es) ∙ any-some (visible h) es ∙ any)
 
 -- one record alone passes no limit of 1 or more
 pub one-within : (h : Open Seen) (e : Entry) → 1 ≤ h.limit → is_past_limit h (visible_to h (e ∷ [])) ≡ false

@@ -12,7 +12,8 @@ use Rattle.pps_types.specs.Content.{Content, read_answer}
 use Rattle.pps_types.specs.Plan.{Move, Arms, Queues, apply_all_seen, fired, late_reply}
 use Rattle.service_laws.proofs.Settlings.{all-append, all-or}
 use Rattle.service_laws.specs.Told.{entry_told, entries_told, handle_by, handle_after}
-use Rattle.service_laws.specs.SettlingReplies.{late_answer, pulse_and_reply, follows_in, follows_in_turn}
+use Rattle.pps_types.specs.SettlingReplies.{late_answer, pulse_and_reply}
+use Rattle.service_laws.specs.SettlingMoves.{follows_in, follows_in_turn}
 use Rattle.service_laws.proofs.SettlingObjects.{objects-after, silent-objects}
 
 -- ---- moves that tell no record change no answer

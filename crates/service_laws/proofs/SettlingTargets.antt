@@ -14,7 +14,8 @@ use Rattle.service_laws.proofs.Fits.{Fits, AreFit}
 use Rattle.service_laws.proofs.Trees.{name-free}
 use Rattle.service_laws.specs.Told.{entries_told}
 use Rattle.service_laws.specs.SettlingTargets.{NameIsFree, NamesAreFree, members_by, members_after, target_members_after, target_is_dead_after}
-use Rattle.service_laws.specs.SettlingReplies.{pulse_and_reply, follows_in, follows}
+use Rattle.pps_types.specs.SettlingReplies.{pulse_and_reply}
+use Rattle.service_laws.specs.SettlingMoves.{follows_in, follows}
 use Rattle.service_laws.proofs.SettlingObjects.{found-all}
 use Rattle.service_laws.proofs.SettlingMembers.{members-happens, members-own, members-other}
 

@@ -47,8 +47,8 @@ and-false : (b v : Bool) → v ≡ false → (b && v) ≡ false
 and-false true v e = e
 and-false false v e = refl
 
-unseen-visible : (h : Open Seen) (e : Entry) → is_some (shown h.kind h.number h.filter e.record_of.kind) ≡ false → visible h e ≡ false
-unseen-visible h e none = by (concerns h e) h.reads (not (is_writer h.number e.record_of.writer) || (h.reflect && is_object_kind h.kind)) (is_some (shown h.kind h.number h.filter e.record_of.kind)) none
+unseen-visible : (h : Open Seen) (e : Entry) → is_some (shown h.kind h.number h.options.filter e.record_of.kind) ≡ false → visible h e ≡ false
+unseen-visible h e none = by (concerns h e) h.reads (not (is_writer h.number e.record_of.writer) || (h.options.reflect && is_object_kind h.kind)) (is_some (shown h.kind h.number h.options.filter e.record_of.kind)) none
   where
     by : (a b c d : Bool) → d ≡ false → (a && (b && c && d)) ≡ false
     by true true true d is = is
@@ -65,7 +65,7 @@ offered-same h e v k Unread is = refl
 offered-same h e v k Over is = refl
 offered-same h e v k (Owed rest) is = ap (λ b. seen_of h (cond b (pushed (visible h) e rest) rest)) k ∙ is
 
-offer-same : (h : Open Seen) (e : Entry) → is_some (shown h.kind h.number h.filter e.record_of.kind) ≡ false → is_chained h.kind e.record_of.kind ≡ false → IsSettled h → offer e h ≡ h
+offer-same : (h : Open Seen) (e : Entry) → is_some (shown h.kind h.number h.options.filter e.record_of.kind) ≡ false → is_chained h.kind e.record_of.kind ≡ false → IsSettled h → offer e h ≡ h
 offer-same h e none chained settled =
     let v = unseen-visible h e none in
     ap (λ s. record h { seen = s }) (offered-same h e v (unseen-keeps h e v chained) h.seen settled)
@@ -127,7 +127,7 @@ to-shown (DirectoryHandle delta) n parts id lines e = refl
 module _ (conn : ℕ) where
   -- none of the connection's handles is told of that kind of record
   abbrev IsNotTold : Kind → Open Seen → Type 0
-  IsNotTold kind h = eqb h.connection conn ≡ true → (is_some (shown h.kind h.number h.filter kind) ≡ false) × IsSettled h
+  IsNotTold kind h = eqb h.connection conn ≡ true → (is_some (shown h.kind h.number h.options.filter kind) ≡ false) × IsSettled h
 
   -- changes nothing of an object, and is kept for no handle
   record IsNote (kind : Kind) : Type 0 where
@@ -169,7 +169,7 @@ module _ (conn : ℕ) where
 
   no-server : (id : ℕ) (lines : List Line) (hs : List (Open Seen)) → list_any (λ h. eqb h.connection conn && is_server h.kind) hs ≡ false → AllByRecursion IsSettled hs → AllByRecursion (IsNotTold (FromClient id lines)) hs
   no-server id lines [] e settled = tt
-  no-server id lines (h ∷ hs) e settled = ((λ own. (from-shown h.kind h.number h.filter id lines (first (eqb h.connection conn) (is_server h.kind) (list_any (λ h. eqb h.connection conn && is_server h.kind) hs) e own), settled.0)), no-server id lines hs (rest (eqb h.connection conn && is_server h.kind) (list_any (λ h. eqb h.connection conn && is_server h.kind) hs) e) settled.1)
+  no-server id lines (h ∷ hs) e settled = ((λ own. (from-shown h.kind h.number h.options.filter id lines (first (eqb h.connection conn) (is_server h.kind) (list_any (λ h. eqb h.connection conn && is_server h.kind) hs) e own), settled.0)), no-server id lines hs (rest (eqb h.connection conn && is_server h.kind) (list_any (λ h. eqb h.connection conn && is_server h.kind) hs) e) settled.1)
     where
       first : (a s r : Bool) → ((a && s) || r) ≡ false → a ≡ true → s ≡ false
       first true true r e own = absurd cc
@@ -201,7 +201,7 @@ module _ (conn : ℕ) where
 
   not-addressed : (c : Content) (id : ℕ) (lines : List Line) → Elsewhere c id → (hs : List (Open Seen)) → AreFound c hs → AllByRecursion IsSettled hs → AllByRecursion (IsNotTold (ToClient id lines)) hs
   not-addressed c id lines there [] all settled = tt
-  not-addressed c id lines there (h ∷ hs) all settled = ((λ own. (to-shown h.kind h.number h.filter id lines (by (eqb id h.number) refl own), settled.0)), not-addressed c id lines there hs all.1 settled.1)
+  not-addressed c id lines there (h ∷ hs) all settled = ((λ own. (to-shown h.kind h.number h.options.filter id lines (by (eqb id h.number) refl own), settled.0)), not-addressed c id lines there hs all.1 settled.1)
     where
       by : (b : Bool) → eqb id h.number ≡ b → eqb h.connection conn ≡ true → eqb id h.number ≡ false
       by false is own = is

@@ -1,6 +1,5 @@
 pub mod PlanLaws
 pub mod Laws
-pub mod FrameLaws
 pub mod ReadLaws
 pub mod RunLaws
 pub mod TextLaws
@@ -9,7 +8,7 @@ pub mod Fit
 pub mod BoundLaws
 pub mod Told
 pub mod SettlingTargets
-pub mod SettlingReplies
+pub mod SettlingMoves
 pub mod Closings
 pub mod Concerned
 pub mod SettlingQueues

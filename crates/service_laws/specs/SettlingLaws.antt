@@ -16,7 +16,8 @@ use Rattle.pps_types.specs.Checks.{checks, first_refusal}
 use Rattle.pps_types.specs.WellFormed.{IsContent, AreTold, IsWhole, fits}
 use Rattle.service_laws.specs.Told.{entries_told, handle_after, handles_opened, HandlesRise, AreNumbered, is_woken, names_handle, only_tells, seen_after, offer_all}
 use Rattle.service_laws.specs.SettlingTargets.{object_after, objects_after, NamesAreFree, members_after, target_members_after, target_is_dead_after, last_number_passed_after}
-use Rattle.service_laws.specs.SettlingReplies.{visible_to, late_answer, pulse_and_reply, follows_in, follows, follows_in_turn}
+use Rattle.pps_types.specs.SettlingReplies.{visible_to, late_answer, pulse_and_reply}
+use Rattle.service_laws.specs.SettlingMoves.{follows_in, follows, follows_in_turn}
 use Rattle.service_laws.specs.Closings.{closings_behind}
 use Rattle.service_laws.specs.Concerned.{is_concerned, is_on_object, is_on_directory, merged, AreFew}
 use Rattle.service_laws.specs.SettlingQueues.{keeps_queue}

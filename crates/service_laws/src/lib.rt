@@ -1,7 +1,7 @@
 //! What is proved of the definitions alone: that a machine and its content agree, what a subscriber reads and is owed,
-//! that private traffic is private, that frames and printed lines have one reading, that what a service keeps stays
-//! within its bounds, and what follows from an event, computed from the content before it. Each function does nothing:
-//! its contract is the law.
+//! that private traffic is private, that printed lines have one reading, that what a service keeps stays within its
+//! bounds, and what follows from an event, computed from the content before it. Each function does nothing: its contract
+//! is the law.
 //!
 //! Where a law has premises, they are facts of a well formed content (`IsContent`), so whoever keeps that has them all:
 //! handles rise in number (`order.handles_rise`), what they have seen fits their modes and limits (`told`); and of an
@@ -13,7 +13,6 @@
 
 mod laws;
 mod laws_of_bounds;
-mod laws_of_frames;
 mod laws_of_reads;
 mod laws_of_runs;
 mod laws_of_settling;
@@ -25,10 +24,6 @@ pub use laws::{
     steps_are_decided, steps_are_shown, steps_stand,
 };
 pub use laws_of_bounds::{bounds_stay, sizes_fit};
-pub use laws_of_frames::{
-    conn_is_read, event_is_read_again, no_frame_begins_another, one_frame_is_of_one_event,
-    read_bytes_are_the_body, reading_is_the_only_one, stream_has_one_reading, stream_is_read,
-};
 pub use laws_of_reads::{cursors_move, settling_is_told};
 pub use laws_of_runs::{
     checks_want_nothing, merges_grow, moves_are_shown, plans_are_lawful, records_are_kept,

@@ -1,7 +1,6 @@
 //! The image of what a script leaves: saved, loaded, and restored line by line.
 ghost use Rattle.std.specs.Prelude.{◌≡◌, [], IfOk};
-ghost use Rattle.std.specs.List.{list_all};
-ghost use Rattle.image_laws.specs.Images.{is_plain, IsImageLine, IsSavedPath};
+ghost use Rattle.pps_persist.specs.Lines.{is_plain_line, IsImageAttribute, IsImagePath};
 
 use crate::engines::{copied, played};
 use crate::refused::{Call, Refused};
@@ -81,21 +80,21 @@ impl<'t> Entry<'t> {
 
 // The names of a path.
 fn names(alloc: Global, path: &[u8]) -> Result<Vec<Bytes>, Refusal>
-    ensures { IfOk result (λ names. IsSavedPath names.items) }
+    ensures { IfOk result (λ names. IsImagePath names.items) }
 {
     Ok(read_path(alloc, path)?.into_names())
 }
 
 // Whether there is no line feed.
 fn has_no_line_feed(line: &[u8]) -> bool
-    ensures { result ≡ list_all is_plain line.now }
+    ensures { result ≡ is_plain_line line.now }
 {
     line.iter().all(|byte| *byte != b'\n')
 }
 
 // The attribute of a line.
 fn attribute(alloc: Global, line: &[u8]) -> Result<Line, Refusal>
-    ensures { IfOk result (λ line. IsImageLine line) }
+    ensures { IfOk result (λ line. IsImageAttribute line) }
 {
     if !has_no_line_feed(line) {
         return Err(Refusal::BadText { line: 1 });

@@ -10,12 +10,12 @@ use Rattle.pps_types.specs.Reading.{Open, visible}
 use Rattle.pps_types.specs.Rests.{Seen}
 use Rattle.pps_types.specs.Plan.{AppendsRecord as HappensTo, offer, without_number}
 use Rattle.service_laws.proofs.Finds.{and-both}
-use Rattle.engine_servers.specs.Shared.{Shared}
-use Rattle.engine_targets.specs.declared.opening.Opening.{Opening}
+use Rattle.server_queue.specs.Shared.{Shared}
+use Rattle.sub_reader.specs.declared.opening.Opening.{Opening}
 use Rattle.name_table.specs.Standing.{Named}
-use Rattle.engine_targets.specs.Opened.{is_directory}
-use Rattle.engine_servers.specs.Seated.{suits}
+use Rattle.sub_reader.specs.Opened.{is_directory, suits}
 use Rattle.open_handles.specs.Whole.{Whole, Site, HasRoom, KeepsSites, KeepsRecords, is_on, handles_in, handles_at}
+use Rattle.open_handles.proofs.Firsts.{room_first}
 use Rattle.service_state.specs.Tables.{Tabled, content_in}
 use Rattle.service_state.specs.Moves.{closing}
 use Rattle.service_state.specs.Lines.{HasLinesFor, is_change}
@@ -24,7 +24,7 @@ use Rattle.service_state.specs.declared.beginning.Beginning.{Beginning}
 use Rattle.service_state.specs.declared.beginning.Beginning.TheVariants.{Closes, AppendsRecord}
 use Rattle.service_state.specs.Beginning.{entries_in, CanBeginAll, HaveLines, IsSharedBy, AreReady, is_plain}
 use Rattle.service_state.proofs.Waits.{closed_aside, closed_handles}
-use Rattle.service_state.proofs.Begins.{fewer-without, same-offered, shared_stays, room_first}
+use Rattle.service_state.proofs.Begins.{fewer-without, same-offered, shared_stays}
 
 -- the handles of each place are those of all that are on it
 abbrev pub ArePlaced : Tabled → Type 0

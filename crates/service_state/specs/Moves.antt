@@ -6,8 +6,8 @@ use Rattle.pps_types.specs.declared.refusal.Refusal.TheVariants.{BadHandle}
 use Rattle.pps_types.specs.declared.outcome.Item.TheVariants.{Pulse as PulseItem, ReadDone}
 use Rattle.pps_types.specs.Outbox.{PulseOf}
 use Rattle.pps_types.specs.Plan.{Move, Opens, Closes, Queues, Parks, Arms}
-use Rattle.engine_targets.specs.declared.opening.Opening.{Opening}
-use Rattle.engine_targets.specs.Opened.{opened, number_of}
+use Rattle.sub_reader.specs.declared.opening.Opening.{Opening}
+use Rattle.sub_reader.specs.Opened.{opened, number_of}
 use Rattle.open_handles.specs.Whole.{name_at}
 use Rattle.service_state.specs.Tables.{Tabled}
 

@@ -7,7 +7,7 @@ use Rattle.pps_types.specs.Content.{Directory}
 use Rattle.pps_types.specs.Owed.{kept_records_seen}
 use Rattle.pps_types.specs.Plan.{offer}
 use Rattle.pps_types.specs.WellFormed.{AreRising, directory_numbered}
-use Rattle.engine_targets.specs.Opened.{is_directory, number_of}
+use Rattle.sub_reader.specs.Opened.{is_directory, number_of}
 use Rattle.name_table.specs.Listed.{IsBare}
 use Rattle.open_handles.specs.Whole.{Whole, HasSite, handles_in, kept_at, room_at, site_at}
 use Rattle.service_state.specs.Tables.{Tabled, content_in}

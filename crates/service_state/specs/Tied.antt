@@ -1,9 +1,9 @@
 -- What a change in place leaves.
 use Rattle.std.specs.Prelude.{◌≡◌, ◌<◌, ◌⊎◌, ℕ, List, Bool, true, None}
 use Rattle.pps_types.specs.declared.found.Found.{Found}
-use Rattle.engine_targets.specs.declared.opening.Opening.{Opening}
+use Rattle.sub_reader.specs.declared.opening.Opening.{Opening}
 use Rattle.pps_types.specs.Plan.{Move, apply_all_seen}
-use Rattle.notify_box.specs.Standing.{HasHandleRoom}
+use Rattle.notify_box.specs.Standing.{RoomedConnections, HasHandleRoom}
 use Rattle.open_handles.specs.Whole.{Whole, KeepsTable, KeepsSites, KeepsPlaces, SuitsAt, room_at, site_at}
 use Rattle.service_state.specs.Tables.{Tabled, content_in}
 
@@ -21,6 +21,10 @@ pub record KeepsHandleRoom (old new : Tabled) : Type 0 where
 -- each place for handles stays, or is gone
 abbrev pub KeepsOrDrops : Whole → Whole → Type 0
 KeepsOrDrops old new = (f : Found) → (site_at f new ≡ site_at f old) ⊎ (site_at f new ≡ None)
+
+-- a connection has room for one handle more
+abbrev pub HasRoomForHandle : ℕ → RoomedConnections → Type 0
+HasRoomForHandle conn connections = HasHandleRoom conn 1 connections
 
 -- A handle can be opened: it has the next number and suits, and there is room for it.
 pub record CanOpen (f : Found) (o : Opening) (t : Tabled) : Type 0 where

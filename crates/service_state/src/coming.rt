@@ -11,9 +11,9 @@ ghost use Rattle.service_state.specs.Moves.{opening_on};
 ghost use Rattle.service_state.specs.Tied.{Moves};
 
 use crate::tables::Tables;
-use engine_targets::Opening;
 use notify_box::{Outbox, connections_are_found, connections_are_told, premises_stay};
 use pps_types::{Conn, Found};
+use sub_reader::Opening;
 
 impl Tables {
     /// A handle opens on an object or a directory, for which there is room.

@@ -24,11 +24,11 @@ pub struct Tables {
 impl Model for Tables {
     ghost use Rattle.service_state.specs.Tables.{Tabled, AreTied};
     ghost use Rattle.std.specs.Coded.{codes};
-    ghost use Rattle.alloc_tree.specs.Held.{coded_held};
+    ghost use Rattle.name_table.specs.Standing.{coded_tree};
 
     ghost Value = { Tabled };
 
-    ghost coded = { Prim.hlevel (codes, coded_held) };
+    ghost coded = { Prim.hlevel (codes, coded_tree) };
 
     ghost view = { λ t. record { default_limit = t.default_limit; records = t.records; names = t.names; handles = t.handles; connections = t.connections } };
 

@@ -8,9 +8,9 @@ ghost use Rattle.service_state.specs.Tied.{Moves, KeepsHandleRoom};
 ghost use Rattle.service_state.specs.Refused.{own_handle_in, parked_in, is_parked_in, armed_in};
 
 use crate::tables::Tables;
-use engine_targets::Pulse;
 use notify_box::{connections_are_found, connections_are_told, premises_stay};
 use pps_types::{Conn, Handle, Refusal, SharedBytes};
+use sub_reader::Pulse;
 
 impl Tables {
     /// A handle has read everything.

@@ -1,7 +1,6 @@
 //! What the calls restore that an image is loaded by, and what an image saves.
 ghost use Rattle.std.specs.Prelude.{◌≡◌, [], IfOk};
-ghost use Rattle.std.specs.List.{list_all};
-ghost use Rattle.image_laws.specs.Images.{is_plain, IsImageLine, IsSavedPath};
+ghost use Rattle.pps_persist.specs.Lines.{is_plain_line, IsImageAttribute, IsImagePath};
 
 use crate::scripts::Start::{New, Restored};
 use crate::scripts::Step::{Runs, Saves, Says};
@@ -25,21 +24,21 @@ enum Kind {
 
 /// The names of a path.
 fn names(alloc: Global, path: &[u8]) -> Result<Vec<Bytes>, Refusal>
-    ensures { IfOk result (λ names. IsSavedPath names.items) }
+    ensures { IfOk result (λ names. IsImagePath names.items) }
 {
     Ok(read_path(alloc, path)?.into_names())
 }
 
 /// Whether there is no line feed.
 fn has_no_line_feed(line: &[u8]) -> bool
-    ensures { result ≡ list_all is_plain line.now }
+    ensures { result ≡ is_plain_line line.now }
 {
     line.iter().all(|byte| *byte != b'\n')
 }
 
 /// The line that sets a persistent attribute: its name, its encoding and its value.
 fn line(alloc: Global, attribute: [&[u8]; 3]) -> Result<Line, Refusal>
-    ensures { IfOk result (λ line. IsImageLine line) }
+    ensures { IfOk result (λ line. IsImageAttribute line) }
 {
     let [name, enc, value] = attribute;
     let mut text = Vec::new(alloc);

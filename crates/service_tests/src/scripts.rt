@@ -214,7 +214,7 @@ fn owed(engine: &Engine, handle: u32) -> Option<usize> {
 
 fn kept(alloc: Global, engine: &Engine, path: &[u8]) -> Result<Option<usize>, Refusal> {
     let path = read_path(alloc, path)?;
-    Ok(engine.kept(&path))
+    Ok(engine.kept(path.names()))
 }
 
 /// Plays a step with its two texts.

@@ -2,32 +2,31 @@
 
 use crate::state_samples::new_tables;
 use pps_engine::settle;
-use pps_types::{Bytes, Kind, ObjId, Record, Refusal};
-use server_queue::Entry;
-use std::alloc::{AllocError, Global};
+use pps_types::{DirId, Kind, ObjId, Refusal};
+use service_state::entry_about;
+use std::alloc::Global;
 use std::test::Fail;
 
-/// Whether nothing follows in a new service from these records.
-fn is_settled(alloc: Global, entries: &[Entry]) -> Result<bool, Refusal> {
+/// Whether nothing follows in a new service from the record that the object 0 is created.
+fn is_settled_after_creation(alloc: Global) -> Result<bool, Refusal> {
     let tables = new_tables(alloc)?;
-    let following = settle(&tables, alloc, entries, &[])?;
+    let (object, directory) = (ObjId::new(0), DirId::new(0));
+    let created = entry_about(alloc, object, directory, b"gps", Kind::Created, None)?;
+    let entries = [created];
+    let following = settle(&tables, alloc, &entries, &[])?;
     Ok(following.is_empty())
 }
 
-/// The record that the object 0 is created.
-fn created(alloc: Global) -> Result<Entry, AllocError> {
-    let made = Record {
-        object: ObjId::new(0),
-        kind: Kind::Created,
-        writer: None,
-    };
-    Entry::new(alloc, 0, Bytes::from_slice(alloc, b"gps")?, made)
+/// Whether nothing follows in a new service without a record.
+fn is_settled_at_first(alloc: Global) -> Result<bool, Refusal> {
+    let tables = new_tables(alloc)?;
+    let following = settle(&tables, alloc, &[], &[])?;
+    Ok(following.is_empty())
 }
 
 #[test]
 fn nothing_follows_where_nobody_waits(rt: HostRuntime) -> Result<(), Fail> {
-    let entries = [created(rt.alloc())?];
-    assert!(rt; is_settled(rt.alloc(), &entries)?);
-    assert!(rt; is_settled(rt.alloc(), &[])?);
+    assert!(rt; is_settled_after_creation(rt.alloc())?);
+    assert!(rt; is_settled_at_first(rt.alloc())?);
     Ok(())
 }

@@ -36,14 +36,14 @@ pub fitted-told : (blocks : List (List ℕ)) (dead wait : Bool) (max : ℕ) (g :
 fitted-told [] dead wait max g are = ap (of_pair dead wait) are.same
 fitted-told (b ∷ bs) dead wait max g are = ap (of_pair dead wait) are.same ∙ first_fits b bs dead wait max are.fits
 
-told : (h : Open Seen) (seen : Seen) (w : Source) (max : ℕ) (owed : Option GivenBlocks) → Owes max h seen owed → answer h seen (everything w) (is_dead w) max ≡ answer_by w h.wait max owed
-told h (News true) w max owed owes = sym (ap (answer_by w h.wait max) owes)
+told : (h : Open Seen) (seen : Seen) (w : Source) (max : ℕ) (owed : Option GivenBlocks) → Owes max h seen owed → answer h seen (everything w) (is_dead w) max ≡ answer_by w h.options.wait max owed
+told h (News true) w max owed owes = sym (ap (answer_by w h.options.wait max) owes)
 told h (News false) w max None owes = absurd owes
-told h (News false) w max (Some g) owes = sym (fitted-told [] (is_dead w) h.wait max g owes)
-told h Unread w max owed owes = sym (ap (answer_by w h.wait max) owes)
-told h Over w max owed owes = sym (ap (answer_by w h.wait max) owes)
+told h (News false) w max (Some g) owes = sym (fitted-told [] (is_dead w) h.options.wait max g owes)
+told h Unread w max owed owes = sym (ap (answer_by w h.options.wait max) owes)
+told h Over w max owed owes = sym (ap (answer_by w h.options.wait max) owes)
 told h (Owed rest) w max None owes = absurd owes
-told h (Owed rest) w max (Some g) owes = sym (fitted-told (map (block h) (filter (visible h) rest)) (is_dead w) h.wait max g owes)
+told h (Owed rest) w max (Some g) owes = sym (fitted-told (map (block h) (filter (visible h) rest)) (is_dead w) h.options.wait max g owes)
 
 -- an object is dead, and no directory is
 dead_is : (directory none : Bool) → not directory && not (not (not directory && none)) ≡ not directory && none

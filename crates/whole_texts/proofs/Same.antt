@@ -8,11 +8,11 @@ use Rattle.pps_types.specs.Owed.{is_past_limit}
 use Rattle.pps_types.specs.declared.refusal.Refusal.TheVariants.{TooSmall}
 use Rattle.pps_types.specs.declared.outcome.Item.TheVariants.{Pulse as PulseItem, ReadDone}
 use Rattle.pps_types.specs.Plan.{CatchesUp, Advances, Parks, Arms, Queues, fired, late_reply}
-use Rattle.service_laws.specs.SettlingReplies.{gives_everything, late_answer, pulse_and_reply}
-use Rattle.engine_targets.specs.declared.opening.Opening.{Opening}
-use Rattle.engine_targets.specs.declared.opening.Pulse.{Pulse}
-use Rattle.engine_targets.specs.Opened.{opened, armed_pulse}
-use Rattle.engine_targets.specs.Blocks.{blocks_given}
+use Rattle.pps_types.specs.SettlingReplies.{gives_everything, late_answer, pulse_and_reply}
+use Rattle.sub_reader.specs.declared.opening.Opening.{Opening}
+use Rattle.sub_reader.specs.declared.opening.Pulse.{Pulse}
+use Rattle.sub_reader.specs.Opened.{opened, armed_pulse}
+use Rattle.sub_reader.specs.Blocks.{blocks_given}
 use Rattle.whole_texts.specs.Replied.{reply_to}
 use Rattle.whole_texts.specs.Woken.{Waiting, Behind, IsOpened, IsWoken, Shows, ShowsWaiting}
 use Rattle.whole_texts.specs.Followed.{fired_by}
@@ -21,17 +21,17 @@ use Rattle.whole_texts.specs.Followed.{fired_by}
 
 module _ (b : Behind) (h : Open Seen) (dead : Bool) (members : List Member) (size : ℕ) where
   everything : Bool → List Member → Answer
-  everything alive ms = whole_answer (everything_of h.kind h.filter (is_past_limit h (filter (visible h) b.entries)) alive ms) size
+  everything alive ms = whole_answer (everything_of h.kind h.options.filter (is_past_limit h (filter (visible h) b.entries)) alive ms) size
 
   shown : Shows b h dead members → reply_to h b.entries b.alive b.members size ≡ late_answer h b.entries dead members size
   unfolding everything
   shown shows = by (gives_everything h b.entries) refl
     where
       by : (g : Bool) → gives_everything h b.entries ≡ g → reply_to h b.entries b.alive b.members size ≡ late_answer h b.entries dead members size
-      by true is = λ i. cond (gives_everything h b.entries) (everything ((shows is).0 i) ((shows is).1 i)) (owed_answer h.wait (blocks_given h b.entries) false size)
+      by true is = λ i. cond (gives_everything h b.entries) (everything ((shows is).0 i) ((shows is).1 i)) (owed_answer h.options.wait (blocks_given h b.entries) false size)
       by false is =
-          ap (λ g. cond g (everything b.alive b.members) (owed_answer h.wait (blocks_given h b.entries) false size)) is
-          ∙ sym (ap (λ g. cond g (everything (not dead) members) (owed_answer h.wait (blocks_given h b.entries) false size)) is)
+          ap (λ g. cond g (everything b.alive b.members) (owed_answer h.options.wait (blocks_given h b.entries) false size)) is
+          ∙ sym (ap (λ g. cond g (everything (not dead) members) (owed_answer h.options.wait (blocks_given h b.entries) false size)) is)
 
   pub reply-same : (t : ℕ) (o : Opening) → IsOpened t o h → Shows b h dead members
       → reply_to (opened t [] o) b.entries b.alive b.members size ≡ late_answer h b.entries dead members size

@@ -79,4 +79,4 @@ read_moves h size a = (read_effect h size a).1
 -- the answer to a read of so many bytes is told by what the handle is owed and by its target
 abbrev pub AnswersAreRead : Type 0
 AnswersAreRead = (c : Content) (h : Open Seen) (max : ℕ) (owed : Option GivenBlocks) → Owes max h h.seen owed
-    → read_answer c h max ≡ answer_by (source_of c h) h.wait max owed
+    → read_answer c h max ≡ answer_by (source_of c h) h.options.wait max owed

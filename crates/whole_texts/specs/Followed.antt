@@ -7,10 +7,10 @@ use Rattle.pps_types.specs.declared.outcome.Item.TheVariants.{Pulse as PulseItem
 use Rattle.pps_types.specs.Reading.{Open, Member}
 use Rattle.pps_types.specs.Rests.{Seen}
 use Rattle.pps_types.specs.Plan.{Move, CatchesUp, Advances, Parks, Arms, Queues, ended, late_reply}
-use Rattle.service_laws.specs.SettlingReplies.{pulse_and_reply}
-use Rattle.engine_targets.specs.declared.opening.Opening.{Opening}
-use Rattle.engine_targets.specs.declared.opening.Pulse.{Pulse}
-use Rattle.engine_targets.specs.Opened.{opened}
+use Rattle.pps_types.specs.SettlingReplies.{pulse_and_reply}
+use Rattle.sub_reader.specs.declared.opening.Opening.{Opening}
+use Rattle.sub_reader.specs.declared.opening.Pulse.{Pulse}
+use Rattle.sub_reader.specs.Opened.{opened}
 use Rattle.whole_texts.specs.declared.following.Following.{Following}
 use Rattle.whole_texts.specs.declared.following.Following.TheVariants.{Fires, CatchesUp as FollowingCatchesUp, Advances as FollowingPasses, Ends}
 use Rattle.whole_texts.specs.declared.reply.Reply.{Reply}

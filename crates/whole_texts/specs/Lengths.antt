@@ -1,5 +1,5 @@
 -- How long a text is, the room for it, and what comes to the end of a list.
-use Rattle.std.specs.Prelude.{◌≡◌, ◌+◌, ◌^◌, ◌≤◌, ◌++◌, ℕ, List, length, Vec}
+use Rattle.std.specs.Prelude.{◌≡◌, ◌^◌, ◌≤◌, ◌++◌, ℕ, List, length, Vec}
 
 -- the text has so many bytes
 abbrev pub IsLenOf : List ℕ → ℕ → Type 0

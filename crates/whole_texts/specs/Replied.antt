@@ -1,12 +1,12 @@
 -- The late reply to a read that waits.
-use Rattle.std.specs.Prelude.{◌≡◌, ◌≤◌, ◌<◌, ℕ, ◌^◌, List, [], Bool, true, false, ◌||◌, nat_lt, nat_le, if◌then◌else◌, Option, Some, None, filter, length}
+use Rattle.std.specs.Prelude.{◌≡◌, ℕ, ◌^◌, List, [], Bool, true, false, ◌||◌, nat_lt, nat_le, if◌then◌else◌, filter, length}
 use Rattle.pps_types.specs.History.{Entry}
 use Rattle.pps_types.specs.Reading as reading
 use Rattle.pps_types.specs.Reading.{Open, Member, style, is_full_style, visible, everything_of, whole_answer, owed_answer}
 use Rattle.pps_types.specs.Owed.{is_past_limit}
-use Rattle.engine_targets.specs.declared.opening.Opening.{Opening}
-use Rattle.engine_targets.specs.Opened.{opened}
-use Rattle.engine_targets.specs.Blocks.{blocks_given}
+use Rattle.sub_reader.specs.declared.opening.Opening.{Opening}
+use Rattle.sub_reader.specs.Opened.{opened}
+use Rattle.sub_reader.specs.Blocks.{blocks_given}
 use Rattle.whole_texts.specs.declared.reply.Reply.{Reply}
 use Rattle.whole_texts.specs.declared.reply.Reply.TheVariants.{Everything, Blocks, TooSmall, Waits, Nothing}
 use Rattle.whole_texts.specs.Woken.{Behind}
@@ -30,15 +30,6 @@ wants_memory a = false
 abbrev pub NeedsMemory : reading.Answer → Type 0
 NeedsMemory a = wants_memory a ≡ true
 
--- a length, where it is a number of 64 bits
-abbrev pub IsLen : Option ℕ → ℕ → Type 0
-IsLen None n = 2 ^ 64 ≤ n
-IsLen (Some len) n = len ≡ n
-
--- there is no room for the text, which needs so many bytes
-abbrev pub PassesRoom : ℕ → List ℕ → Option ℕ → Type 0
-PassesRoom room text need = (room < length text) × IsLen need (length text)
-
 -- ---- by what its open fixed of a handle
 
 -- those of the records that it is given
@@ -49,17 +40,21 @@ entries_given target o es = filter (visible (opened target [] o)) es
 abbrev pub is_given_too_many : ℕ → Opening → List Entry → Bool
 is_given_too_many target o es = is_past_limit (opened target [] o) (filter (visible (opened target [] o)) es)
 
+-- the blocks of those that it is given
+abbrev pub blocks_for : ℕ → Opening → List Entry → List (List ℕ)
+blocks_for target o es = blocks_given (opened target [] o) es
+
 -- the late reply that gives blocks
 abbrev pub blocks_by : ℕ → Opening → List Entry → ℕ → reading.Answer
-blocks_by target o es size = owed_answer o.wait (blocks_given (opened target [] o) es) false size
+blocks_by target o es size = owed_answer o.options.wait (blocks_for target o es) false size
 
 -- ---- the whole reply
 
 -- the late reply to a handle, whatever it has seen
 abbrev pub reply_to : {S : Type 0} → Open S → List Entry → Bool → List Member → ℕ → reading.Answer
 reply_to h es alive members size =
-    if is_past_limit h (filter (visible h) es) || is_full_style (style h.kind) then whole_answer (everything_of h.kind h.filter (is_past_limit h (filter (visible h) es)) alive members) size
-    else owed_answer h.wait (blocks_given h es) false size
+    if is_past_limit h (filter (visible h) es) || is_full_style (style h.kind) then whole_answer (everything_of h.kind h.options.filter (is_past_limit h (filter (visible h) es)) alive members) size
+    else owed_answer h.options.wait (blocks_given h es) false size
 
 -- the same by what its open fixed, its target being as this shows it
 abbrev pub reply_by : ℕ → Opening → Behind → ℕ → reading.Answer

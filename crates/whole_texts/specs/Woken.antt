@@ -3,10 +3,10 @@ use Rattle.std.specs.Prelude.{◌≡◌, ℕ, List, Bool, true, not, Option, is_
 use Rattle.pps_types.specs.History.{Entry}
 use Rattle.pps_types.specs.Reading.{Open, Member, Answer}
 use Rattle.pps_types.specs.Rests.{Seen}
-use Rattle.service_laws.specs.SettlingReplies.{gives_everything, late_answer}
-use Rattle.engine_targets.specs.declared.opening.Opening.{Opening}
-use Rattle.engine_targets.specs.declared.opening.Pulse.{Pulse}
-use Rattle.engine_targets.specs.Opened.{opened, as_opened, armed_pulse}
+use Rattle.pps_types.specs.SettlingReplies.{gives_everything, late_answer}
+use Rattle.sub_reader.specs.declared.opening.Opening.{Opening}
+use Rattle.sub_reader.specs.declared.opening.Pulse.{Pulse}
+use Rattle.sub_reader.specs.Opened.{opened, as_opened, armed_pulse}
 
 -- the number of the object or directory that it is on, what its open fixed, and what waits on it
 pub record Waiting : Type 0 where

@@ -5,9 +5,9 @@ ghost use Rattle.whole_texts.specs.Followed.{fired_by, ended_by, given_by, repli
 
 use crate::reply::{Reply, late_answer};
 use crate::woken::{TargetAfter, Woken};
-use engine_targets::{Opening, Pulse};
 use pps_types::{Conn, Handle, Refusal, SharedBytes};
 use std::alloc::Global;
+use sub_reader::{Opening, Pulse};
 
 /// What follows from an event for a handle.
 #[derive(Drop)]

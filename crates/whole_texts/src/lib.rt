@@ -24,5 +24,5 @@ pub use listed::{Listed, listing, listing_len, listings_are_told};
 pub use member::Member;
 pub use read::{answers_are_read, read_answer};
 pub use reply::{Reply, late_answer};
-pub use whole::{Whole, too_small};
+pub use whole::Whole;
 pub use woken::{TargetAfter, Woken};

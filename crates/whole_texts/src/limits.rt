@@ -1,13 +1,13 @@
 //! Whether a late reply gives everything.
 ghost use Rattle.std.specs.Prelude.{◌≡◌, length};
 ghost use Rattle.pps_types.specs.Reading as reading;
-ghost use Rattle.service_laws.specs.SettlingReplies as replies;
+ghost use Rattle.pps_types.specs.SettlingReplies as replies;
 ghost use Rattle.whole_texts.specs.Replied.{entries_given, is_given_too_many};
 ghost use Rattle.whole_texts.specs.Woken.{ForOpened};
 
-use engine_targets::{Opening, is_full, is_visible};
 use pps_types::HandleKind;
 use server_queue::Entry;
+use sub_reader::{Opening, is_full, is_visible};
 
 // Whether it reads in delta mode.
 fn is_delta(kind: HandleKind) -> bool

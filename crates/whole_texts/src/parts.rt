@@ -9,9 +9,9 @@ ghost use Rattle.whole_texts.specs.Whole.{print_opening, marked_text, part_text}
 
 use crate::member::Member;
 use attr_text::{header_len, push_header};
-use engine_targets::is_directory_kind;
 use pps_filter::Filter;
 use pps_types::HandleKind;
+use sub_reader::is_directory_kind;
 
 // The mark of an object's header where more was owed than the limit.
 fn overflow_mark(over: bool) -> Option<u8>

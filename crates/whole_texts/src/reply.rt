@@ -9,9 +9,9 @@ use crate::blocks::give;
 use crate::limits::is_past_limit;
 use crate::whole::Whole;
 use crate::woken::TargetAfter;
-use engine_targets::{Opening, is_full};
 use pps_types::Refusal;
 use std::alloc::Global;
+use sub_reader::{Opening, is_full};
 
 /// The late reply to a read that waits.
 #[derive(Drop)]
@@ -59,7 +59,7 @@ fn reply_to_opened(
     }
     let whole = Whole::new(
         opening.kind,
-        opening.filter.as_ref(),
+        opening.options.filter.as_ref(),
         over,
         told.alive,
         told.members,

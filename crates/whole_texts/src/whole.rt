@@ -1,7 +1,5 @@
 //! Everything of a target: how long it is, and its text.
-ghost use Rattle.std.specs.Prelude.{◌≡◌, ◌≢◌, ◌<◌, length, IfOk, IfSome, IfNone, OnErr, Some, IsOkUnless};
-ghost use Rattle.pps_types.specs.Reading as reading;
-ghost use Rattle.pps_types.specs.declared.refusal.Refusal.TheVariants.{OutOfMemory};
+ghost use Rattle.std.specs.Prelude.{◌≡◌, ◌<◌, length, IfOk, IfSome, IfNone, OnErr, IsOkUnless};
 ghost use Rattle.attr_text.specs.Printed.{HasRoomFor};
 ghost use Rattle.pps_types.specs.Refused.{IsRefusedAs, LacksMemory};
 ghost use Rattle.whole_texts.specs.Lengths.{IsLenOf, IsTooLong, Gains};
@@ -12,6 +10,7 @@ use crate::member::Member;
 use crate::parts::{is_dead, member_len, opening_len, push_member, push_opening};
 use pps_filter::Filter;
 use pps_types::{HandleKind, Refusal};
+use server_queue::too_small;
 use std::alloc::Global;
 use std::marker::Model;
 
@@ -69,18 +68,6 @@ fn push_members(
 {
     'members: for member in members {
         push_member(out, kind, filter, over, alive, member);
-    }
-}
-
-/// The refusal of a read that needs so many bytes: TooSmall, with the size, or OutOfMemory where that is no number of 32
-/// bits. It takes no memory.
-pub fn too_small(need: usize) -> Refusal
-    ensures small { result ≢ OutOfMemory → Some result ≡ refusal_in (reading.Needs need) }
-    ensures memory { result ≡ OutOfMemory → NeedsMemory (reading.Needs need) }
-{
-    match u32::try_from(need) {
-        Ok(need) => Refusal::TooSmall { need },
-        Err(_) => Refusal::OutOfMemory,
     }
 }
 
@@ -168,7 +155,7 @@ impl<'a> Whole<'a> {
             return Err(Refusal::OutOfMemory);
         };
         if len > max as usize {
-            return Err(too_small(len));
+            return Err(too_small(Some(len)));
         }
         self.print_sized(alloc, len)
     }

@@ -3,9 +3,9 @@ ghost use Rattle.std.specs.Prelude.{◌≡◌};
 ghost use Rattle.whole_texts.specs.Woken.{waiting_on};
 
 use crate::member::Member;
-use engine_targets::{Opening, Pulse};
 use server_queue::Entry;
 use std::marker::Model;
+use sub_reader::{Opening, Pulse};
 
 /// A handle that records wake: the number of the object or directory that it is on, what its open fixed, the size of the
 /// read that waits on it, and the pulse that does.

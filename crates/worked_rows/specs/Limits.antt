@@ -10,6 +10,7 @@ use Rattle.pps_types.specs.declared.outcome.Item.TheVariants.{Pulse}
 use Rattle.pps_types.specs.declared.outcome.Outcome.TheVariants.{Done, Opened as OpenedHandle, Data, Wrote, Parked, Input}
 use Rattle.pps_types.specs.declared.refusal.Refusal.TheVariants.{TooLarge, OutboxFull, TableFull, BadText}
 use Rattle.pps_types.specs.Outcome.{Reply}
+use Rattle.pps_types.specs.OpenText.{no_handle_options}
 use Rattle.pps_types.specs.declared.handle_kind.HandleKind.TheVariants.{Object as ObjectHandle}
 use Rattle.pps_types.specs.Reading.{Open}
 use Rattle.pps_types.specs.History.{Attribute}
@@ -119,10 +120,7 @@ subscriber parked armed n = record {
   kind = ObjectHandle false;
   reads = true;
   writes = false;
-  wait = true;
-  reflect = false;
-  critical = false;
-  filter = None;
+  options = record no_handle_options { wait = true };
   limit = 256;
   seen = Some 1;
   parked = parked;
@@ -130,7 +128,7 @@ subscriber parked armed n = record {
 }
 
 abbrev pub publisher : Open (Option ℕ)
-publisher = record (subscriber None None 1) { connection = 1; writes = true; wait = false }
+publisher = record (subscriber None None 1) { connection = 1; writes = true; options = no_handle_options }
 
 -- connection 1 publishes /gps, and connection 2 has these handles on it and these items in its queue
 abbrev pub with_subscribers : List (Open (Option ℕ)) → List Item → Machine

@@ -1,7 +1,7 @@
 use Rattle.std.proofs.Common.{◌≡◌, ◌∙◌, false, cond, Some, None, map, sym, ap, subst}
 use Rattle.std.specs.Option.{option_map_or}
 use Rattle.pps_types.specs.WellFormed.{AreRising}
-use Rattle.engine_targets.specs.Opened.{handle_at}
+use Rattle.sub_reader.specs.Opened.{handle_at}
 use Rattle.open_handles.specs.Whole.{Whole, handles_in}
 use Rattle.service_state.specs.Tables.{content_in}
 use Rattle.handle_requests.specs.Backlogs.{is_behind}

@@ -1,7 +1,7 @@
 use Rattle.std.proofs.Common.{◌∙◌, map, sym, ap, subst}
 use Rattle.std.specs.Prelude.{option_map}
 use Rattle.pps_types.specs.WellFormed.{AreRising}
-use Rattle.engine_targets.specs.Opened.{opened, as_opened, handle_at, number_of}
+use Rattle.sub_reader.specs.Opened.{opened, as_opened, handle_at, number_of}
 use Rattle.open_handles.specs.Whole.{Whole, handles_in, name_at}
 use Rattle.open_handles.specs.declared.handles.Opened.{Opened as OpenedAs}
 use Rattle.service_state.specs.Tables.{content_in}

@@ -2,7 +2,7 @@ use Rattle.std.proofs.Common.{◌≡◌, ◌∙◌, false, cond, Some, None, sym
 use Rattle.std.specs.Prelude.{is_some}
 use Rattle.std.specs.Option.{option_map_or}
 use Rattle.pps_types.specs.declared.refusal.Refusal.TheVariants.{Backlogged}
-use Rattle.engine_targets.specs.Opened.{handle_at}
+use Rattle.sub_reader.specs.Opened.{handle_at}
 use Rattle.service_state.specs.Tables.{content_in}
 use Rattle.handle_requests.proofs.Backlogs.{told_there, owes, no_server, server_behind}
 use Rattle.handle_requests.proofs.backlog.server_backlog.Goals as goal

@@ -1,8 +1,8 @@
 use Rattle.std.specs.Prelude.{◌≡◌, ◌&&◌, false, is_none}
 use Rattle.std.proofs.Common.{sym, ◌∙◌}
 use Rattle.std.proofs.lemmas.Result.{err_from_is_err_and}
-use Rattle.engine_targets.specs.Opened.{handle_at}
-use Rattle.engine_servers.specs.Seated.{handles_of}
+use Rattle.sub_reader.specs.Opened.{handle_at}
+use Rattle.topics.specs.Seated.{handles_of}
 use Rattle.handle_requests.specs.Reads.{is_given_all}
 use Rattle.handle_requests.proofs.Debts.{owed_refuses}
 use Rattle.handle_requests.proofs.owed.owed_to.Goals as goal

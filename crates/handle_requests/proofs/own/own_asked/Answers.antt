@@ -1,8 +1,8 @@
 use Rattle.std.specs.Prelude.{◌≡◌, Option, Some, None, option_map, IfSome}
 use Rattle.std.proofs.Common.{sym, ◌∙◌, ap, subst}
-use Rattle.engine_targets.specs.Opened.{opened, as_opened, number_of, handle_at}
-use Rattle.engine_targets.specs.Glances.{glanced, glance_on}
-use Rattle.engine_servers.specs.Seated.{handles_of, name_of}
+use Rattle.sub_reader.specs.Opened.{opened, as_opened, number_of, handle_at}
+use Rattle.sub_reader.specs.Glances.{glanced, glance_on}
+use Rattle.topics.specs.Seated.{handles_of, name_of}
 use Rattle.open_handles.specs.Whole.{Whole, handles_in, name_at}
 use Rattle.open_handles.specs.declared.handles.Looked.{Looked}
 use Rattle.handle_requests.proofs.Owns.{own_among, alike, unlike, opened_none, opened_other, opened_here}

@@ -1,6 +1,6 @@
 use Rattle.std.specs.Prelude.{◌≡◌, Some, None, option_map}
 use Rattle.std.proofs.Common.{sym, ◌∙◌, ap, subst}
-use Rattle.engine_targets.specs.Opened.{opened, as_opened, number_of}
+use Rattle.sub_reader.specs.Opened.{opened, as_opened, number_of}
 use Rattle.open_handles.specs.Whole.{Whole, handles_in, name_at}
 use Rattle.open_handles.specs.declared.handles.Opened.{Opened as OpenedAs}
 use Rattle.handle_requests.proofs.Owns.{own_among, alike, unlike, opened_none, opened_other, opened_here}

@@ -20,7 +20,7 @@ returns-in_err-owed-clause-err c =
     let p = err_from_is_err_and c.from_residual.result c.from_residual.ensures.1 in
     rw (p.1, p.2) (owed_told c.answers_are_read.ensures (content_in c.args.tables.now) c.args.tables.now.handles.rows.next
     (subst (λ (w : Whole). AreRising 0 (map (λ h. h.number) (handles_in w)) w.rows.next) c.handles-handles.ensures c.handles_are_placed.ensures.rise)
-    c.args.conn c.args.handle c.args.size c.args.asked.now.own.opening.now.wait (directory_source c.args.asked.now.own.opening.now.kind c.args.asked.now.own.opening.now.filter c.args.asked.now.glance.is_over c.lent_objects-objects.result)
+    c.args.conn c.args.handle c.args.size c.args.asked.now.own.opening.now.options.wait (directory_source c.args.asked.now.own.opening.now.kind c.args.asked.now.own.opening.now.options.filter c.args.asked.now.glance.is_over c.lent_objects-objects.result)
     (directory_reader c.args.tables.now c.args.tables.now.handles.rows.next
     (subst (λ (w : Whole). AreRising 0 (map (λ h. h.number) (handles_in w)) w.rows.next) c.handles-handles.ensures c.handles_are_placed.ensures.rise)
     c.args.conn c.args.handle c.args.asked.now.own c.requires.own c.requires.reads c.requires.directory c.args.asked.now.glance.is_over
@@ -41,7 +41,7 @@ given c =
     (λ i. answer_by (directory_source (sym c.kind.ensures i) (sym c.filter.ensures i) c.args.asked.now.glance.is_over c.lent_objects-objects.result) (sym c.waits.ensures i) c.args.size c.in_ok-owed.owed)
     (answer_told c.answers_are_read.ensures (content_in c.args.tables.now) c.args.tables.now.handles.rows.next
     (subst (λ (w : Whole). AreRising 0 (map (λ h. h.number) (handles_in w)) w.rows.next) c.handles-handles.ensures c.handles_are_placed.ensures.rise)
-    c.args.conn c.args.handle c.args.size c.args.asked.now.own.opening.now.wait (directory_source c.args.asked.now.own.opening.now.kind c.args.asked.now.own.opening.now.filter c.args.asked.now.glance.is_over c.lent_objects-objects.result)
+    c.args.conn c.args.handle c.args.size c.args.asked.now.own.opening.now.options.wait (directory_source c.args.asked.now.own.opening.now.kind c.args.asked.now.own.opening.now.options.filter c.args.asked.now.glance.is_over c.lent_objects-objects.result)
     (directory_reader c.args.tables.now c.args.tables.now.handles.rows.next
     (subst (λ (w : Whole). AreRising 0 (map (λ h. h.number) (handles_in w)) w.rows.next) c.handles-handles.ensures c.handles_are_placed.ensures.rise)
     c.args.conn c.args.handle c.args.asked.now.own c.requires.own c.requires.reads c.requires.directory c.args.asked.now.glance.is_over

@@ -14,7 +14,7 @@ use Rattle.pps_cli.proofs.sessions.serve_sessions.Goals as goal
 
 pub write_answers-requires-clause-named : goal.write_answers-requires-clause-named
 write_answers-requires-clause-named g c =
-    served-names c.in-Ok.served.segments.items _ _ c.in_ok-sessions.sessions.items c.in-Ok.served.sessions.items c.in-Ok.ensures.joins c.in-Ok.ensures.served
+    served-names c.in-Ok.served.segments.items _ _ c.in_ok-sessions.sessions.items c.in-Ok.served.sessions.items c.in-Ok.ensures.joins c.in-Ok.ensures.named
 
 pub returns-in_err-write_answers-in-Ok-clause-some : goal.returns-in_err-write_answers-in-Ok-clause-some
 returns-in_err-write_answers-in-Ok-clause-some g c =
@@ -32,7 +32,7 @@ returns-in_err-write_answers-in-Ok-clause-some g c =
     let distinct : are_distinct (connections_of olds) ≡ true = search rules in
     let of = subst (λ (fs : List (Bor (List ℕ))). AreOfFiles held (names fs) olds) named c.in_ok-sessions.ensures.scripts in
     let served = are-served files olds history _ _ count (of_scripts held files olds of) distinct c.in_ok-engine.ensures c.in-Ok.ensures.joins c.in-Ok.ensures.replays c.in-Ok.ensures.merge in
-    prints-some-files held files olds news history before after of served c.in-Ok.ensures.served _ _ c.from_residual-in_err-write_answers-in-Ok.result
+    prints-some-files held files olds news history before after of served c.in-Ok.ensures.named _ _ c.from_residual-in_err-write_answers-in-Ok.result
     (subst (λ (fs : List (Bor (List ℕ))). SendsPart before after (sessions_text (names fs) (connections_of news) (joined history))) named
     c.in_err-write_answers-in-Ok.ensures.bytes)
 
@@ -52,6 +52,6 @@ returns-in_ok-write_answers-in-Ok-clause-all g c =
     let distinct : are_distinct (connections_of olds) ≡ true = search rules in
     let of = subst (λ (fs : List (Bor (List ℕ))). AreOfFiles held (names fs) olds) named c.in_ok-sessions.ensures.scripts in
     let served = are-served files olds history _ _ count (of_scripts held files olds of) distinct c.in_ok-engine.ensures c.in-Ok.ensures.joins c.in-Ok.ensures.replays c.in-Ok.ensures.merge in
-    prints-files held files olds news history before after of served c.in-Ok.ensures.served
+    prints-files held files olds news history before after of served c.in-Ok.ensures.named
     (subst (λ (fs : List (Bor (List ℕ))). Appends before after (sessions_text (names fs) (connections_of news) (joined history))) named
     c.in_ok-write_answers-in-Ok.ensures.bytes)

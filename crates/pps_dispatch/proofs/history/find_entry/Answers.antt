@@ -8,4 +8,4 @@ returns c =
     finds_each-entry c.args.asked.now c.args.answered.now c.args.found.now _ c.args.place.segment c.args.place.index c.in-Some.number
     c.index-asked-number.result c.index-answered-number.result _ c.in_ok-next.next c.args.entry.now
     c.requires.distinct c.requires.answered c.requires.found c.in-Some.ensures.bound c.index-asked-number.is c.index-answered-number.is
-    (λ d. c.in-Some.ensures.own d ∙ ap (λ e. e.conn) c.event.ensures) refl (found_entry _ _ _ _ _ _ refl next.events next.receipts next.replies)
+    (λ d. c.in-Some.ensures.own d ∙ ap (λ e. e.conn) c.event.ensures) refl (found_entry _ _ _ _ _ _ refl next.events next.receipts)

@@ -26,5 +26,5 @@ loop-name-preserved c =
     answers-next (c.args.out.now.items ++ answers_of false entries) out c.print_answer.new.out.items entries c.loop-name.name-index entry c.loop-name.invariant
     (found-next segments entries c.loop-name.name-index _ entry
     (names-next segments c.receipts-name-items.result.now entries c.loop-name.name-index record { segment = 0; index = 0 } names c.loop-name-test.true)
-    c.entry_at-entry.ensures)
+    c.entry_at-entry.ensures.named)
     (c.in_ok-print_answer.ensures ∙ ap (λ e. out ++ answer_line e.conn c.reply.result.now) c.event.ensures ∙ ap (λ r. out ++ answer_line entry.event.conn r) c.reply.ensures)

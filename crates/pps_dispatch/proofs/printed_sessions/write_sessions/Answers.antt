@@ -1,4 +1,4 @@
-use Rattle.std.proofs.Common.{[], map, subst, sym, ◌∙◌, arith}
+use Rattle.std.proofs.Common.{[], map, subst, ◌∙◌, arith}
 use Rattle.std.specs.Io.KnownBytes.{Appends}
 use Rattle.std.proofs.lemmas.List.{length-map}
 use Rattle.std.proofs.lemmas.Result.{err_from_is_err_and}

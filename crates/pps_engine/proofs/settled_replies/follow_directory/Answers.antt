@@ -1,6 +1,6 @@
 use Rattle.std.proofs.Common.{◌≡◌, ◌++◌, ◌∙◌, OnOk, map, ap, sym, subst}
 use Rattle.std.specs.List.{flat_map}
-use Rattle.service_laws.specs.SettlingReplies.{pulse_and_reply}
+use Rattle.pps_types.specs.SettlingReplies.{pulse_and_reply}
 use Rattle.name_table.specs.Standing.{content_of, standing_of}
 use Rattle.whole_texts.specs.Followed.{moves_of}
 use Rattle.whole_texts.specs.Woken.{Behind}

@@ -1,7 +1,7 @@
 use Rattle.std.proofs.Common.{◌≡◌, ◌++◌, ◌&&◌, ◌∙◌, OnOk, ap, subst}
 use Rattle.std.specs.Prelude.{is_some}
 use Rattle.std.specs.List.{flat_map}
-use Rattle.service_laws.specs.SettlingReplies.{gives_everything, pulse_and_reply}
+use Rattle.pps_types.specs.SettlingReplies.{gives_everything, pulse_and_reply}
 use Rattle.whole_texts.specs.Followed.{moves_of}
 use Rattle.whole_texts.specs.Woken.{Behind}
 use Rattle.pps_engine.proofs.Shown.{records-shown}

@@ -4,7 +4,7 @@ use Rattle.std.specs.List.{flat_map}
 use Rattle.std.proofs.lemmas.List.{flat_map_more}
 use Rattle.pps_types.specs.Content.{handle_numbered}
 use Rattle.name_table.specs.Standing.{content_of, standing_of}
-use Rattle.engine_targets.specs.Opened.{handle_at}
+use Rattle.sub_reader.specs.Opened.{handle_at}
 use Rattle.whole_texts.specs.Followed.{moves_of}
 use Rattle.open_handles.specs.Whole.{handles_in}
 use Rattle.open_handles.proofs.Wakes.{more_taken}

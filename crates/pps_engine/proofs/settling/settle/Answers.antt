@@ -1,7 +1,7 @@
 use Rattle.std.proofs.Common.{◌≡◌, [], ap, sym, subst, ◌∙◌, rules}
 use Rattle.std.specs.List.{flat_map}
 use Rattle.pps_types.specs.Plan as planning
-use Rattle.engine_targets.specs.Woken.{woken_by}
+use Rattle.sub_reader.specs.Woken.{woken_by}
 use Rattle.whole_texts.specs.Followed.{moves_of}
 use Rattle.open_handles.specs.Whole.{Whole, handles_in}
 use Rattle.service_state.specs.Tables.{content_in}

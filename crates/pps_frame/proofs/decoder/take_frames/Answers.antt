@@ -5,7 +5,7 @@ use Rattle.pps_types.specs.declared.event.Event.{Event}
 use Rattle.pps_types.specs.Frame as frames
 use Rattle.pps_types.specs.Frame.{IsBytes, HasFrame, stream_of}
 use Rattle.pps_frame.specs.declared.decoder.Front.TheVariants.{Whole, Partial, Malformed}
-use Rattle.service_laws.proofs.FrameEvents.{IsBytes-drop}
+use Rattle.pps_frame.proofs.FrameEvents.{IsBytes-drop}
 use Rattle.pps_frame.proofs.Fronts.{front_is, first_at, goes_on, one_more}
 use Rattle.pps_frame.proofs.decoder.take_frames.Goals as goal
 

@@ -1,26 +1,18 @@
-use Rattle.std.proofs.Common.{◌++◌, ◌∙◌, Some, take, inl, inr, sym, ap, arith}
-use Rattle.std.specs.List.{concat}
-use Rattle.std.proofs.lemmas.Bool.{cases_lt}
-use Rattle.pps_types.specs.declared.refusal.Refusal.TheVariants.{TooSmall}
-use Rattle.pps_types.proofs.Fitting.{fitting-longest}
+use Rattle.std.proofs.Common.{◌++◌, ◌∙◌, ap, subst, arith}
 use Rattle.server_queue.specs.Blocks.{queue_blocks}
-use Rattle.server_queue.proofs.Needs.{needs_more, needs_no_more}
+use Rattle.server_queue.specs.Given.{GivesIfItFits}
+use Rattle.server_queue.specs.Shown.{printed_as}
+use Rattle.server_queue.proofs.Fits.{given_more, queue-runs}
 use Rattle.server_queue.proofs.plan.plan_read.Goals as goal
 
-pub returns-then-need-max-clause-refusal : goal.returns-then-need-max-clause-refusal
-returns-then-need-max-clause-refusal c other = elim (cases_lt c.in-Some.need 4294967296) [
-  | inl lt ↦
-      let more = needs_more (c.args.owed.now.items ++ c.args.extra.now) c.entry_at.result.now c.args.max c.entry_at.ensures (omega (arith, c.in-Some.ensures.some, c.if-need-max.true)) in
-      ap Some (c.too_small.ensures.small lt) ∙ ap (λ n. Some (TooSmall n)) c.in-Some.ensures.some ∙ sym more
-  | inr le ↦ absurd (other (ap Some (c.too_small.ensures.large le)))
-]
-
-pub returns-in-Ok-clause-refusal : goal.returns-in-Ok-clause-refusal
-returns-in-Ok-clause-refusal c other = sym (needs_no_more (c.args.owed.now.items ++ c.args.extra.now) c.entry_at.result.now c.args.max c.entry_at.ensures (omega (arith, c.in-Some.ensures.some, c.if-need-max.false)))
-
-pub returns-in-Ok-clause-ok : goal.returns-in-Ok-clause-ok
-returns-in-Ok-clause-ok c =
-    let blocks = queue_blocks (c.args.owed.now.items ++ c.args.extra.now) in
-    let longest = fitting-longest c.args.max blocks in
-    let bytes = c.in-Ok.ensures ∙ ap (λ n. concat (take n blocks)) c.count_fitting-fitting.ensures.fits ∙ sym longest.bytes in
-    λ i. (c.count_fitting-fitting.ensures.fits i, bytes i)
+pub places-preserved : goal.places-preserved
+places-preserved c =
+    let entries = c.args.owed.now.items ++ c.args.extra.now in
+    let shown = c.in_queue-shown.result in
+    let text = printed_as c.name.result.now shown in
+    let runs = queue-runs c.args.max (queue_blocks entries) entries c.places.place c.entry_at-entry.result.now text c.places.run c.entry_at-entry.ensures (ap (λ n. printed_as n shown) c.name.ensures ∙ c.in_queue-shown.ensures) c.places.invariant.runs in
+    let gives = subst (GivesIfItFits text c.places.run c.put.new.self) c.if-not-branch.false c.in_ok-put.ensures.ok in
+    record {
+      few = omega (arith, gives.count, c.places.invariant.few);
+      runs = given_more c.args.max (queue_blocks entries) _ _ c.places.run runs c.put.new.self gives;
+    }

@@ -1,4 +1,5 @@
-use Rattle.service_laws.proofs.Kept.{records-shown, longest-length, owed-kept}
+use Rattle.pps_types.proofs.Chains.{longest-length}
+use Rattle.service_laws.proofs.Kept.{records-shown, owed-kept}
 use Rattle.service_laws.proofs.laws_of_runs.records_are_kept.Goals as goal
 
 pub returns : goal.returns

@@ -3,7 +3,8 @@ use Rattle.std.proofs.Common.{sym, ◌∙◌, ap, subst, inl, le_refl}
 use Rattle.pps_types.specs.Reading.{Open, visible}
 use Rattle.pps_types.specs.Rests.{Seen}
 use Rattle.open_handles.specs.Whole.{is_on, handles_in, handles_at}
-use Rattle.service_state.proofs.Begins.{room_first, shared_stays, same-offered}
+use Rattle.open_handles.proofs.Firsts.{room_first}
+use Rattle.service_state.proofs.Begins.{shared_stays, same-offered}
 use Rattle.service_state.proofs.creating.tell_both.Goals as goal
 
 pub offer-requires-clause-room : goal.offer-requires-clause-room

@@ -1,7 +1,7 @@
 use Rattle.std.proofs.Common.{◌≡◌, ◌++◌, [], OnOk, ap, sym, subst, ◌∙◌, append_assoc}
 use Rattle.std.specs.List.{flat_map}
 use Rattle.pps_types.specs.Plan.{late_reply}
-use Rattle.engine_targets.specs.Opened.{opened}
+use Rattle.sub_reader.specs.Opened.{opened}
 use Rattle.whole_texts.specs.Replied.{meant}
 use Rattle.whole_texts.specs.Woken.{Waiting, IsWoken}
 use Rattle.whole_texts.specs.Followed.{moves_of, fired_by}

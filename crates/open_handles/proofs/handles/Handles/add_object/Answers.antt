@@ -3,7 +3,7 @@ use Rattle.std.specs.Prelude.{option_map}
 use Rattle.std.specs.Option.{option_map_or}
 use Rattle.pps_types.specs.declared.found.Found.{Found}
 use Rattle.pps_types.specs.declared.found.Found.TheVariants.{Object as FoundObject}
-use Rattle.engine_servers.specs.Seated.{places_of as places_for}
+use Rattle.topics.specs.Seated.{places_of as places_for}
 use Rattle.open_handles.specs.Whole.{Whole, Fresh, handles_in, seats_at, site_of, KeepsPlaces, KeepsRecords}
 use Rattle.open_handles.proofs.Wholes.{added_fresh}
 use Rattle.open_handles.proofs.handles.Handles.add_object.Goals as goal

@@ -2,7 +2,7 @@ use Rattle.std.proofs.Common.{◌≡◌, ◌<◌, Some, None, length, sym, ap, s
 use Rattle.std.specs.Option.{option_copied_mut}
 use Rattle.pps_types.specs.Plan as planning
 use Rattle.number_table.specs.Numbered.{has_number, value_under, without_first}
-use Rattle.engine_servers.specs.Seated.{handles_of}
+use Rattle.topics.specs.Seated.{handles_of}
 use Rattle.open_handles.specs.Whole.{Whole, handles_in, with_place, KeepsSites, KeepsPlaces, KeepsRecords}
 use Rattle.open_handles.proofs.Finds.{without_some}
 use Rattle.open_handles.proofs.Turns.{whole_of, not_gone, close_absent, turn_sites, turn_places, turn_records, left, left_whole}

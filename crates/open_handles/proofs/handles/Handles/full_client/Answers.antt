@@ -5,7 +5,7 @@ use Rattle.pps_types.specs.declared.found.Found.TheVariants.{Object as FoundObje
 use Rattle.pps_types.specs.Reading.{Open}
 use Rattle.pps_types.specs.Rests.{Seen}
 use Rattle.pps_types.specs.Checks.{count_owed, is_server_message, is_client}
-use Rattle.engine_servers.specs.declared.seats.Seats.{Seats}
+use Rattle.topics.specs.declared.topic.Topic.{Topic}
 use Rattle.open_handles.specs.Whole.{Whole, site_of, site_at, handles_at, handles_in_place}
 use Rattle.open_handles.proofs.handles.Handles.full_client.Goals as goal
 
@@ -16,9 +16,9 @@ Told r hs = r ≡ option_map (λ (h : Open Seen). h.number) (find (λ (h : Open 
 pub returns-in-None : goal.returns-in-None
 returns-in-None c =
     subst (λ (w : Whole). IfSome (site_at (FoundObject c.args.object) w) (λ s. s.service ≡ true → Told None (handles_at (FoundObject c.args.object) w))) c.self.view_is
-    (subst (λ (o : Option Seats). IfSome (option_map site_of o) (λ s. s.service ≡ true → Told None (handles_in_place o))) (sym (ap option_copied c.in-None.is) ∙ c.get.ensures) tt)
+    (subst (λ (o : Option Topic). IfSome (option_map site_of o) (λ s. s.service ≡ true → Told None (handles_in_place o))) (sym (ap option_copied c.in-None.is) ∙ c.get.ensures) tt)
 
 pub returns-in-Some : goal.returns-in-Some
 returns-in-Some c =
     subst (λ (w : Whole). IfSome (site_at (FoundObject c.args.object) w) (λ s. s.service ≡ true → Told c.full_client.result (handles_at (FoundObject c.args.object) w))) c.self.view_is
-    (subst (λ (o : Option Seats). IfSome (option_map site_of o) (λ s. s.service ≡ true → Told c.full_client.result (handles_in_place o))) (sym (ap option_copied c.in-Some.is) ∙ c.get.ensures) c.full_client.ensures)
+    (subst (λ (o : Option Topic). IfSome (option_map site_of o) (λ s. s.service ≡ true → Told c.full_client.result (handles_in_place o))) (sym (ap option_copied c.in-Some.is) ∙ c.get.ensures) c.full_client.ensures)

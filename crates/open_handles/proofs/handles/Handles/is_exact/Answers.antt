@@ -1,7 +1,7 @@
 use Rattle.std.proofs.Common.{◌≡◌, subst}
 use Rattle.pps_types.specs.declared.found.Found.{Found}
 use Rattle.pps_types.specs.Owed.{longest_rest}
-use Rattle.engine_targets.specs.Opened.{is_directory, number_of}
+use Rattle.sub_reader.specs.Opened.{is_directory, number_of}
 use Rattle.open_handles.specs.Whole.{Whole, handles_in, kept_at}
 use Rattle.open_handles.proofs.Turns.{exact_here}
 use Rattle.open_handles.proofs.handles.Handles.is_exact.Goals as goal

@@ -5,8 +5,8 @@ use Rattle.pps_types.specs.declared.found.Found.TheVariants.{Object as FoundObje
 use Rattle.pps_types.specs.Reading.{Open}
 use Rattle.pps_types.specs.Rests.{Seen}
 use Rattle.pps_types.specs.Checks.{count_owed, is_message_of}
-use Rattle.engine_targets.specs.Opened.{handle_at}
-use Rattle.engine_servers.specs.declared.seats.Seats.{Seats}
+use Rattle.sub_reader.specs.Opened.{handle_at}
+use Rattle.topics.specs.declared.topic.Topic.{Topic}
 use Rattle.open_handles.specs.Whole.{Whole, site_of, site_at, handles_at, handles_in_place}
 use Rattle.open_handles.proofs.handles.Handles.is_server_full.Goals as goal
 
@@ -17,9 +17,9 @@ Told server client r hs = r ≡ option_map_or (λ (h : Open Seen). nat_le h.limi
 pub returns-in-None : goal.returns-in-None
 returns-in-None c =
     subst (λ (w : Whole). IfSome (site_at (FoundObject c.args.object) w) (λ s. s.service ≡ true → Told c.args.server c.args.client false (handles_at (FoundObject c.args.object) w))) c.self.view_is
-    (subst (λ (o : Option Seats). IfSome (option_map site_of o) (λ s. s.service ≡ true → Told c.args.server c.args.client false (handles_in_place o))) (sym (ap option_copied c.in-None.is) ∙ c.get.ensures) tt)
+    (subst (λ (o : Option Topic). IfSome (option_map site_of o) (λ s. s.service ≡ true → Told c.args.server c.args.client false (handles_in_place o))) (sym (ap option_copied c.in-None.is) ∙ c.get.ensures) tt)
 
 pub returns-in-Some : goal.returns-in-Some
 returns-in-Some c =
     subst (λ (w : Whole). IfSome (site_at (FoundObject c.args.object) w) (λ s. s.service ≡ true → Told c.args.server c.args.client c.is_server_full.result (handles_at (FoundObject c.args.object) w))) c.self.view_is
-    (subst (λ (o : Option Seats). IfSome (option_map site_of o) (λ s. s.service ≡ true → Told c.args.server c.args.client c.is_server_full.result (handles_in_place o))) (sym (ap option_copied c.in-Some.is) ∙ c.get.ensures) c.is_server_full.ensures)
+    (subst (λ (o : Option Topic). IfSome (option_map site_of o) (λ s. s.service ≡ true → Told c.args.server c.args.client c.is_server_full.result (handles_in_place o))) (sym (ap option_copied c.in-Some.is) ∙ c.get.ensures) c.is_server_full.ensures)

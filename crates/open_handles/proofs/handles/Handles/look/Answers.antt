@@ -2,9 +2,9 @@ use Rattle.std.proofs.Common.{◌≡◌, Some, None, sym, ap, subst, ◌∙◌}
 use Rattle.std.specs.Prelude.{option_map}
 use Rattle.std.specs.Option.{option_copied}
 use Rattle.number_table.specs.Numbered.{value_under}
-use Rattle.engine_targets.specs.Opened.{handle_at, number_of}
-use Rattle.engine_targets.specs.Glances.{glanced, glance_on}
-use Rattle.engine_servers.specs.Seated.{target_of, name_of, handles_of}
+use Rattle.sub_reader.specs.Opened.{handle_at, number_of}
+use Rattle.sub_reader.specs.Glances.{glanced, glance_on}
+use Rattle.topics.specs.Seated.{target_of, name_of, handles_of}
 use Rattle.open_handles.specs.Whole.{Whole, handles_in, name_at}
 use Rattle.open_handles.proofs.Turns.{in_place, in_no_place, not_gone}
 use Rattle.open_handles.proofs.Looks.{name_here, glance_here}

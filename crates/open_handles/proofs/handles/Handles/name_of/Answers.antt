@@ -1,12 +1,12 @@
 use Rattle.std.proofs.Common.{◌≡◌, ◌∙◌, List, ℕ, [], Option, sym, ap, subst}
 use Rattle.std.specs.Prelude.{option_map}
 use Rattle.std.specs.Option.{option_copied, option_map_or}
-use Rattle.engine_servers.specs.declared.seats.Seats.{Seats}
+use Rattle.topics.specs.declared.topic.Topic.{Topic}
 use Rattle.open_handles.specs.Whole.{Whole, Site, site_of, name_at}
 use Rattle.open_handles.proofs.handles.Handles.name_of.Goals as goal
 
 -- the name in a place
-abbrev named : Option Seats → List ℕ
+abbrev named : Option Topic → List ℕ
 named s = option_map_or (λ (s : Site). s.name) (option_map site_of s) []
 
 pub returns-in-None : goal.returns-in-None

@@ -2,7 +2,7 @@ use Rattle.std.proofs.Common.{ap, subst, ◌∙◌}
 use Rattle.pps_types.specs.declared.found.Found.TheVariants.{Directory as FoundDirectory}
 use Rattle.pps_types.specs.declared.record.Record.{Record}
 use Rattle.pps_types.specs.History.{Entry}
-use Rattle.engine_servers.specs.Shared.{Shared}
+use Rattle.server_queue.specs.Shared.{Shared}
 use Rattle.open_handles.specs.Whole.{IsWhole}
 use Rattle.open_handles.proofs.Offers.{room_mid, both_offered, both_room}
 use Rattle.open_handles.proofs.handles.Handles.offer.Goals as goal

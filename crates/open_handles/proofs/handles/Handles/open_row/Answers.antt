@@ -2,8 +2,8 @@ use Rattle.std.proofs.Common.{◌≡◌, ◌≤◌, ◌∷◌, ◌++◌, [], ref
 use Rattle.pps_types.specs.declared.found.Found.{Found}
 use Rattle.pps_types.specs.Reading.{Open}
 use Rattle.pps_types.specs.Rests.{Seen}
-use Rattle.engine_targets.specs.Opened.{number_of}
-use Rattle.engine_servers.specs.Seated.{handles_of}
+use Rattle.sub_reader.specs.Opened.{number_of}
+use Rattle.topics.specs.Seated.{handles_of}
 use Rattle.open_handles.specs.Whole.{Whole, handles_in, with_place, name_at, SuitsAt, KeepsSites}
 use Rattle.open_handles.proofs.Turns.{whole_of, come, come_whole, below_new, suits_there, first_handle, same_first, turn_sites}
 use Rattle.open_handles.proofs.handles.Handles.open_row.Goals as goal

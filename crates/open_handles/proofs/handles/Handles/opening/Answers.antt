@@ -2,8 +2,8 @@ use Rattle.std.proofs.Common.{◌≡◌, Some, None, sym, ap, subst, ◌∙◌}
 use Rattle.std.specs.Prelude.{option_map}
 use Rattle.std.specs.Option.{option_copied}
 use Rattle.number_table.specs.Numbered.{value_under}
-use Rattle.engine_targets.specs.Opened.{opened, as_opened, handle_at, number_of}
-use Rattle.engine_servers.specs.Seated.{target_of, name_of}
+use Rattle.sub_reader.specs.Opened.{opened, as_opened, handle_at, number_of}
+use Rattle.topics.specs.Seated.{target_of, name_of}
 use Rattle.open_handles.specs.Whole.{Whole, handles_in, name_at}
 use Rattle.open_handles.proofs.Turns.{in_no_place, not_gone, opening_here}
 use Rattle.open_handles.proofs.handles.Handles.opening.Goals as goal

@@ -1,6 +1,6 @@
 use Rattle.std.proofs.Common.{refl, sym, ap, subst, ◌∙◌}
 use Rattle.std.specs.Option.{option_copied_mut}
-use Rattle.engine_servers.specs.Seated.{IsReady}
+use Rattle.topics.specs.Seated.{IsReady}
 use Rattle.open_handles.specs.Whole.{Whole, with_place, IsReserved}
 use Rattle.open_handles.proofs.Finds.{on_ok_then}
 use Rattle.open_handles.proofs.Turns.{whole_of, same_turned_whole}

@@ -1,6 +1,6 @@
 use Rattle.std.proofs.Common.{take, sym, ap, ◌∙◌}
 use Rattle.std.proofs.lemmas.List.{take_all}
-use Rattle.engine_targets.specs.Woken.{woken_by}
+use Rattle.sub_reader.specs.Woken.{woken_by}
 use Rattle.open_handles.specs.Whole.{handles_in}
 use Rattle.open_handles.specs.United.{united}
 use Rattle.open_handles.proofs.Finds.{is_rising}

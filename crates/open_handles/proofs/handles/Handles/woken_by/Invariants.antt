@@ -1,5 +1,5 @@
 use Rattle.std.proofs.Common.{◌≡◌, take}
-use Rattle.engine_targets.specs.Woken.{woken_by}
+use Rattle.sub_reader.specs.Woken.{woken_by}
 use Rattle.open_handles.specs.Whole.{handles_in}
 use Rattle.open_handles.proofs.handles.Handles.woken_by.Given as goal
 

@@ -1,6 +1,6 @@
 use Rattle.std.proofs.Common.{◌∷◌, [], ap, ◌∙◌}
 use Rattle.pps_types.specs.declared.found.Found.TheVariants.{Object as FoundObject, Directory as FoundDirectory}
-use Rattle.engine_targets.specs.Woken.{woken_by}
+use Rattle.sub_reader.specs.Woken.{woken_by}
 use Rattle.open_handles.specs.Whole.{handles_in, handles_at}
 use Rattle.open_handles.specs.United.{united}
 use Rattle.open_handles.proofs.Finds.{is_rising}

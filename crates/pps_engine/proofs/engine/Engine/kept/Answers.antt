@@ -16,7 +16,6 @@ returns c =
     let there : at (content_in t) c.args.path.now ≡ Some found =
     ap (λ (look : Path → _). look c.args.path.now) (sym (c.questions_are_told.ensures.at (content_in t)))
     ∙ ap (λ (n : Named). at (content_of (standing_of n)) c.args.path.now) (sym c.names.ensures)
-    ∙ ap (at (content_of (standing_of c.names.result.now))) (sym c.names-2.ensures)
     ∙ sym (c.in_ok-found.ensures) in
     subst (λ (s : Serving). Some c.kept.result ≡ kept_seen s.content c.args.path.now) c.self.view_is
     (subst (λ (u : Tabled). Some c.kept.result ≡ kept_seen (content_in u) c.args.path.now) c.deref-tables.ensures

@@ -1,6 +1,6 @@
 use Rattle.std.proofs.Common.{sym, ◌∙◌, arith}
 use Rattle.std.specs.Arc.{arc_value}
-use Rattle.service_laws.proofs.StandsLaw.{steps-stand}
+use Rattle.pps_engine.proofs.Runs.{steps-stand}
 use Rattle.pps_lock.proofs.Replaying.{replays-longer}
 use Rattle.pps_lock.proofs.book.Book.step.Goals as goal
 

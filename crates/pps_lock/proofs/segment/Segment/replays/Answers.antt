@@ -1,5 +1,5 @@
 use Rattle.std.proofs.Common.{sym}
-use Rattle.service_laws.proofs.StandsLaw.{runs-stand}
+use Rattle.pps_engine.proofs.Runs.{runs-stand}
 use Rattle.pps_lock.proofs.segment.Segment.replays.Goals as goal
 
 pub returns-clause-runs : goal.returns-clause-runs

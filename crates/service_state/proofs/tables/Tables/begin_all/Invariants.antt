@@ -2,7 +2,7 @@ use Rattle.std.proofs.Common.{◌≡◌, true}
 use Rattle.std.specs.List.{flat_map, list_all}
 use Rattle.pps_types.specs.Plan as planning
 use Rattle.pps_types.specs.declared.found.Found.{Found}
-use Rattle.engine_targets.specs.declared.opening.Opening.{Opening}
+use Rattle.sub_reader.specs.declared.opening.Opening.{Opening}
 use Rattle.open_handles.specs.Whole.{KeepsSites}
 use Rattle.service_state.specs.Beginning.{moves_of, AreReady, is_keeping}
 use Rattle.service_state.specs.Tables.{content_in}

@@ -2,7 +2,7 @@ use Rattle.std.specs.Prelude.{◌≡◌, ◌+◌, ◌<◌, [], ◌∷◌}
 use Rattle.std.specs.List.{AllByRecursion}
 use Rattle.std.proofs.Common.{refl, sym, ◌∙◌, ap, subst}
 use Rattle.pps_types.specs.Plan as planning
-use Rattle.engine_targets.specs.Opened.{opened, number_of}
+use Rattle.sub_reader.specs.Opened.{opened, number_of}
 use Rattle.open_handles.specs.Whole.{name_at}
 use Rattle.notify_box.specs.Standing.{handles_of}
 use Rattle.notify_box.specs.Connections.{connections_of}

@@ -1,9 +1,0 @@
-use Rattle.std.proofs.Common.{◌≤◌, length}
-use Rattle.pps_dispatch.proofs.Lines.{ReadSoFar}
-use Rattle.pps_dispatch.proofs.scripts.frames_of.Given as goal
-
-abbrev pub invariant-lines : goal.invariant-lines
-invariant-lines l = ReadSoFar l.conn l.text l.rest l.frames.items l.number
-
-abbrev pub decreases-lines : goal.decreases-lines
-decreases-lines l = length l.rest

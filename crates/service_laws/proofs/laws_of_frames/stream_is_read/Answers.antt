@@ -1,5 +1,0 @@
-use Rattle.service_laws.proofs.FrameStreams as laws
-use Rattle.service_laws.proofs.laws_of_frames.stream_is_read.Goals as goal
-
-pub returns : goal.returns
-returns c = laws.stream_is_read

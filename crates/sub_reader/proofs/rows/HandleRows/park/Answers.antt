@@ -1,0 +1,27 @@
+use Rattle.std.proofs.Common.{◌∙◌, get_or, set, subst, ap, sym, refl, arith}
+use Rattle.std.specs.Prelude.{IsSome}
+use Rattle.sub_reader.specs.Rows.{row_at, rows_in, rows_of, rank, on_row, parked_with}
+use Rattle.sub_reader.proofs.Gaps.{place_within, sound_set, rows_set}
+use Rattle.sub_reader.proofs.rows.HandleRows.park.Goals as goal
+
+pub index_mut-slot-requires : goal.index_mut-slot-requires
+index_mut-slot-requires g c =
+    let lt = place_within c.self.inside.slots.items c.args.place (subst (λ v. IsSome (row_at c.args.place v.slots)) (sym c.self.view_is) c.requires) in
+    omega arith
+
+pub invariant_of-self : goal.invariant_of-self
+invariant_of-self g c =
+    let ss = c.self.inside.slots.items in
+    let s = c.index_mut-slot.result.now in
+    let some = subst (λ v. IsSome (row_at c.args.place v.slots)) (sym c.self.view_is) c.requires in
+    rw (c.park_in.ensures, c.index_mut-slot.ensures.value)
+    (sound_set ss c.self.inside.count c.args.place (parked_with c.args.size) s (λ r. refl) some c.self.invariant)
+
+pub returns-clause-rows : goal.returns-clause-rows
+returns-clause-rows g c = λ d.
+    let ss = c.self.inside.slots.items in
+    let s = c.index_mut-slot.result.now in
+    let some = subst (λ v. IsSome (row_at c.args.place v.slots)) (sym c.self.view_is) c.requires in
+    ap (λ t. rows_in (set ss c.args.place t)) (c.park_in.ensures ∙ ap (on_row (parked_with c.args.size)) c.index_mut-slot.ensures.value)
+    ∙ rows_set ss c.args.place (parked_with c.args.size) s d some
+    ∙ ap (λ v. set (rows_of v) (rank c.args.place v.slots) (parked_with c.args.size (get_or (rows_of v) (rank c.args.place v.slots) d))) c.self.view_is

@@ -1,0 +1,19 @@
+use Rattle.std.proofs.Common.{sym, ap, ◌∙◌, Some, None}
+use Rattle.std.specs.Prelude.{option_map}
+use Rattle.sub_reader.specs.Opened.{handle_at, is_directory, number_of}
+use Rattle.sub_reader.specs.Glances.{glanced, glance_on}
+use Rattle.sub_reader.proofs.Finds.{found-handle, found-right}
+use Rattle.sub_reader.specs.Rows.{rows_of}
+use Rattle.sub_reader.proofs.subscribers.Subscribers.glance.Goals as goal
+
+pub returns-in-None : goal.returns-in-None
+returns-in-None c =
+    let t = c.self.inside in
+    ap (option_map glanced) (found-handle (number_of t.of) t.name t.records.start t.records.items (rows_of t.rows) c.args.number None c.in-None.ensures ∙ ap (λ v. handle_at c.args.number v.handles) c.self.view_is)
+
+pub returns-in-Some : goal.returns-in-Some
+returns-in-Some c =
+    let t = c.self.inside in
+    ap (λ v. Some (glance_on (number_of v.of) v.name c.glance_at.result)) (sym c.self.view_is)
+    ∙ ap Some (c.glance_at.ensures (number_of t.of) t.name t.records.start t.records.items (found-right (number_of t.of) t.name t.records.start t.records.items (rows_of t.rows) c.args.number (is_directory t.of) c.in-Some.reader.now c.self.invariant.loose.each c.in-Some.ensures))
+    ∙ ap (option_map glanced) (found-handle (number_of t.of) t.name t.records.start t.records.items (rows_of t.rows) c.args.number (Some c.in-Some.reader.now) c.in-Some.ensures ∙ ap (λ v. handle_at c.args.number v.handles) c.self.view_is)

@@ -1,0 +1,16 @@
+pub mod Opened
+pub mod HandleAt
+pub mod Rows
+pub mod Readers
+pub mod Places
+pub mod Chained
+pub mod Offered
+pub mod Counts
+pub mod Standing
+pub mod Blocks
+pub mod Woken
+pub mod Seated
+pub mod Alike
+pub mod Glances
+pub mod Audience
+pub mod Lines

@@ -1,0 +1,13 @@
+pub mod Moves
+pub mod Seen
+pub mod Openings
+pub mod Walks
+pub mod Offering
+pub mod Roomed
+pub mod Given
+pub mod Waking
+pub mod Copying
+pub mod Seating
+pub mod Spans
+pub mod Shared
+pub mod Alike

@@ -1,0 +1,12 @@
+pub mod QueueRows
+pub mod Made
+pub mod Standing
+pub mod Walks
+pub mod Offers
+pub mod Rooms
+pub mod Woken
+pub mod Held
+pub mod Spans
+pub mod Seated
+pub mod Backlogs
+pub mod Glances

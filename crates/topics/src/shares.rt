@@ -1,0 +1,62 @@
+//! Shares of one record, made ahead.
+ghost use Rattle.std.specs.Prelude.{◌≡◌, ◌+◌, ◌<◌, Some, IfOk};
+
+use crate::made::Made;
+use server_queue::Entry;
+use std::alloc::{AllocError, Global};
+use std::marker::Model;
+
+/// A record, and shares of it that were made ahead: one for each queue that it goes to.
+#[derive(Drop)]
+pub struct Shares {
+    entry: Entry,
+    made: Made,
+}
+
+impl Model for Shares {
+    ghost use Rattle.std.specs.Prelude.{length};
+    ghost use Rattle.topics.specs.Made.{shares_in, AreOf};
+    ghost use Rattle.server_queue.specs.Shared.{Shared};
+
+    ghost Value = { Shared };
+
+    ghost view = { λ s. record { entry = s.entry; count = length (shares_in s.made) } };
+
+    ghost invariant = { λ s. AreOf s.entry s.made };
+}
+
+impl Shares {
+    /// A record, with so many shares of it.
+    ///
+    /// AllocError comes only where memory is wanting.
+    pub fn new(alloc: Global, entry: Entry, count: usize) -> Result<Shares, AllocError>
+        ensures { IfOk result (λ shares. shares ≡ record { entry = entry; count = count }) }
+    {
+        let made = Made::new(alloc, &entry, count)?;
+        Ok(Shares { entry, made })
+    }
+
+    /// The record.
+    pub fn entry(&self) -> &Entry
+        ensures { result.now ≡ self.now.entry }
+    {
+        &self.entry
+    }
+
+    /// The record alone, without the shares of it.
+    pub fn into_entry(self) -> Entry
+        ensures { result ≡ self.entry }
+    {
+        self.entry
+    }
+
+    // Takes one of the shares.
+    pub(crate) fn take(&mut self) -> Option<Entry>
+        requires { 0 < self.old.count }
+        ensures entry { self.new.entry ≡ self.old.entry }
+        ensures count { self.new.count + 1 ≡ self.old.count }
+        ensures taken { result ≡ Some self.old.entry }
+    {
+        self.made.take()
+    }
+}
