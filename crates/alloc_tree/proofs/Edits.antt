@@ -12,7 +12,7 @@ use Rattle.pps_types.specs.Names.{Name, Path, name_cmp, path_cmp}
 use Rattle.alloc_tree.specs.Path.{Changes}
 use Rattle.alloc_tree.specs.Contents.{Contents}
 use Rattle.alloc_tree.specs.View.{flatten, standing, room, deepest, contents_of}
-use Rattle.alloc_tree.specs.Entries.{AllBelow, AllAbove, IsRising, IsGapFor}
+use Rattle.alloc_tree.specs.Entries.{AllBelow, AllAbove, NamesRise, IsGapFor}
 use Rattle.alloc_tree.specs.declared.directory.Entry.{Entry}
 use Rattle.alloc_tree.specs.declared.directory.Node.{Node}
 use Rattle.alloc_tree.proofs.Orders.{names_total, names_exact, Differ, then_differ}
@@ -65,7 +65,7 @@ module _ {A X : Type 0} (own : Node A → List (Path × X)) (a b : List (Entry A
 
 -- the order of the names through an edit
 module _ {A : Type 0} where
-  rising_join : (a b : List (Entry A)) (n : Name) → IsRising a → IsRising b → AllBelow n a → AllAbove n b → (e : Entry A) → e.name.items ≡ n → IsRising (a ++ e ∷ b)
+  rising_join : (a b : List (Entry A)) (n : Name) → NamesRise a → NamesRise b → AllBelow n a → AllAbove n b → (e : Entry A) → e.name.items ≡ n → NamesRise (a ++ e ∷ b)
   rising_join [] b n ra rb below above e is = (subst (λ m. AllAbove m b) (sym is) above, rb)
   rising_join (x ∷ a) b n ra rb below above e is =
       (names_joined _ a (e ∷ b) ra.0 (subst (λ m. name_cmp x.name.items m ≡ Less) (sym is) below.0, all_above n x b below.0 above), rising_join a b n ra.1 rb below.1 above e is)
@@ -74,21 +74,21 @@ module _ {A : Type 0} where
       all_above n x [] less h = tt
       all_above n x (y ∷ es) less h = (names_total.trans x.name.items n y.name.items less h.0, all_above n x es less h.1)
 
-  rising_without : (a b : List (Entry A)) (e : Entry A) → IsRising (a ++ e ∷ b) → IsRising (a ++ b)
+  rising_without : (a b : List (Entry A)) (e : Entry A) → NamesRise (a ++ e ∷ b) → NamesRise (a ++ b)
   rising_without [] b e h = h.1
   rising_without (x ∷ a) b e h = (names_joined _ a b (names_left _ a (e ∷ b) h.0) (names_right _ a (e ∷ b) h.0).1, rising_without a b e h.1)
 
-  pub rising_set : (es : List (Entry A)) (i : ℕ) (e f : Entry A) (n : Name) → IsRising es → IsAt es i e n → f.name.items ≡ n → IsRising (set es i f)
+  pub rising_set : (es : List (Entry A)) (i : ℕ) (e f : Entry A) (n : Name) → NamesRise es → IsAt es i e n → f.name.items ≡ n → NamesRise (set es i f)
   rising_set es i e f n rising at is =
-      let rises : IsRising (take i es ++ e ∷ drop (suc i) es) = subst IsRising at.split rising in
-      subst IsRising (sym (set_split es i f at.in_range)) (rising_join (take i es) (drop (suc i) es) n (rising_left (take i es) (e ∷ drop (suc i) es) rises) (rising_right (take i es) (e ∷ drop (suc i) es) rises).1 at.below at.above f is)
+      let rises : NamesRise (take i es ++ e ∷ drop (suc i) es) = subst NamesRise at.split rising in
+      subst NamesRise (sym (set_split es i f at.in_range)) (rising_join (take i es) (drop (suc i) es) n (rising_left (take i es) (e ∷ drop (suc i) es) rises) (rising_right (take i es) (e ∷ drop (suc i) es) rises).1 at.below at.above f is)
 
-  pub rising_remove : (es : List (Entry A)) (i : ℕ) (e : Entry A) (n : Name) → IsRising es → IsAt es i e n → IsRising (remove es i)
-  rising_remove es i e n rising at = rising_without (take i es) (drop (suc i) es) e (subst IsRising at.split rising)
+  pub rising_remove : (es : List (Entry A)) (i : ℕ) (e : Entry A) (n : Name) → NamesRise es → IsAt es i e n → NamesRise (remove es i)
+  rising_remove es i e n rising at = rising_without (take i es) (drop (suc i) es) e (subst NamesRise at.split rising)
 
-  pub rising_insert : (es : List (Entry A)) (i : ℕ) (f : Entry A) (n : Name) → IsRising es → IsGapFor es n i → f.name.items ≡ n → IsRising (insert es i f)
+  pub rising_insert : (es : List (Entry A)) (i : ℕ) (f : Entry A) (n : Name) → NamesRise es → IsGapFor es n i → f.name.items ≡ n → NamesRise (insert es i f)
   rising_insert es i f n rising gap is =
-      let rises : IsRising (take i es ++ drop i es) = subst IsRising (sym (take-append-drop i es)) rising in
+      let rises : NamesRise (take i es ++ drop i es) = subst NamesRise (sym (take-append-drop i es)) rising in
       rising_join (take i es) (drop i es) n (rising_left (take i es) (drop i es) rises) (rising_right (take i es) (drop i es) rises) gap.below gap.above f is
 
 module _ {A X : Type 0} (own : Node A → List (Path × X)) (x : X) (es : List (Entry A)) (i : ℕ) (n : Name) where
@@ -127,7 +127,7 @@ changes_gone f q = elim (eq_by_cmp path_cmp q []) as (λ b. None ≡ cond b None
 pub changes_new : {X : Type 0} (f : X) → Changes [] (([], f) ∷ []) [] (Some f)
 changes_new f q = refl
 
-pub rising_if : {A : Type 0} (b : Bool) (old new : List (Entry A)) → IsRising old → IsRising new → IsRising (cond b new old)
+pub rising_if : {A : Type 0} (b : Bool) (old new : List (Entry A)) → NamesRise old → NamesRise new → NamesRise (cond b new old)
 rising_if true old new h k = k
 rising_if false old new h k = h
 

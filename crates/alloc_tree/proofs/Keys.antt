@@ -13,7 +13,7 @@ use Rattle.pps_types.specs.declared.found.Found.TheVariants.{Object as FoundObje
 use Rattle.pps_types.specs.Names.{Name, Path, name_cmp}
 use Rattle.alloc_tree.specs.Contents.{Contents, whole}
 use Rattle.alloc_tree.specs.View.{under, flatten, standing, made_of}
-use Rattle.alloc_tree.specs.Entries.{AllAbove, IsRising}
+use Rattle.alloc_tree.specs.Entries.{AllAbove, NamesRise}
 use Rattle.alloc_tree.specs.declared.directory.Entry.{Entry}
 
 -- a name, and what stands there and below
@@ -118,15 +118,15 @@ module _ {A : Type 0} where
   above_entries n [] h = tt
   above_entries n (e ∷ es) h = (h.0, above_entries n es h.1)
 
-  pub keys_rise : (es : List (Entry A)) → IsRising es → KeysRise (map key es)
+  pub keys_rise : (es : List (Entry A)) → NamesRise es → KeysRise (map key es)
   keys_rise [] h = tt
   keys_rise (e ∷ es) h = (above_keys e.name.items es h.0, keys_rise es h.1)
 
-  pub entries_rise : (es : List (Entry A)) → KeysRise (map key es) → IsRising es
+  pub entries_rise : (es : List (Entry A)) → KeysRise (map key es) → NamesRise es
   entries_rise [] h = tt
   entries_rise (e ∷ es) h = (above_entries e.name.items es h.0, entries_rise es h.1)
 
-  pub rising_by_keys : (es fs : List (Entry A)) → map key es ≡ map key fs → IsRising fs → IsRising es
+  pub rising_by_keys : (es fs : List (Entry A)) → map key es ≡ map key fs → NamesRise fs → NamesRise es
   rising_by_keys es fs same rising = entries_rise es (subst KeysRise (sym same) (keys_rise fs rising))
 
   pub made_by_keys : (id : ℕ) (es fs : List (Entry A)) → map key es ≡ map key fs → made_of id es ≡ made_of id fs
@@ -142,7 +142,7 @@ all_start [] = tt
 all_start (e ∷ es) = (starts e.node, all_start es)
 
 -- directories in which the same stands have the same number, and the same names with the same below them
-pub keys_same : {A : Type 0} (id k : ℕ) (es fs : List (Entry A)) → IsRising es → IsRising fs → made_of id es ≡ made_of k fs → map key es ≡ map key fs
+pub keys_same : {A : Type 0} (id k : ℕ) (es fs : List (Entry A)) → NamesRise es → NamesRise fs → made_of id es ≡ made_of k fs → map key es ≡ map key fs
 keys_same id k es fs re rf e = flat_same (map key es) (map key fs) (keys_rise es re) (keys_rise fs rf) (all_start es) (all_start fs) (flat_keys es ∙ below id k (flatten standing es) (flatten standing fs) e ∙ sym (flat_keys fs))
   where
     below : (id k : ℕ) (a b : List (Path × Found)) → ([], FoundDirectory id) ∷ a ≡ ([], FoundDirectory k) ∷ b → a ≡ b

@@ -13,7 +13,7 @@ use Rattle.alloc_tree.specs.Path.{at, room_for}
 use Rattle.alloc_tree.specs.Refused.{is_of, count_in, new_refused}
 use Rattle.alloc_tree.specs.Contents.{whole, Contents}
 use Rattle.alloc_tree.specs.View.{under, flatten, standing, room, made_of, node_found}
-use Rattle.alloc_tree.specs.Entries.{AllBelow, AllAbove, IsGapFor, IsPlaceOf, IsRising}
+use Rattle.alloc_tree.specs.Entries.{AllBelow, AllAbove, IsGapFor, IsPlaceOf, NamesRise}
 use Rattle.alloc_tree.specs.declared.kind.NodeKind.{NodeKind}
 use Rattle.alloc_tree.specs.declared.directory.Entry.{Entry}
 use Rattle.alloc_tree.specs.declared.directory.Node.{Node}
@@ -90,7 +90,7 @@ module _ {A : Type 0} (id : ℕ) (es : List (Entry A)) (i : ℕ) (n : Name) wher
   refused_entry kind e [] here h = cc
   refused_entry kind e (m ∷ p) here h = λ j. option_or (new_entry e (m ∷ p) here j) (too_many (count_by (λ x. is_of kind x.1) (members_at id es i n (parent (m ∷ p)) e here j)))
 
-  pub refused_taken : (kind : NodeKind) → IsRising es → IsPlaceOf es n i → new_refused kind (made_of id es) (n ∷ []) ≡ Some Exists
+  pub refused_taken : (kind : NodeKind) → NamesRise es → IsPlaceOf es n i → new_refused kind (made_of id es) (n ∷ []) ≡ Some Exists
   refused_taken kind rising here = let p = some_place es i n rising here in ap (λ o. option_or o (too_many (count_in kind (made_of id es) []))) (taken_here p.0 p.1)
 
   pub refused_absent : (kind : NodeKind) (p : Path) → IsGapFor es n i → nat_eq (length p) 0 ≡ false → new_refused kind (made_of id es) (n ∷ p) ≡ Some NotFound

@@ -12,7 +12,7 @@ use Rattle.alloc_tree.specs.Contents.{Contents, whole, is_below}
 use Rattle.pps_types.specs.declared.found.Found.{Found}
 use Rattle.pps_types.specs.declared.found.Found.TheVariants.{Directory as FoundDirectory}
 use Rattle.alloc_tree.specs.View.{under, flatten, standing, contents_of}
-use Rattle.alloc_tree.specs.Entries.{AllAbove, IsRising}
+use Rattle.alloc_tree.specs.Entries.{AllAbove, NamesRise}
 use Rattle.alloc_tree.specs.declared.directory.Entry.{Entry}
 use Rattle.alloc_tree.specs.declared.directory.Node.{Node}
 use Rattle.alloc_tree.specs.declared.directory.Node.TheVariants.{Object, Directory}
@@ -78,7 +78,7 @@ module _ {A X : Type 0} (own : Node A → List (Path × X)) where
   after_flatten n p [] h = tt
   after_flatten n p (e ∷ es) h = after_append (n ∷ p) (under e.name.items (own e.node)) (flatten own es) (after_other n e.name.items p (own e.node) h.0) (after_flatten n p es h.1)
 
-  pub ordered_flatten : (es : List (Entry A)) → IsRising es → AllOwn es → IsOrdered (flatten own es)
+  pub ordered_flatten : (es : List (Entry A)) → NamesRise es → AllOwn es → IsOrdered (flatten own es)
   ordered_flatten [] r h = tt
   ordered_flatten (e ∷ es) r h = ordered_joined e.name.items (own e.node) (flatten own es) h.0 (ordered_flatten es r.1 h.1) (λ q. after_flatten e.name.items q es r.0)
 
@@ -136,16 +136,16 @@ all_own (e ∷ es) = (own e.node, all_own es)
     own (Directory d) = ordered_whole d
 
 -- what a directory has, by its entries
-pub whole_view : {A : Type 0} (id : ℕ) (v : Vec (Entry A) A) → IsRising v.items → whole (contents_of id v) ≡ ([], FoundDirectory id) ∷ flatten standing v.items
+pub whole_view : {A : Type 0} (id : ℕ) (v : Vec (Entry A) A) → NamesRise v.items → whole (contents_of id v) ≡ ([], FoundDirectory id) ∷ flatten standing v.items
 unfolding whole
 whole_view id v rising =
     ap (λ l. ([], FoundDirectory id) ∷ where_key path_cmp is_below l) (entries_made (flatten standing v.items) (ordered_flatten standing v.items rising (all_own v.items)))
     ∙ ap (λ l. ([], FoundDirectory id) ∷ l) (below_kept (flatten standing v.items) (root_before standing v.items))
 
-pub whole_is : {A : Type 0} (id : ℕ) (v : Vec (Entry A) A) (c : Contents) → contents_of id v ≡ c → IsRising v.items → whole c ≡ ([], FoundDirectory id) ∷ flatten standing v.items
+pub whole_is : {A : Type 0} (id : ℕ) (v : Vec (Entry A) A) (c : Contents) → contents_of id v ≡ c → NamesRise v.items → whole c ≡ ([], FoundDirectory id) ∷ flatten standing v.items
 whole_is id v c is rising = ap whole (sym is) ∙ whole_view id v rising
 
-pub changed : {A : Type 0} (id : ℕ) (v w : Vec (Entry A) A) (p : Path) (x : Option Found) → IsRising v.items → IsRising w.items
+pub changed : {A : Type 0} (id : ℕ) (v w : Vec (Entry A) A) (p : Path) (x : Option Found) → NamesRise v.items → NamesRise w.items
     → Changes (([], FoundDirectory id) ∷ flatten standing v.items) (([], FoundDirectory id) ∷ flatten standing w.items) p x → Changes (whole (contents_of id v)) (whole (contents_of id w)) p x
 changed id v w p x rv rw' h q = ap (find path_cmp q) (whole_view id w rw') ∙ h q ∙ ap (λ l. cond (eq_by_cmp path_cmp q p) x (find path_cmp q l)) (sym (whole_view id v rv))
 
@@ -154,8 +154,8 @@ unfolding whole
 root_found c = refl
 
 -- other entries with the same list
-pub whole_same : {A : Type 0} (id : ℕ) (v w : Vec (Entry A) A) → IsRising v.items → w.items ≡ v.items → whole (contents_of id w) ≡ whole (contents_of id v)
+pub whole_same : {A : Type 0} (id : ℕ) (v w : Vec (Entry A) A) → NamesRise v.items → w.items ≡ v.items → whole (contents_of id w) ≡ whole (contents_of id v)
 whole_same id v w rising same =
-    whole_view id w (subst IsRising (sym same) rising)
+    whole_view id w (subst NamesRise (sym same) rising)
     ∙ ap (λ l. ([], FoundDirectory id) ∷ flatten standing l) same
     ∙ sym (whole_view id v rising)

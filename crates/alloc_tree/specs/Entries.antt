@@ -16,9 +16,9 @@ abbrev pub AllAbove : {A : Type 0} → Name → List (Entry A) → Type 0
 AllAbove n = AllNames (λ m. name_cmp n m ≡ Less)
 
 -- the names strictly rise
-abbrev pub IsRising : {A : Type 0} → List (Entry A) → Type 0
-IsRising [] = Unit {0}
-IsRising (e ∷ es) = AllAbove e.name.items es × IsRising es
+abbrev pub NamesRise : {A : Type 0} → List (Entry A) → Type 0
+NamesRise [] = Unit {0}
+NamesRise (e ∷ es) = AllAbove e.name.items es × NamesRise es
 
 -- the name stands nowhere, and would go to place i
 pub record IsGapFor {A : Type 0} (es : List (Entry A)) (n : Name) (i : ℕ) : Type 0 where

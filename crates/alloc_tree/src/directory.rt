@@ -63,9 +63,9 @@ impl<A: Allocator> Model for Directory<A> {
 
     ghost view = { λ d. contents_of d.id d.entries };
 
-    ghost use Rattle.alloc_tree.specs.Entries.{IsRising};
+    ghost use Rattle.alloc_tree.specs.Entries.{NamesRise};
 
-    ghost invariant = { λ d. IsRising d.entries.items };
+    ghost invariant = { λ d. NamesRise d.entries.items };
 
     ghost size = { λ v. v.depth };
 

@@ -1,6 +1,6 @@
 //! The entries of one directory.
 ghost use Rattle.std.specs.Prelude.{◌≡◌, ◌↔◌, IsTrue, ◌<◌, ◌-◌, ℕ, [], ◌∷◌, Some, IfOk, IfErr, OnOk, OnErr, count_by, nat_le, vec_len, vec_capacity, slice_index_or, slice_set, remove, map};
-ghost use Rattle.alloc_tree.specs.Entries.{IsRising, IsGapFor, IsPlaceOf};
+ghost use Rattle.alloc_tree.specs.Entries.{NamesRise, IsGapFor, IsPlaceOf};
 ghost use Rattle.pps_types.specs.declared.found.Found.TheVariants.{Object as FoundObject};
 ghost use Rattle.pps_types.specs.Names.{Name, refusal_of};
 ghost use Rattle.alloc_tree.specs.Path.{Changes};
@@ -22,7 +22,7 @@ use std::cmp::Ordering;
 /// Where a name stands, or else where it would go. The last entry may be the only one, or the newest.
 #[inline(always)]
 pub(crate) fn search<A: Allocator>(entries: &[Entry<A>], name: &[u8]) -> Result<usize, usize>
-    requires { IsRising entries.now }
+    requires { NamesRise entries.now }
     ensures found { IfOk result (IsPlaceOf entries.now name.now) }
     ensures absent { IfErr result (IsGapFor entries.now name.now) }
 {
@@ -37,7 +37,7 @@ pub(crate) fn search<A: Allocator>(entries: &[Entry<A>], name: &[u8]) -> Result<
 /// entry is asked first.
 #[inline(never)]
 fn search_by_order<A: Allocator>(entries: &[Entry<A>], name: &[u8]) -> Result<usize, usize>
-    requires { IsRising entries.now }
+    requires { NamesRise entries.now }
     ensures found { IfOk result (IsPlaceOf entries.now name.now) }
     ensures absent { IfErr result (IsGapFor entries.now name.now) }
 {
@@ -164,12 +164,12 @@ pub(crate) fn edit_entry<A: Allocator>(
     edit: Edit,
 ) -> Result<(), Refusal>
     requires in_range { i < vec_len entries.old }
-    requires rising { IsRising entries.old.items }
+    requires rising { NamesRise entries.old.items }
     ensures refusal { (n : Name) (id : ℕ) → IsPlaceOf entries.old.items n i
         → refusal_of result ≡ edit_refused edit (made_of id entries.old.items) (n ∷ []) }
     ensures ok { OnOk result ((n : Name) (id : ℕ) → IsPlaceOf entries.old.items n i
         → Changes (made_of id entries.old.items) (made_of id entries.new.items) (n ∷ []) (left_by edit)) }
-    ensures rising { IsRising entries.new.items }
+    ensures rising { NamesRise entries.new.items }
     ensures err { OnErr result (entries.new ≡ entries.old) }
 {
     if let Err(refusal) = check_edit(&entries[i].node, &edit) {

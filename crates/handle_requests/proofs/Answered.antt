@@ -8,9 +8,9 @@ use Rattle.pps_types.specs.declared.refusal.Refusal.TheVariants.{OutOfMemory}
 use Rattle.pps_types.specs.Names.{refusal_of}
 use Rattle.pps_types.specs.History.{line_of}
 use Rattle.pps_types.specs.Reading as reading
-use Rattle.pps_types.specs.Reading.{Open, is_directory_kind, Member}
-use Rattle.pps_types.specs.Rests.{Seen, is_over, answer}
-use Rattle.pps_types.specs.WellFormed.{AreRising}
+use Rattle.pps_types.specs.Reading.{OpenHandle, is_directory_kind, Member}
+use Rattle.pps_types.specs.Rests.{Progress, is_over, answer}
+use Rattle.pps_types.specs.WellFormed.{RiseBetween}
 use Rattle.pps_types.specs.Content.{Content, LiveObject, own_handle, object_numbered, attributes_of, member, members, everything, target_is_dead, read_answer}
 use Rattle.sub_reader.specs.Opened.{handle_at, as_opened, number_of}
 use Rattle.open_handles.specs.Whole.{name_at}
@@ -35,13 +35,13 @@ wanted reading.TargetGone e = absurd (let bad = e in cc)
 wanted reading.Waits e = absurd (let bad = e in cc)
 wanted reading.Nothing e = absurd (let bad = e in cc)
 
-module _ (law : AnswersAreRead) (c : Content) (next : ℕ) (rise : AreRising 0 (map (λ h. h.number) c.handles) next) (conn n size : ℕ) (waits : Bool) (w : Source) (reader : IfSome (own_handle c conn n) (IsReader c waits w)) where
+module _ (law : AnswersAreRead) (c : Content) (next : ℕ) (rise : RiseBetween 0 (map (λ h. h.number) c.handles) next) (conn n size : ℕ) (waits : Bool) (w : Source) (reader : IfSome (own_handle c conn n) (IsReader c waits w)) where
   -- it is by what the handle of that number is owed
   pub answer_told : (owed : Option GivenBlocks) → IfSome (handle_at n c.handles) (λ h. h.reads ≡ true → Owes size h h.seen owed)
       → IfSome (own_handle c conn n) (λ h. read_answer c h size ≡ answer_by w waits size owed)
   answer_told owed owes = by (own_handle c conn n) refl reader
     where
-      by : (o : Option (Open Seen)) → own_handle c conn n ≡ o → IfSome o (IsReader c waits w) → IfSome o (λ h. read_answer c h size ≡ answer_by w waits size owed)
+      by : (o : Option (OpenHandle Progress)) → own_handle c conn n ≡ o → IfSome o (IsReader c waits w) → IfSome o (λ h. read_answer c h size ≡ answer_by w waits size owed)
       by None e reader = tt
       by (Some h) e reader =
           let at : handle_at n c.handles ≡ Some h = own_numbered c.handles next rise conn n h e in
@@ -53,7 +53,7 @@ module _ (law : AnswersAreRead) (c : Content) (next : ℕ) (rise : AreRising 0 (
       → IfSome (own_handle c conn n) (λ h. Refuses (read_answer c h size) r)
   owed_told r refuses = by (own_handle c conn n) refl reader
     where
-      by : (o : Option (Open Seen)) → own_handle c conn n ≡ o → IfSome o (IsReader c waits w) → IfSome o (λ h. Refuses (read_answer c h size) r)
+      by : (o : Option (OpenHandle Progress)) → own_handle c conn n ≡ o → IfSome o (IsReader c waits w) → IfSome o (λ h. Refuses (read_answer c h size) r)
       by None e reader = tt
       by (Some h) e reader =
           let at : handle_at n c.handles ≡ Some h = own_numbered c.handles next rise conn n h e in
@@ -61,13 +61,13 @@ module _ (law : AnswersAreRead) (c : Content) (next : ℕ) (rise : AreRising 0 (
           subst (λ o. IfSome o (λ h. h.reads ≡ true → (text : List ℕ) (dead : Bool) → Refuses (answer h h.seen text dead size) r)) at refuses in
           refuses-it reader.reads (everything c h) (target_is_dead c h)
 
-module _ (c : Content) (o : Option (Open Seen)) (size : ℕ) (a : reading.Answer) where
+module _ (c : Content) (o : Option (OpenHandle Progress)) (size : ℕ) (a : reading.Answer) where
   -- a result by the answer is one by the handle
   pub ok_told : (result : Result Answer Refusal) → IfOk result (λ given. meant given ≡ a) → IfSome o (λ h. read_answer c h size ≡ a) → IfOk result (λ given. IfSome o (λ h. meant given ≡ read_answer c h size))
   ok_told (Err r) given is = tt
   ok_told (Ok x) given is = by o is
     where
-      by : (o : Option (Open Seen)) → IfSome o (λ h. read_answer c h size ≡ a) → IfSome o (λ h. meant x ≡ read_answer c h size)
+      by : (o : Option (OpenHandle Progress)) → IfSome o (λ h. read_answer c h size ≡ a) → IfSome o (λ h. meant x ≡ read_answer c h size)
       by None is = tt
       by (Some h) is = given ∙ sym is
 
@@ -80,7 +80,7 @@ module _ (c : Content) (o : Option (Open Seen)) (size : ℕ) (a : reading.Answer
       refuses (inl is) = inr (is, lacking (ap Some is))
       refuses (inr other) = inl (sym (full other))
 
-      by : (o : Option (Open Seen)) → IfSome o (λ h. read_answer c h size ≡ a) → IfSome o (λ h. Refuses (read_answer c h size) r)
+      by : (o : Option (OpenHandle Progress)) → IfSome o (λ h. read_answer c h size ≡ a) → IfSome o (λ h. Refuses (read_answer c h size) r)
       by None is = tt
       by (Some h) is = subst (λ b. Refuses b r) (sym is) (refuses (memory_or r))
 
@@ -94,7 +94,7 @@ alive_told : (o : Option LiveObject) → not (true && is_none o) ≡ is_some o
 alive_told None = refl
 alive_told (Some x) = refl
 
-object_source : (c : Content) (h : Open Seen) → is_directory_kind h.kind ≡ false
+object_source : (c : Content) (h : OpenHandle Progress) → is_directory_kind h.kind ≡ false
     → source_of c h ≡ record { kind = h.kind; parts = h.options.filter; over = is_over h.seen; alive = is_some (object_numbered c h.target); members = record { name = h.name; lines = map line_of (attributes_of c h.target) } ∷ [] }
 object_source c h plain =
     ap (λ (b : Bool). record { kind = h.kind; parts = h.options.filter; over = is_over h.seen; alive = not (not b && is_none (object_numbered c h.target)); members = if b then map member (members c h.target) else record { name = h.name; lines = map line_of (attributes_of c h.target) } ∷ [] }) plain
@@ -102,28 +102,28 @@ object_source c h plain =
 
 -- ---- what everything of a directory is read from
 
-directory_source_of : (c : Content) (h : Open Seen) → is_directory_kind h.kind ≡ true
+directory_source_of : (c : Content) (h : OpenHandle Progress) → is_directory_kind h.kind ≡ true
     → source_of c h ≡ record { kind = h.kind; parts = h.options.filter; over = is_over h.seen; alive = true; members = map member (members c h.target) }
 directory_source_of c h directory =
     ap (λ (b : Bool). record { kind = h.kind; parts = h.options.filter; over = is_over h.seen; alive = not (not b && is_none (object_numbered c h.target)); members = if b then map member (members c h.target) else record { name = h.name; lines = map line_of (attributes_of c h.target) } ∷ [] }) directory
 
-module _ (t : Tabled) (next : ℕ) (rise : AreRising 0 (map (λ h. h.number) (content_in t).handles) next) (conn n : ℕ) (own : Own) (is : IsOwn t conn n own) where
-  pub object_reader : own.opening.now.reads ≡ true → is_directory_kind own.opening.now.kind ≡ false → (over : Bool) → over ≡ option_map_or (λ (h : Open Seen). is_over h.seen) (handle_at n (content_in t).handles) false
+module _ (t : Tabled) (next : ℕ) (rise : RiseBetween 0 (map (λ h. h.number) (content_in t).handles) next) (conn n : ℕ) (own : Own) (is : IsOwn t conn n own) where
+  pub object_reader : own.opening.now.reads ≡ true → is_directory_kind own.opening.now.kind ≡ false → (over : Bool) → over ≡ option_map_or (λ (h : OpenHandle Progress). is_over h.seen) (handle_at n (content_in t).handles) false
       → (known : Option LiveObject) → known ≡ object_numbered (content_in t) (number_of own.found) → (m : Member) → m.name ≡ name_at own.found t.handles → m.lines ≡ map line_of (option_map_or (λ (o : LiveObject). o.attributes) known [])
       → (w : Source) → w ≡ record { kind = own.opening.now.kind; parts = own.opening.now.options.filter; over = over; alive = is_some known; members = m ∷ [] }
       → IfSome (own_handle (content_in t) conn n) (IsReader (content_in t) own.opening.now.options.wait w)
   object_reader reads plain over over-is known known-is m name lines w w-is =
       subst (λ o. IfSome o (IsReader (content_in t) own.opening.now.options.wait w)) (sym own-is)
       (record {
-        reads = ap (λ (x : Open (Unit {0})). x.reads) same ∙ reads;
-        wait = ap (λ (x : Open (Unit {0})). x.options.wait) same;
+        reads = ap (λ (x : OpenHandle (Unit {0})). x.reads) same ∙ reads;
+        wait = ap (λ (x : OpenHandle (Unit {0})). x.options.wait) same;
         source = w-is ∙ alike ∙ sym (object_source (content_in t) h (ap is_directory_kind kind-is ∙ plain));
       })
     where
-      known-own : (h : Open Seen) × ((own_handle (content_in t) conn n ≡ Some h) × (as_opened h ≡ opened_as t own))
+      known-own : (h : OpenHandle Progress) × ((own_handle (content_in t) conn n ≡ Some h) × (as_opened h ≡ opened_as t own))
       known-own = own_known (own_handle (content_in t) conn n) (opened_as t own) is
 
-      h : Open Seen
+      h : OpenHandle Progress
       h = known-own.0
 
       own-is : own_handle (content_in t) conn n ≡ Some h
@@ -133,46 +133,46 @@ module _ (t : Tabled) (next : ℕ) (rise : AreRising 0 (map (λ h. h.number) (co
       same = known-own.1.1
 
       kind-is : h.kind ≡ own.opening.now.kind
-      kind-is = ap (λ (x : Open (Unit {0})). x.kind) same
+      kind-is = ap (λ (x : OpenHandle (Unit {0})). x.kind) same
 
       target-is : h.target ≡ number_of own.found
-      target-is = ap (λ (x : Open (Unit {0})). x.target) same
+      target-is = ap (λ (x : OpenHandle (Unit {0})). x.target) same
 
       over-told : over ≡ is_over h.seen
-      over-told = over-is ∙ ap (λ o. option_map_or (λ (h : Open Seen). is_over h.seen) o false) (own_numbered (content_in t).handles next rise conn n h own-is)
+      over-told = over-is ∙ ap (λ o. option_map_or (λ (h : OpenHandle Progress). is_over h.seen) o false) (own_numbered (content_in t).handles next rise conn n h own-is)
 
       known-told : known ≡ object_numbered (content_in t) h.target
       known-told = known-is ∙ ap (object_numbered (content_in t)) (sym target-is)
 
       name-told : m.name ≡ h.name
-      name-told = name ∙ sym (ap (λ (x : Open (Unit {0})). x.name) same)
+      name-told = name ∙ sym (ap (λ (x : OpenHandle (Unit {0})). x.name) same)
 
       lines-told : m.lines ≡ map line_of (attributes_of (content_in t) h.target)
       lines-told = lines ∙ ap (λ o. map line_of (option_map_or (λ (o : LiveObject). o.attributes) o [])) known-told
 
       filter-told : own.opening.now.options.filter ≡ h.options.filter
-      filter-told = sym (ap (λ (x : Open (Unit {0})). x.options.filter) same)
+      filter-told = sym (ap (λ (x : OpenHandle (Unit {0})). x.options.filter) same)
 
       alike : ◌≡◌ {A = Source}
           (record { kind = own.opening.now.kind; parts = own.opening.now.options.filter; over = over; alive = is_some known; members = m ∷ [] })
           (record { kind = h.kind; parts = h.options.filter; over = is_over h.seen; alive = is_some (object_numbered (content_in t) h.target); members = record { name = h.name; lines = map line_of (attributes_of (content_in t) h.target) } ∷ [] })
       alike = λ i. record { kind = sym kind-is i; parts = filter-told i; over = over-told i; alive = is_some (known-told i); members = record { name = name-told i; lines = lines-told i } ∷ [] }
 
-  pub directory_reader : own.opening.now.reads ≡ true → is_directory_kind own.opening.now.kind ≡ true → (over : Bool) → over ≡ option_map_or (λ (h : Open Seen). is_over h.seen) (handle_at n (content_in t).handles) false
+  pub directory_reader : own.opening.now.reads ≡ true → is_directory_kind own.opening.now.kind ≡ true → (over : Bool) → over ≡ option_map_or (λ (h : OpenHandle Progress). is_over h.seen) (handle_at n (content_in t).handles) false
       → (os : List (Option LiveObject)) → filter_map (λ o. o) os ≡ members (content_in t) (number_of own.found)
       → IfSome (own_handle (content_in t) conn n) (IsReader (content_in t) own.opening.now.options.wait (directory_source own.opening.now.kind own.opening.now.options.filter over os))
   directory_reader reads directory over over-is os lent =
       let known = own_known (own_handle (content_in t) conn n) (opened_as t own) is in
       let h = known.0 in
       let same = known.1.1 in
-      let kind-is : h.kind ≡ own.opening.now.kind = ap (λ (x : Open (Unit {0})). x.kind) same in
-      let target-is : h.target ≡ number_of own.found = ap (λ (x : Open (Unit {0})). x.target) same in
-      let over-told : over ≡ is_over h.seen = over-is ∙ ap (λ o. option_map_or (λ (h : Open Seen). is_over h.seen) o false) (own_numbered (content_in t).handles next rise conn n h known.1.0) in
+      let kind-is : h.kind ≡ own.opening.now.kind = ap (λ (x : OpenHandle (Unit {0})). x.kind) same in
+      let target-is : h.target ≡ number_of own.found = ap (λ (x : OpenHandle (Unit {0})). x.target) same in
+      let over-told : over ≡ is_over h.seen = over-is ∙ ap (λ o. option_map_or (λ (h : OpenHandle Progress). is_over h.seen) o false) (own_numbered (content_in t).handles next rise conn n h known.1.0) in
       let members-told : map member (filter_map (λ o. o) os) ≡ map member (members (content_in t) h.target) = ap (map member) (lent ∙ ap (members (content_in t)) (sym target-is)) in
-      let filter-told : own.opening.now.options.filter ≡ h.options.filter = sym (ap (λ (x : Open (Unit {0})). x.options.filter) same) in
+      let filter-told : own.opening.now.options.filter ≡ h.options.filter = sym (ap (λ (x : OpenHandle (Unit {0})). x.options.filter) same) in
       subst (λ o. IfSome o (IsReader (content_in t) own.opening.now.options.wait (directory_source own.opening.now.kind own.opening.now.options.filter over os))) (sym known.1.0)
       (record {
-        reads = ap (λ (x : Open (Unit {0})). x.reads) same ∙ reads;
-        wait = ap (λ (x : Open (Unit {0})). x.options.wait) same;
+        reads = ap (λ (x : OpenHandle (Unit {0})). x.reads) same ∙ reads;
+        wait = ap (λ (x : OpenHandle (Unit {0})). x.options.wait) same;
         source = (λ i. record { kind = sym kind-is i; parts = filter-told i; over = over-told i; alive = true; members = members-told i }) ∙ sym (directory_source_of (content_in t) h (ap is_directory_kind kind-is ∙ directory));
       })

@@ -8,11 +8,11 @@ use Rattle.pps_types.specs.declared.handle_kind.HandleKind.{HandleKind}
 use Rattle.pps_types.specs.declared.handle_kind.HandleKind.TheVariants.{Object as ObjectHandle, Directory as DirectoryHandle, Names as NamesHandle, Server as ServerHandle, Client as ClientHandle}
 use Rattle.pps_types.specs.declared.refusal.Refusal.TheVariants.{Backlogged}
 use Rattle.pps_types.specs.Bytes.{is_empty}
-use Rattle.pps_types.specs.Reading.{Open, is_directory_kind}
-use Rattle.pps_types.specs.Rests.{Seen}
+use Rattle.pps_types.specs.Reading.{OpenHandle, is_directory_kind}
+use Rattle.pps_types.specs.Rests.{Progress}
 use Rattle.pps_types.specs.Content.{LiveObject, Content, object_numbered, handle_numbered}
 use Rattle.pps_types.specs.Checks.{Check, Refuse, first_refusal, client_backlog, clients, meant, OneClient, is_client, is_server, is_message_of, count_owed}
-use Rattle.pps_types.specs.WellFormed.{AreRising, IsContent, has_server, is_server_of}
+use Rattle.pps_types.specs.WellFormed.{RiseBetween, IsContent, has_server, is_server_of}
 use Rattle.service_laws.proofs.Finds.{all-find, find-true}
 use Rattle.pps_types.specs.Rising.{IsRising}
 use Rattle.service_laws.specs.Concerned.{is_on_object}
@@ -24,12 +24,12 @@ use Rattle.service_state.specs.Tables.{Tabled, content_in, AreTied, IsOpenable}
 use Rattle.handle_requests.specs.Backlogs.{is_behind, server_in, server_checks}
 
 -- the first client that is behind decides
-pub first_behind : (hs : List (Open Seen)) → first_refusal (client_backlog hs) ≡ option_map (λ h. Backlogged h.number) (find is_behind hs)
+pub first_behind : (hs : List (OpenHandle Progress)) → first_refusal (client_backlog hs) ≡ option_map (λ h. Backlogged h.number) (find is_behind hs)
 first_behind [] = refl
 first_behind (h ∷ hs) = by (first_behind hs) (is_behind h)
   where
-    by : first_refusal (client_backlog hs) ≡ option_map (λ (x : Open Seen). Backlogged x.number) (find is_behind hs) → (b : Bool)
-        → cond b (Some (Backlogged h.number)) (first_refusal (client_backlog hs)) ≡ option_map (λ (x : Open Seen). Backlogged x.number) (cond b (Some h) (find is_behind hs))
+    by : first_refusal (client_backlog hs) ≡ option_map (λ (x : OpenHandle Progress). Backlogged x.number) (find is_behind hs) → (b : Bool)
+        → cond b (Some (Backlogged h.number)) (first_refusal (client_backlog hs)) ≡ option_map (λ (x : OpenHandle Progress). Backlogged x.number) (cond b (Some h) (find is_behind hs))
     by rest true = refl
     by rest false = rest
 
@@ -101,30 +101,30 @@ server_there object target NamesHandle is = absurd (let bad = is in cc)
 server_there object target ClientHandle is = absurd (let bad = is in cc)
 
 -- who is behind of all, by the handles on the object
-pub all_behind : (c : Content) (object : ℕ) → find (λ (h : Open Seen). is_client h.kind && is_behind h) (filter (is_on_object object) c.handles) ≡ find is_behind (clients c object)
+pub all_behind : (c : Content) (object : ℕ) → find (λ (h : OpenHandle Progress). is_client h.kind && is_behind h) (filter (is_on_object object) c.handles) ≡ find is_behind (clients c object)
 all_behind c object =
     find_filter (is_on_object object) (λ h. is_client h.kind && is_behind h) c.handles
     ∙ find_same (λ h. is_on_object object h && (is_client h.kind && is_behind h)) (λ h. (is_client h.kind && eqb h.target object) && is_behind h) (λ h. on_client object h.target h.kind (is_behind h)) c.handles
     ∙ sym (find_filter (λ h. is_client h.kind && eqb h.target object) is_behind c.handles)
 
 -- a handle that is found, and is on the object, is found there
-pub found_there : (hs : List (Open Seen)) (object n : ℕ) (h : Open Seen) → handle_at n hs ≡ Some h → is_on_object object h ≡ true → handle_at n (filter (is_on_object object) hs) ≡ Some h
+pub found_there : (hs : List (OpenHandle Progress)) (object n : ℕ) (h : OpenHandle Progress) → handle_at n hs ≡ Some h → is_on_object object h ≡ true → handle_at n (filter (is_on_object object) hs) ≡ Some h
 found_there hs object n h found on =
-    find_filter (is_on_object object) (λ (h : Open Seen). eqb h.number n) hs
+    find_filter (is_on_object object) (λ (h : OpenHandle Progress). eqb h.number n) hs
     ∙ find_same (λ h. is_on_object object h && eqb h.number n) (λ h. eqb h.number n && is_on_object object h) (λ h. and_turned (is_on_object object h) (eqb h.number n)) hs
-    ∙ found-more (λ (h : Open Seen). eqb h.number n) (is_on_object object) hs h found on
+    ∙ found-more (λ (h : OpenHandle Progress). eqb h.number n) (is_on_object object) hs h found on
 
 -- ---- one of them
 
-abbrev pub only : Option (Open Seen) → List (Open Seen)
+abbrev pub only : Option (OpenHandle Progress) → List (OpenHandle Progress)
 only None = []
 only (Some h) = h ∷ []
 
-none_left : (n : ℕ) (hs : List (Open Seen)) → NoneNumbered n hs → filter (λ h. eqb h.number n) hs ≡ []
+none_left : (n : ℕ) (hs : List (OpenHandle Progress)) → NoneNumbered n hs → filter (λ h. eqb h.number n) hs ≡ []
 none_left n [] none = refl
 none_left n (h ∷ hs) none = ap (λ b. cond b (h ∷ filter (λ h. eqb h.number n) hs) (filter (λ h. eqb h.number n) hs)) none.0 ∙ none_left n hs none.1
 
-only_one : (n : ℕ) (hs : List (Open Seen)) → IsRising (λ h. h.number) hs → filter (λ h. eqb h.number n) hs ≡ only (handle_at n hs)
+only_one : (n : ℕ) (hs : List (OpenHandle Progress)) → IsRising (λ h. h.number) hs → filter (λ h. eqb h.number n) hs ≡ only (handle_at n hs)
 only_one n [] rise = refl
 only_one n (h ∷ hs) rise = by (eqb h.number n) refl (only_one n hs rise.1)
   where
@@ -133,10 +133,10 @@ only_one n (h ∷ hs) rise = by (eqb h.number n) refl (only_one n hs rise.1)
     by true is rest = ap (λ xs. h ∷ xs) (none_left n hs (none_above h.number n hs (let same = eqb-true h.number n is in omega arith) rise.0))
     by false is rest = rest
 
-abbrev pub is_client_of : ℕ → Open Seen → Bool
+abbrev pub is_client_of : ℕ → OpenHandle Progress → Bool
 is_client_of object h = is_client h.kind && eqb h.target object
 
-module _ (c : Content) (next : ℕ) (rise : AreRising 0 (map (λ h. h.number) c.handles) next) (object n : ℕ) where
+module _ (c : Content) (next : ℕ) (rise : RiseBetween 0 (map (λ h. h.number) c.handles) next) (object n : ℕ) where
   -- the client of that number, where it is the object's
   pub one_meant : meant c object (OneClient n) ≡ filter (is_client_of object) (only (handle_at n c.handles))
   one_meant = filter_swap (λ h. eqb h.number n) (is_client_of object) c.handles ∙ ap (filter (is_client_of object)) (only_one n c.handles (is_rising 0 next c.handles rise))
@@ -144,31 +144,31 @@ module _ (c : Content) (next : ℕ) (rise : AreRising 0 (map (λ h. h.number) c.
   pub none_meant : None ≡ option_map as_opened (handle_at n c.handles) → false ≡ not (is_empty (meant c object (OneClient n)))
   none_meant none = by (handle_at n c.handles) none one_meant
     where
-      by : (o : Option (Open Seen)) → None ≡ option_map as_opened o → meant c object (OneClient n) ≡ filter (is_client_of object) (only o) → false ≡ not (is_empty (meant c object (OneClient n)))
+      by : (o : Option (OpenHandle Progress)) → None ≡ option_map as_opened o → meant c object (OneClient n) ≡ filter (is_client_of object) (only o) → false ≡ not (is_empty (meant c object (OneClient n)))
       by None none is = sym (ap (λ hs. not (is_empty hs)) is)
       by (Some h) none is = absurd (let bad = none in cc)
 
-  pub some_meant : (x : Open (Unit {0})) → Some x ≡ option_map as_opened (handle_at n c.handles) → (is_client x.kind && eqb x.target object) ≡ not (is_empty (meant c object (OneClient n)))
+  pub some_meant : (x : OpenHandle (Unit {0})) → Some x ≡ option_map as_opened (handle_at n c.handles) → (is_client x.kind && eqb x.target object) ≡ not (is_empty (meant c object (OneClient n)))
   some_meant x some = by (handle_at n c.handles) some one_meant
     where
-      kept : (h : Open Seen) (b : Bool) → b ≡ not (is_empty (cond b (h ∷ []) []))
+      kept : (h : OpenHandle Progress) (b : Bool) → b ≡ not (is_empty (cond b (h ∷ []) []))
       kept h true = refl
       kept h false = refl
 
-      by : (o : Option (Open Seen)) → Some x ≡ option_map as_opened o → meant c object (OneClient n) ≡ filter (is_client_of object) (only o) → (is_client x.kind && eqb x.target object) ≡ not (is_empty (meant c object (OneClient n)))
+      by : (o : Option (OpenHandle Progress)) → Some x ≡ option_map as_opened o → meant c object (OneClient n) ≡ filter (is_client_of object) (only o) → (is_client x.kind && eqb x.target object) ≡ not (is_empty (meant c object (OneClient n)))
       by None some is = absurd (let bad = some in cc)
       by (Some h) some is =
           let same : x ≡ as_opened h = cc in
-          ap (λ (y : Open (Unit {0})). is_client y.kind && eqb y.target object) same ∙ kept h (is_client_of object h) ∙ sym (ap (λ hs. not (is_empty hs)) is)
+          ap (λ (y : OpenHandle (Unit {0})). is_client y.kind && eqb y.target object) same ∙ kept h (is_client_of object h) ∙ sym (ap (λ hs. not (is_empty hs)) is)
 
   -- it is behind, or not
   abbrev Behind : Option ℕ → Type 0
-  Behind r = r ≡ option_map (λ (h : Open Seen). h.number) (find is_behind (meant c object (OneClient n)))
+  Behind r = r ≡ option_map (λ (h : OpenHandle Progress). h.number) (find is_behind (meant c object (OneClient n)))
 
   pub no_client : false ≡ not (is_empty (meant c object (OneClient n))) → Behind None
   no_client none = by (meant c object (OneClient n)) none
     where
-      by : (hs : List (Open Seen)) → false ≡ not (is_empty hs) → None ≡ option_map (λ (h : Open Seen). h.number) (find is_behind hs)
+      by : (hs : List (OpenHandle Progress)) → false ≡ not (is_empty hs) → None ≡ option_map (λ (h : OpenHandle Progress). h.number) (find is_behind hs)
       by [] none = refl
       by (h ∷ hs) none = absurd (let bad = none in cc)
 
@@ -176,21 +176,21 @@ module _ (c : Content) (next : ℕ) (rise : AreRising 0 (map (λ h. h.number) c.
       → Behind (cond full (Some n) None)
   client_behind some full full-is = by (handle_at n c.handles) refl one_meant
     where
-      numbered : (h : Open Seen) → h.number ≡ n → (b : Bool) → cond b (Some n) None ≡ option_map (λ (h : Open Seen). h.number) (cond b (Some h) None)
+      numbered : (h : OpenHandle Progress) → h.number ≡ n → (b : Bool) → cond b (Some n) None ≡ option_map (λ (h : OpenHandle Progress). h.number) (cond b (Some h) None)
       numbered h is true = ap Some (sym is)
       numbered h is false = refl
 
-      none_here : (hs : List (Open Seen)) → hs ≡ [] → true ≡ not (is_empty hs) → Behind (cond full (Some n) None)
+      none_here : (hs : List (OpenHandle Progress)) → hs ≡ [] → true ≡ not (is_empty hs) → Behind (cond full (Some n) None)
       none_here hs is some = let bad : true ≡ false = some ∙ ap (λ hs. not (is_empty hs)) is in absurd (let b = bad in cc)
 
-      here : (h : Open Seen) → handle_at n c.handles ≡ Some h → (b : Bool) → is_client_of object h ≡ b → meant c object (OneClient n) ≡ cond b (h ∷ []) [] → Behind (cond full (Some n) None)
+      here : (h : OpenHandle Progress) → handle_at n c.handles ≡ Some h → (b : Bool) → is_client_of object h ≡ b → meant c object (OneClient n) ≡ cond b (h ∷ []) [] → Behind (cond full (Some n) None)
       here h at false not is = none_here (meant c object (OneClient n)) is some
       here h at true client is =
           ap (λ b. cond b (Some n) None) (full-is ∙ ap (λ o. option_map_or is_behind o false) (found_there c.handles object n h at (client_there object h.target h.kind client)))
           ∙ numbered h (at_number n c.handles h at) (is_behind h)
-          ∙ sym (ap (λ hs. option_map (λ (h : Open Seen). h.number) (find is_behind hs)) is)
+          ∙ sym (ap (λ hs. option_map (λ (h : OpenHandle Progress). h.number) (find is_behind hs)) is)
 
-      by : (o : Option (Open Seen)) → handle_at n c.handles ≡ o → meant c object (OneClient n) ≡ filter (is_client_of object) (only o) → Behind (cond full (Some n) None)
+      by : (o : Option (OpenHandle Progress)) → handle_at n c.handles ≡ o → meant c object (OneClient n) ≡ filter (is_client_of object) (only o) → Behind (cond full (Some n) None)
       by None at is = none_here (meant c object (OneClient n)) is some
       by (Some h) at is = here h at (is_client_of object h) refl is
 
@@ -213,7 +213,7 @@ module _ (t : Tabled) (tied : AreTied t) (object : ℕ) (served : is_some (serve
       by (Some o) found owned = at o found owned
 
   -- what is said of the handles there is said of those on it
-  pub told_there : (w : Whole) → w ≡ t.handles → ((f : Found) → handles_at f w ≡ filter (is_on f) (handles_in w)) → (P : List (Open Seen) → Type 0)
+  pub told_there : (w : Whole) → w ≡ t.handles → ((f : Found) → handles_at f w ≡ filter (is_on f) (handles_in w)) → (P : List (OpenHandle Progress) → Type 0)
       → IfSome (site_at (FoundObject object) w) (λ s. s.service ≡ true → P (handles_at (FoundObject object) w)) → P (filter (is_on_object object) (handles_in t.handles))
   told_there w same placed P told =
       subst P (subst (λ (w : Whole). handles_at (FoundObject object) w ≡ filter (is_on_object object) (handles_in w)) same (placed (FoundObject object)))
@@ -238,28 +238,28 @@ no_server c object client none = by (object_numbered c object) none
     by (Some o) none = ap (λ s. first_refusal (option_map_or (λ s. Refuse (nat_le s.limit (count_owed (is_message_of client) s)) (Backlogged s.number) ∷ []) (option_and_then (handle_numbered c) s) [])) none
 
 -- it is owed as many messages of that client as its limit
-abbrev pub owes : ℕ → Open Seen → Bool
+abbrev pub owes : ℕ → OpenHandle Progress → Bool
 owes client h = nat_le h.limit (count_owed (is_message_of client) h)
 
 module _ (c : Content) (content : IsContent c) (object client s : ℕ) (server : server_in c object ≡ Some s) where
-  abbrev served_by : Option (Open Seen) → List Check
-  served_by h = option_map_or (λ (s : Open Seen). Refuse (owes client s) (Backlogged s.number) ∷ []) h []
+  abbrev served_by : Option (OpenHandle Progress) → List Check
+  served_by h = option_map_or (λ (s : OpenHandle Progress). Refuse (owes client s) (Backlogged s.number) ∷ []) h []
 
   -- the server's handle is on its object, and refuses what it is owed too much of
   pub server_behind : (full : Bool) → full ≡ option_map_or (owes client) (handle_at s (filter (is_on_object object) c.handles)) false
       → cond full (Some (Backlogged s)) None ≡ first_refusal (server_checks c object client)
   server_behind full full-is = by (object_numbered c object) refl server
     where
-      numbered : (h : Open Seen) → h.number ≡ s → (b : Bool) → cond b (Some (Backlogged s)) None ≡ cond b (Some (Backlogged h.number)) None
+      numbered : (h : OpenHandle Progress) → h.number ≡ s → (b : Bool) → cond b (Some (Backlogged s)) None ≡ cond b (Some (Backlogged h.number)) None
       numbered h is b = ap (λ n. cond b (Some (Backlogged n)) None) (sym is)
 
-      here : (h : Open Seen) → handle_numbered c s ≡ Some h → (is_server h.kind && eqb h.target object) ≡ true → cond full (Some (Backlogged s)) None ≡ first_refusal (served_by (handle_numbered c s))
+      here : (h : OpenHandle Progress) → handle_numbered c s ≡ Some h → (is_server h.kind && eqb h.target object) ≡ true → cond full (Some (Backlogged s)) None ≡ first_refusal (served_by (handle_numbered c s))
       here h at on =
           ap (λ b. cond b (Some (Backlogged s)) None) (full-is ∙ ap (λ o. option_map_or (owes client) o false) (found_there c.handles object s h at (server_there object h.target h.kind on)))
           ∙ numbered h (at_number s c.handles h at) (owes client h)
           ∙ sym (ap (λ o. first_refusal (served_by o)) at)
 
-      found : (h : Option (Open Seen)) → handle_numbered c s ≡ h → option_map_or (λ (h : Open Seen). is_server h.kind && eqb h.target object) h false ≡ true → cond full (Some (Backlogged s)) None ≡ first_refusal (served_by (handle_numbered c s))
+      found : (h : Option (OpenHandle Progress)) → handle_numbered c s ≡ h → option_map_or (λ (h : OpenHandle Progress). is_server h.kind && eqb h.target object) h false ≡ true → cond full (Some (Backlogged s)) None ≡ first_refusal (served_by (handle_numbered c s))
       found None at on = absurd (let bad = on in cc)
       found (Some h) at on = here h at on
 

@@ -4,8 +4,8 @@ use Rattle.std.proofs.Common.{refl, sym, ap, inl, inr, arith}
 use Rattle.std.proofs.lemmas.Bool.Decides.{nat_tests}
 use Rattle.pps_types.specs.declared.refusal.Refusal.{Refusal}
 use Rattle.pps_types.specs.declared.refusal.Refusal.TheVariants.{OutOfMemory}
-use Rattle.pps_types.specs.Reading.{Open, Needs, fitting, blocks_answer, owed_answer, block, visible}
-use Rattle.pps_types.specs.Rests.{Seen, News, Unread, Over, Owed, answer, news_in}
+use Rattle.pps_types.specs.Reading.{OpenHandle, Needs, fitting, blocks_answer, owed_answer, block, visible}
+use Rattle.pps_types.specs.Rests.{Progress, News, Unread, Over, Owed, answer, news_in}
 use Rattle.pps_types.specs.Owed.{owed_in_seen}
 use Rattle.server_queue.specs.Given.{needed, refused_for, first_len}
 use Rattle.sub_reader.specs.Blocks.{owed_blocks}
@@ -23,14 +23,14 @@ long_or k n short = by (nat_le k n) refl
 
 -- ---- everything
 
-all_of : (max : ℕ) (h : Open Seen) (s : Seen) → (is_none (owed_in_seen h s) && news_in h.reads s) ≡ true → Owes max h s None
+all_of : (max : ℕ) (h : OpenHandle Progress) (s : Progress) → (is_none (owed_in_seen h s) && news_in h.reads s) ≡ true → Owes max h s None
 all_of max h (News true) e = refl
 all_of max h (News false) e = absurd (let bad = e in cc)
 all_of max h Unread e = refl
 all_of max h Over e = refl
 all_of max h (Owed rest) e = absurd (let bad = e in cc)
 
-pub all_owed : (max : ℕ) (o : Option (Open Seen)) → is_given_all o ≡ true → IfSome o (λ h. h.reads ≡ true → Owes max h h.seen None)
+pub all_owed : (max : ℕ) (o : Option (OpenHandle Progress)) → is_given_all o ≡ true → IfSome o (λ h. h.reads ≡ true → Owes max h h.seen None)
 all_owed max None e = tt
 all_owed max (Some h) e = λ reads. all_of max h h.seen e
 
@@ -44,8 +44,8 @@ fits max (b ∷ bs) e = by (nat_le (length b) max) e
     by true e = refl
     by false e = absurd (let bad = e in cc)
 
-module _ (max : ℕ) (g : GivenBlocks) (h : Open Seen) (reads : h.reads ≡ true) where
-  some_of : (s : Seen) → (is_none (owed_in_seen h s) && news_in h.reads s) ≡ false → (g.count, g.text.items) ≡ fitting max (owed_blocks (Some (record h { seen = s })))
+module _ (max : ℕ) (g : GivenBlocks) (h : OpenHandle Progress) (reads : h.reads ≡ true) where
+  some_of : (s : Progress) → (is_none (owed_in_seen h s) && news_in h.reads s) ≡ false → (g.count, g.text.items) ≡ fitting max (owed_blocks (Some (record h { seen = s })))
       → None ≡ refused_for max (owed_blocks (Some (record h { seen = s }))) → Owes max h s (Some g)
   some_of (News true) e same fit = absurd (let bad = e in cc)
   some_of (News false) e same fit = record { same = same; fits = refl }
@@ -53,7 +53,7 @@ module _ (max : ℕ) (g : GivenBlocks) (h : Open Seen) (reads : h.reads ≡ true
   some_of Over e same fit = absurd (let bad = e in cc)
   some_of (Owed rest) e same fit = record { same = same; fits = fits max (map (block h) (filter (visible h) rest)) fit }
 
-pub some_owed : (max : ℕ) (g : GivenBlocks) (o : Option (Open Seen)) → is_given_all o ≡ false → (g.count, g.text.items) ≡ fitting max (owed_blocks o) → None ≡ refused_for max (owed_blocks o)
+pub some_owed : (max : ℕ) (g : GivenBlocks) (o : Option (OpenHandle Progress)) → is_given_all o ≡ false → (g.count, g.text.items) ≡ fitting max (owed_blocks o) → None ≡ refused_for max (owed_blocks o)
     → IfSome o (λ h. h.reads ≡ true → Owes max h h.seen (Some g))
 some_owed max g None e same fit = tt
 some_owed max g (Some h) e same fit = λ reads. some_of max g h reads h.seen e same fit
@@ -82,8 +82,8 @@ module _ (max : ℕ) (r : Refusal) where
   blocks_refuse wait dead [] full memory some = none_refuses full some
   blocks_refuse wait dead (b ∷ bs) full memory some = block_refuses b bs (nat_le (length b) max) full memory (memory_or r)
 
-  module _ (h : Open Seen) (reads : h.reads ≡ true) (everything : List ℕ) (dead : Bool) where
-    refuse_of : (s : Seen) → (is_none (owed_in_seen h s) && news_in h.reads s) ≡ false → (Some r ≢ Some OutOfMemory → Some r ≡ refused_for max (owed_blocks (Some (record h { seen = s }))))
+  module _ (h : OpenHandle Progress) (reads : h.reads ≡ true) (everything : List ℕ) (dead : Bool) where
+    refuse_of : (s : Progress) → (is_none (owed_in_seen h s) && news_in h.reads s) ≡ false → (Some r ≢ Some OutOfMemory → Some r ≡ refused_for max (owed_blocks (Some (record h { seen = s }))))
         → (Some r ≡ Some OutOfMemory → first_len (owed_blocks (Some (record h { seen = s }))) < 2 ^ 32 → refused_for max (owed_blocks (Some (record h { seen = s }))) ≡ None)
         → (Some r ≡ Some OutOfMemory → 0 < length (owed_blocks (Some (record h { seen = s })))) → Refuses (answer h s everything dead max) r
     refuse_of (News true) e full memory some = absurd (let bad = e in cc)
@@ -92,7 +92,7 @@ module _ (max : ℕ) (r : Refusal) where
     refuse_of Over e full memory some = absurd (let bad = e in cc)
     refuse_of (Owed rest) e full memory some = blocks_refuse h.options.wait dead (map (block h) (filter (visible h) rest)) full memory some
 
-  pub owed_refuses : (o : Option (Open Seen)) → is_given_all o ≡ false → (Some r ≢ Some OutOfMemory → Some r ≡ refused_for max (owed_blocks o))
+  pub owed_refuses : (o : Option (OpenHandle Progress)) → is_given_all o ≡ false → (Some r ≢ Some OutOfMemory → Some r ≡ refused_for max (owed_blocks o))
       → (Some r ≡ Some OutOfMemory → first_len (owed_blocks o) < 2 ^ 32 → refused_for max (owed_blocks o) ≡ None)
       → (Some r ≡ Some OutOfMemory → 0 < length (owed_blocks o)) → IfSome o (λ h. h.reads ≡ true → (everything : List ℕ) (dead : Bool) → Refuses (answer h h.seen everything dead max) r)
   owed_refuses None e full memory some = tt

@@ -11,8 +11,8 @@ use Rattle.pps_types.specs.declared.refusal.Refusal.{Refusal}
 use Rattle.pps_types.specs.declared.refusal.Refusal.TheVariants.{OutOfMemory, TableFull}
 use Rattle.pps_types.specs.Bytes.{is_empty}
 use Rattle.pps_types.specs.Text.{WriteText, write_text}
-use Rattle.pps_types.specs.Reading.{Open, is_directory_kind}
-use Rattle.pps_types.specs.Rests.{Seen}
+use Rattle.pps_types.specs.Reading.{OpenHandle, is_directory_kind}
+use Rattle.pps_types.specs.Rests.{Progress}
 use Rattle.pps_types.specs.Content.{LiveObject, Content, own_handle, object_numbered}
 use Rattle.pps_types.specs.Checks.{Check, first_refusal, reaches_memory, parsed, text_checks, is_server}
 use Rattle.pps_types.specs.Plan.{Move, effect, writing, on_target, written_kind}
@@ -29,14 +29,14 @@ use Rattle.handle_requests.proofs.Refusals.{short_early, all_want, memory_fails,
 
 -- ---- the same checks and the same record
 
-pub checks_same : (c : Content) (h : Open Seen) (kind : HandleKind) (text : WriteText) → checks_by c (author h) kind text ≡ text_checks c h kind text
+pub checks_same : (c : Content) (h : OpenHandle Progress) (kind : HandleKind) (text : WriteText) → checks_by c (author h) kind text ≡ text_checks c h kind text
 checks_same c h (ObjectHandle delta) text = refl
 checks_same c h (DirectoryHandle delta) text = refl
 checks_same c h NamesHandle text = refl
 checks_same c h ServerHandle text = refl
 checks_same c h ClientHandle text = refl
 
-pub kind_same : (c : Content) (h : Open Seen) (kind : HandleKind) (text : WriteText) → kind_by c (author h) kind text ≡ written_kind c h kind text
+pub kind_same : (c : Content) (h : OpenHandle Progress) (kind : HandleKind) (text : WriteText) → kind_by c (author h) kind text ≡ written_kind c h kind text
 kind_same c h (ObjectHandle delta) text = refl
 kind_same c h (DirectoryHandle delta) text = refl
 kind_same c h NamesHandle text = refl
@@ -62,7 +62,7 @@ server_owned (DirectoryHandle delta) number s is may = absurd (let bad = is in c
 server_owned NamesHandle number s is may = absurd (let bad = is in cc)
 server_owned ClientHandle number s is may = absurd (let bad = is in cc)
 
-module _ (c : Content) (content : IsContent c) (conn n : ℕ) (bytes : List ℕ) (w : Writer) (h : Open Seen) (own : own_handle c conn n ≡ Some h) (writer : IsWriter c bytes w h) where
+module _ (c : Content) (content : IsContent c) (conn n : ℕ) (bytes : List ℕ) (w : Writer) (h : OpenHandle Progress) (own : own_handle c conn n ≡ Some h) (writer : IsWriter c bytes w h) where
   target_is : h.target ≡ w.object.now.object.number
   target_is = ap (λ (a : Author). a.object) (sym writer.author_is)
 
@@ -72,7 +72,7 @@ module _ (c : Content) (content : IsContent c) (conn n : ℕ) (bytes : List ℕ)
     known = subst (λ m. object_numbered c m ≡ Some (known_of w.object.now)) target_is writer.known;
     plain = ap is_directory_kind writer.kind ∙ writer.plain;
     served = λ is.
-        let may : may_be_on h.kind h.number (server_of c h.target) ≡ true = all-find (λ (h : Open Seen). may_be_on h.kind h.number (server_of c h.target) ≡ true) (λ h. (h.number == n) && (h.connection == conn)) c.handles h content.served.users own in
+        let may : may_be_on h.kind h.number (server_of c h.target) ≡ true = all-find (λ (h : OpenHandle Progress). may_be_on h.kind h.number (server_of c h.target) ≡ true) (λ h. (h.number == n) && (h.connection == conn)) c.handles h content.served.users own in
         let here : may_be_on h.kind h.number (Some w.object.now.object.server) ≡ true = ap (λ (o : Option LiveObject). may_be_on h.kind h.number (option_map (λ (o : LiveObject). o.object.server) o)) (sym writer.known) ∙ may in
         ap (λ m. is_some (server_in c m)) (sym target_is) ∙ ap (λ (o : Option LiveObject). is_some (option_and_then (λ (o : LiveObject). o.object.server) o)) writer.known
         ∙ server_owned h.kind h.number w.object.now.object.server (ap is_server (sym writer.kind) ∙ is) here;
@@ -89,7 +89,7 @@ module _ (c : Content) (content : IsContent c) (conn n : ℕ) (bytes : List ℕ)
   -- and what it comes to is the write's
   pub is_draft : (d : Draft) → IsDrafted c (author_of w) w.kind bytes d → IsDraft c conn n bytes d
   is_draft d drafted =
-      subst (λ (o : Option (Open Seen)). IsSomeAnd o (IsDraftOf c bytes d)) (sym own)
+      subst (λ (o : Option (OpenHandle Progress)). IsSomeAnd o (IsDraftOf c bytes d)) (sym own)
       (record {
         early = writer.early;
         alive = ap is_some writer.known;
@@ -107,14 +107,14 @@ module _ (c : Content) (content : IsContent c) (conn n : ℕ) (bytes : List ℕ)
 -- ---- a draft
 
 -- the handle of a draft
-pub drafted_by : (c : Content) (conn n : ℕ) (bytes : List ℕ) (d : Draft) → IsDraft c conn n bytes d → (h : Open Seen) × (own_handle c conn n ≡ Some h) × IsDraftOf c bytes d h
+pub drafted_by : (c : Content) (conn n : ℕ) (bytes : List ℕ) (d : Draft) → IsDraft c conn n bytes d → (h : OpenHandle Progress) × (own_handle c conn n ≡ Some h) × IsDraftOf c bytes d h
 drafted_by c conn n bytes d draft = by (own_handle c conn n) refl draft
   where
-    by : (o : Option (Open Seen)) → own_handle c conn n ≡ o → IsSomeAnd o (IsDraftOf c bytes d) → (h : Open Seen) × (own_handle c conn n ≡ Some h) × IsDraftOf c bytes d h
+    by : (o : Option (OpenHandle Progress)) → own_handle c conn n ≡ o → IsSomeAnd o (IsDraftOf c bytes d) → (h : OpenHandle Progress) × (own_handle c conn n ≡ Some h) × IsDraftOf c bytes d h
     by None e draft = elim draft [ ]
     by (Some h) e draft = (h, e, draft)
 
-module _ (c : Content) (conn n : ℕ) (bytes : List ℕ) (d : Draft) (h : Open Seen) (own : own_handle c conn n ≡ Some h) (is : IsDraftOf c bytes d h) where
+module _ (c : Content) (conn n : ℕ) (bytes : List ℕ) (d : Draft) (h : OpenHandle Progress) (own : own_handle c conn n ≡ Some h) (is : IsDraftOf c bytes d h) where
   told_of : told_by c n d ≡ writing c h is.drafted.text
   told_of =
       ap (λ b. cond b (on_object c d.object d.kind n) []) is.drafted.lines
@@ -134,7 +134,7 @@ module _ (c : Content) (conn n : ℕ) (bytes : List ℕ) (d : Draft) (h : Open S
       ∙ ap first_refusal (sym (checks_same c h h.kind is.drafted.text)) ∙ is.drafted.late ∙ ap (λ m. late_refusal c m d.kind) (sym is.drafted.object)
 
 module _ (c : Content) (conn n : ℕ) (bytes : List ℕ) (d : Draft) (draft : IsDraft c conn n bytes d) where
-  abbrev by_whom : (h : Open Seen) × (own_handle c conn n ≡ Some h) × IsDraftOf c bytes d h
+  abbrev by_whom : (h : OpenHandle Progress) × (own_handle c conn n ≡ Some h) × IsDraftOf c bytes d h
   by_whom = drafted_by c conn n bytes d draft
 
   pub draft_alive : is_some (object_numbered c d.object) ≡ true

@@ -5,8 +5,8 @@ use Rattle.std.proofs.Common.{refl, sym, ◌∙◌, ap, inl, inr}
 use Rattle.pps_types.specs.declared.refusal.Refusal.{Refusal}
 use Rattle.pps_types.specs.declared.refusal.Refusal.TheVariants.{OutOfMemory, BadMode, BadArgument, BadHandle}
 use Rattle.pps_types.specs.declared.event.Action.{Action}
-use Rattle.pps_types.specs.Reading.{Open}
-use Rattle.pps_types.specs.Rests.{Seen}
+use Rattle.pps_types.specs.Reading.{OpenHandle}
+use Rattle.pps_types.specs.Rests.{Progress}
 use Rattle.pps_types.specs.Outbox.{arms, arm_refusal}
 use Rattle.pps_types.specs.Content.{Content, own_handle, outbox_of, news}
 use Rattle.pps_types.specs.Checks.{Check, Refuse, Memory, first_refusal, reaches_memory, refused, request_checks}
@@ -25,12 +25,12 @@ abbrev asked_by : Bool → Bool → Bool → Option Refusal → List Check
 asked_by reads low arms full = Refuse (not reads) BadMode ∷ Refuse low BadArgument ∷ (if arms then refused full ++ Memory ∷ [] else [])
 
 -- the own handle that is asked
-read_off : (o : Option (Open Seen)) (b : Bool) → option_map {U = Bool × Bool} (λ h. (h.reads, news h)) o ≡ Some (true, b) → (h : Open Seen) × ((o ≡ Some h) × ((h.reads ≡ true) × (news h ≡ b)))
+read_off : (o : Option (OpenHandle Progress)) (b : Bool) → option_map {U = Bool × Bool} (λ h. (h.reads, news h)) o ≡ Some (true, b) → (h : OpenHandle Progress) × ((o ≡ Some h) × ((h.reads ≡ true) × (news h ≡ b)))
 read_off None b e = absurd (let bad = e in cc)
 read_off (Some h) b e = let same : ◌≡◌ {A = Bool × Bool} (h.reads, news h) (true, b) = let is = e in cc in (h, (refl, (ap (λ (p : Bool × Bool). p.0) same, ap (λ (p : Bool × Bool). p.1) same)))
 
 module _ (c : Content) (conn handle : ℕ) (action : Action) (pulse : Pulse) (n : Notified) (noted : IsNoticed c conn handle action pulse n) where
-  known : (h : Open Seen) × ((own_handle c conn handle ≡ Some h) × ((h.reads ≡ true) × (news h ≡ n.news)))
+  known : (h : OpenHandle Progress) × ((own_handle c conn handle ≡ Some h) × ((h.reads ≡ true) × (news h ≡ n.news)))
   known = read_off (own_handle c conn handle) n.news noted.own
 
   pub checks_asked : request_checks c conn (notify_of handle action pulse) ≡ asked_by true false (arms action n.news) (arm_refusal (outbox_of c conn) handle)
@@ -38,7 +38,7 @@ module _ (c : Content) (conn handle : ℕ) (action : Action) (pulse : Pulse) (n 
       let h = known.0 in
       let own : own_handle c conn handle ≡ Some h = known.1.0 in
       let is = own_is c.handles conn handle h own in
-      ap (λ o. option_map_or (λ (h : Open Seen). asked_by h.reads (nat_lt 127 pulse.code) (arms action (news h)) (arm_refusal (outbox_of c h.connection) h.number)) o (Refuse true BadHandle ∷ [])) own
+      ap (λ o. option_map_or (λ (h : OpenHandle Progress). asked_by h.reads (nat_lt 127 pulse.code) (arms action (news h)) (arm_refusal (outbox_of c h.connection) h.number)) o (Refuse true BadHandle ∷ [])) own
       ∙ ap (λ r. asked_by r (nat_lt 127 pulse.code) (arms action (news h)) (arm_refusal (outbox_of c h.connection) h.number)) known.1.1.0
       ∙ ap (λ l. asked_by true l (arms action (news h)) (arm_refusal (outbox_of c h.connection) h.number)) noted.code
       ∙ ap (λ b. asked_by true false (arms action b) (arm_refusal (outbox_of c h.connection) h.number)) known.1.1.1
@@ -54,7 +54,7 @@ module _ (c : Content) (conn handle : ℕ) (action : Action) (pulse : Pulse) (n 
       let h = known.0 in
       let own : own_handle c conn handle ≡ Some h = known.1.0 in
       let is = own_is c.handles conn handle h own in
-      ap (λ o. option_map_or (λ (h : Open Seen). (Input (news h), Arms h.number (if arms action (news h) then Some (pulse.code, pulse.value) else None) ∷ [])) o (Done, [])) own
+      ap (λ o. option_map_or (λ (h : OpenHandle Progress). (Input (news h), Arms h.number (if arms action (news h) then Some (pulse.code, pulse.value) else None) ∷ [])) o (Done, [])) own
       ∙ ap (λ k. (Input (news h), Arms k (if arms action (news h) then Some (pulse.code, pulse.value) else None) ∷ [])) is.0
       ∙ ap (λ b. (Input b, Arms handle (if arms action b then Some (pulse.code, pulse.value) else None) ∷ [])) known.1.1.1
       ∙ ap (λ p. (Input n.news, Arms handle p ∷ [])) (sym noted.arming)

@@ -16,8 +16,8 @@ use Rattle.pps_types.specs.declared.handle_kind.HandleKind.{HandleKind}
 use Rattle.pps_types.specs.declared.handle_kind.HandleKind.TheVariants.{Object as ObjectHandle, Directory as DirectoryHandle, Names as NamesHandle, Server as ServerHandle, Client as ClientHandle}
 use Rattle.std.specs.Prelude.{Err}
 use Rattle.pps_types.specs.declared.record.Kind.TheVariants.{Dropped}
-use Rattle.pps_types.specs.Reading.{Open}
-use Rattle.pps_types.specs.Rests.{Seen}
+use Rattle.pps_types.specs.Reading.{OpenHandle}
+use Rattle.pps_types.specs.Rests.{Progress}
 use Rattle.pps_types.specs.History.{Entry}
 use Rattle.pps_types.specs.Content.{LiveObject, Content, object_numbered, own_handle, handles_of}
 use Rattle.pps_types.specs.Checks.{Refuse, Memory, first_refusal, reaches_memory, close_checks}
@@ -42,7 +42,7 @@ use Rattle.handle_requests.proofs.Begins.{plain_told, plain_all, able_begun, mov
 
 -- ---- the checks of a close
 
-last_alone : (c : Content) (h : Open Seen) (kind : HandleKind) (last : Bool) → first_refusal (close_checks c (record h { kind = kind }) ++ Refuse last TableFull ∷ []) ≡ cond last (Some TableFull) None
+last_alone : (c : Content) (h : OpenHandle Progress) (kind : HandleKind) (last : Bool) → first_refusal (close_checks c (record h { kind = kind }) ++ Refuse last TableFull ∷ []) ≡ cond last (Some TableFull) None
 last_alone c h ServerHandle last = refl
 last_alone c h ClientHandle last = refl
 last_alone c h (DirectoryHandle delta) last = refl
@@ -53,7 +53,7 @@ last_alone c h (ObjectHandle delta) last = by (h.options.critical && h.writes &&
     by true = refl
     by false = refl
 
-told_wants : (c : Content) (h : Open Seen) (kind : HandleKind) (last : Bool) → is_some (told_of c (record h { kind = kind })) ≡ true → reaches_memory (close_checks c (record h { kind = kind }) ++ Refuse last TableFull ∷ []) ≡ true
+told_wants : (c : Content) (h : OpenHandle Progress) (kind : HandleKind) (last : Bool) → is_some (told_of c (record h { kind = kind })) ≡ true → reaches_memory (close_checks c (record h { kind = kind }) ++ Refuse last TableFull ∷ []) ≡ true
 told_wants c h ServerHandle last told = refl
 told_wants c h ClientHandle last told = refl
 told_wants c h (DirectoryHandle delta) last told = absurd (let bad = told in cc)
@@ -72,18 +72,18 @@ last_check c conn request = passes_last_number (apply_all_seen (effect c conn re
 pub close_absent : (c : Content) (conn handle : ℕ) → own_handle c conn handle ≡ None → first_refusal (all_request_checks c conn (Close handle)) ≡ Some BadHandle
 close_absent c conn handle none = ap (λ o. first_refusal (option_map_or (close_checks c) o (Refuse true BadHandle ∷ []) ++ Refuse (last_check c conn (Close handle)) TableFull ∷ [])) none
 
-module _ (c : Content) (conn handle : ℕ) (h : Open Seen) (own : own_handle c conn handle ≡ Some h) where
+module _ (c : Content) (conn handle : ℕ) (h : OpenHandle Progress) (own : own_handle c conn handle ≡ Some h) where
   checks_own : all_request_checks c conn (Close handle) ≡ close_checks c h ++ Refuse (last_check c conn (Close handle)) TableFull ∷ []
   checks_own = ap (λ o. option_map_or (close_checks c) o (Refuse true BadHandle ∷ []) ++ Refuse (last_check c conn (Close handle)) TableFull ∷ []) own
 
   own_numbers : (h.number ≡ handle) × ((h.connection ≡ conn) × Unit {0})
   own_numbers =
-      let is = and-both (h.number == handle) (h.connection == conn) (find-true (λ (g : Open Seen). (g.number == handle) && (g.connection == conn)) c.handles h own) in
+      let is = and-both (h.number == handle) (h.connection == conn) (find-true (λ (g : OpenHandle Progress). (g.number == handle) && (g.connection == conn)) c.handles h own) in
       (eqb-true h.number handle is.0, (eqb-true h.connection conn is.1, tt))
 
   effect_own : effect c conn (Close handle) ≡ (Done, closing_of c h)
   unfolding effect
-  effect_own = ap (λ o. option_map_or {U = Outcome × List Move} (λ (h : Open Seen). (Done, closing_of c h)) o (Done, [])) own
+  effect_own = ap (λ o. option_map_or {U = Outcome × List Move} (λ (h : OpenHandle Progress). (Done, closing_of c h)) o (Done, [])) own
 
   closing_told : closing_of c h ≡ flat_map moves_of (begun conn handle (is_some h.parked) (told_of c h))
   closing_told =
@@ -115,12 +115,12 @@ module _ (c : Content) (conn handle : ℕ) (h : Open Seen) (own : own_handle c c
 
 -- ---- a detach
 
-module _ (c : Content) (w : IsContent c) (conn : ℕ) (xs : List Beginning) (is : map bare xs ≡ flat_map (begun_behind c conn) (map (λ (h : Open Seen). h.number) (handles_of c conn))) where
+module _ (c : Content) (w : IsContent c) (conn : ℕ) (xs : List Beginning) (is : map bare xs ≡ flat_map (begun_behind c conn) (map (λ (h : OpenHandle Progress). h.number) (handles_of c conn))) where
   pub detach_able : CanBeginAll c xs
   detach_able = bare_able xs c (subst (CanBeginAll c) (sym is) (able_begun c conn w))
 
   pub detach_plain : list_all is_plain xs ≡ true
-  detach_plain = sym (bare_plain xs) ∙ ap (list_all is_plain) is ∙ plain_all c conn (map (λ (h : Open Seen). h.number) (handles_of c conn))
+  detach_plain = sym (bare_plain xs) ∙ ap (list_all is_plain) is ∙ plain_all c conn (map (λ (h : OpenHandle Progress). h.number) (handles_of c conn))
 
   module _ (settled : EventsAreSettled) (planned : ClosesArePlanned) where
     pub detach_does : effect c conn Detach ≡ (Done, flat_map moves_of xs ++ Leaves conn ∷ [])
@@ -140,20 +140,20 @@ module _ (c : Content) (w : IsContent c) (conn : ℕ) (xs : List Beginning) (is 
 -- ---- a handle that closes, by what the tables know of it
 
 -- it is the connection's own, a read waits on it or not, and this is told of its close
-pub record IsClosing (c : Content) (conn handle : ℕ) (parked : Bool) (told : Option Entry) (h : Open Seen) : Type 0 where
+pub record IsClosing (c : Content) (conn handle : ℕ) (parked : Bool) (told : Option Entry) (h : OpenHandle Progress) : Type 0 where
   pub own : own_handle c conn handle ≡ Some h
   pub parked_is : is_some h.parked ≡ parked
   pub told_is : told_of c h ≡ told
 
-pub closing_known : (c : Content) (conn handle : ℕ) (x : Open (Unit {0})) → Some x ≡ option_map as_opened (own_handle c conn handle)
-    → (parked : Bool) → IfSome (own_handle c conn handle) (λ h. parked ≡ is_some h.parked) → (told : Option Entry) → told ≡ told_of c x → (h : Open Seen) × IsClosing c conn handle parked told h
+pub closing_known : (c : Content) (conn handle : ℕ) (x : OpenHandle (Unit {0})) → Some x ≡ option_map as_opened (own_handle c conn handle)
+    → (parked : Bool) → IfSome (own_handle c conn handle) (λ h. parked ≡ is_some h.parked) → (told : Option Entry) → told ≡ told_of c x → (h : OpenHandle Progress) × IsClosing c conn handle parked told h
 closing_known c conn handle x e parked parked-is told told-is =
     let known = own_known (own_handle c conn handle) x e in
     let at : own_handle c conn handle ≡ Some known.0 = known.1.0 in
-    let waits : parked ≡ is_some known.0.parked = subst (λ (o : Option (Open Seen)). IfSome o (λ h. parked ≡ is_some h.parked)) at parked-is in
-    (known.0, record { own = at; parked_is = sym waits; told_is = ap (λ (y : Open (Unit {0})). told_of c y) known.1.1 ∙ sym told-is })
+    let waits : parked ≡ is_some known.0.parked = subst (λ (o : Option (OpenHandle Progress)). IfSome o (λ h. parked ≡ is_some h.parked)) at parked-is in
+    (known.0, record { own = at; parked_is = sym waits; told_is = ap (λ (y : OpenHandle (Unit {0})). told_of c y) known.1.1 ∙ sym told-is })
 
-module _ (c : Content) (conn handle : ℕ) (parked : Bool) (told : Option Entry) (h : Open Seen) (is : IsClosing c conn handle parked told h) where
+module _ (c : Content) (conn handle : ℕ) (parked : Bool) (told : Option Entry) (h : OpenHandle Progress) (is : IsClosing c conn handle parked told h) where
   begun_is : begun conn handle parked told ≡ begun conn handle (is_some h.parked) (told_of c h)
   begun_is = λ i. begun conn handle (sym is.parked_is i) (sym is.told_is i)
 
@@ -165,7 +165,7 @@ module _ (c : Content) (conn handle : ℕ) (parked : Bool) (told : Option Entry)
     closing_able = bare_able xs c (subst (CanBeginAll c) (sym begins) (first, by told))
       where
         first : CanBegin c (Closes conn handle parked)
-        first = ap (option_map (λ (g : Open Seen). is_some g.parked)) is.own ∙ ap Some is.parked_is
+        first = ap (option_map (λ (g : OpenHandle Progress). is_some g.parked)) is.own ∙ ap Some is.parked_is
 
         by : (told : Option Entry) → CanBeginAll (apply_all_seen (closing conn handle parked) c) (telling told)
         by None = tt
@@ -186,7 +186,7 @@ module _ (c : Content) (conn handle : ℕ) (parked : Bool) (told : Option Entry)
       closing_fails some r (inr full) = inl (closing_refusal true full.1 ∙ ap Some (sym full.0))
 
 -- nobody is told
-module _ (c : Content) (conn handle : ℕ) (parked : Bool) (h : Open Seen) (is : IsClosing c conn handle parked None h) (settled : EventsAreSettled) where
+module _ (c : Content) (conn handle : ℕ) (parked : Bool) (h : OpenHandle Progress) (is : IsClosing c conn handle parked None h) (settled : EventsAreSettled) where
   pub alone_passes : last_number_passed c 0 0 0 ≡ false → first_refusal (all_request_checks c conn (Close handle)) ≡ None
   alone_passes within = closing_refusal c conn handle parked None h is (Closes conn handle parked ∷ []) refl settled false within
 
@@ -198,14 +198,14 @@ module _ (c : Content) (conn handle : ℕ) (parked : Bool) (h : Open Seen) (is :
       by false = refl
 
 -- what a connection's own handle begins with where those of lower numbers close before it
-pub begun_known : (c : Content) (conn handle : ℕ) (x : Open (Unit {0})) → Some x ≡ option_map as_opened (own_handle c conn handle)
+pub begun_known : (c : Content) (conn handle : ℕ) (x : OpenHandle (Unit {0})) → Some x ≡ option_map as_opened (own_handle c conn handle)
     → (parked : Bool) → IfSome (own_handle c conn handle) (λ h. parked ≡ is_some h.parked) → (told : Option Entry) → told ≡ told_behind c conn x → begun conn handle parked told ≡ begun_behind c conn handle
 begun_known c conn handle x e parked parked-is told told-is =
     let known = own_known (own_handle c conn handle) x e in
     let at : own_handle c conn handle ≡ Some known.0 = known.1.0 in
-    let waits : parked ≡ is_some known.0.parked = subst (λ (o : Option (Open Seen)). IfSome o (λ h. parked ≡ is_some h.parked)) at parked-is in
-    let tells : told ≡ told_behind c conn known.0 = told-is ∙ ap (λ (y : Open (Unit {0})). told_behind c conn y) (sym known.1.1) in
-    (λ i. begun conn handle (waits i) (tells i)) ∙ sym (ap (λ o. option_map_or (λ (h : Open Seen). begun conn handle (is_some h.parked) (told_behind c conn h)) o []) at)
+    let waits : parked ≡ is_some known.0.parked = subst (λ (o : Option (OpenHandle Progress)). IfSome o (λ h. parked ≡ is_some h.parked)) at parked-is in
+    let tells : told ≡ told_behind c conn known.0 = told-is ∙ ap (λ (y : OpenHandle (Unit {0})). told_behind c conn y) (sym known.1.1) in
+    (λ i. begun conn handle (waits i) (tells i)) ∙ sym (ap (λ o. option_map_or (λ (h : OpenHandle Progress). begun conn handle (is_some h.parked) (told_behind c conn h)) o []) at)
 
 -- nothing is left to gather
 pub gathered : (f : ℕ → List Beginning) (ns : List ℕ) (i : ℕ) → length ns ≤ i → (xs ys : List Beginning) → xs ++ flat_map f (drop i ns) ≡ ys → xs ≡ ys

@@ -7,8 +7,8 @@ use Rattle.pps_types.specs.declared.outcome.Outcome.TheVariants.{Wrote, Done}
 use Rattle.pps_types.specs.declared.refusal.Refusal.{Refusal}
 use Rattle.pps_types.specs.declared.refusal.Refusal.TheVariants.{OutOfMemory, BadHandle, BadMode, TooLarge, Gone, TableFull}
 use Rattle.pps_types.specs.Text.{WriteText, write_text}
-use Rattle.pps_types.specs.Reading.{Open}
-use Rattle.pps_types.specs.Rests.{Seen}
+use Rattle.pps_types.specs.Reading.{OpenHandle}
+use Rattle.pps_types.specs.Rests.{Progress}
 use Rattle.pps_types.specs.Content.{Content, own_handle, target_is_dead}
 use Rattle.pps_types.specs.Checks.{Check, Refuse, Memory, first_refusal, reaches_memory, request_checks, write_checks, parsed, text_checks}
 use Rattle.pps_types.specs.Plan.{effect, writing, with_result}
@@ -50,7 +50,7 @@ reaches_behind (Memory ∷ cs) ds none = refl
 abbrev early_by : Bool → Bool → Bool → List Check
 early_by writes long dead = Refuse (not writes) BadMode ∷ Refuse long TooLarge ∷ Refuse dead Gone ∷ []
 
-module _ (c : Content) (bytes : List ℕ) (h : Open Seen) where
+module _ (c : Content) (bytes : List ℕ) (h : OpenHandle Progress) where
   pub mode_early : h.writes ≡ false → first_refusal (early_checks c bytes h) ≡ Some BadMode
   mode_early mode = ap (λ b. first_refusal (early_by b (nat_lt 65536 (length bytes)) (target_is_dead c h))) mode
 
@@ -83,7 +83,7 @@ module _ (c : Content) (conn n : ℕ) (bytes : List ℕ) where
   pub first_fails : (r : Refusal) → first_refusal (request_checks c conn (Write n bytes)) ≡ Some r → Fails (all_request_checks c conn (Write n bytes)) r
   first_fails r some = inl (first_some (request_checks c conn (Write n bytes)) last r some)
 
-  module _ (h : Open Seen) (own : own_handle c conn n ≡ Some h) where
+  module _ (h : OpenHandle Progress) (own : own_handle c conn n ≡ Some h) where
     request_told : request_checks c conn (Write n bytes) ≡ early_checks c bytes h ++ Memory ∷ parsed (write_text bytes) (text_checks c h h.kind)
     request_told = ap (λ o. option_map_or (write_checks c bytes) o (Refuse true BadHandle ∷ [])) own
 
@@ -123,5 +123,5 @@ module _ (c : Content) (conn n : ℕ) (bytes : List ℕ) where
     pub effect_told : (text : WriteText) → write_text bytes ≡ Ok text → effect c conn (Write n bytes) ≡ (Wrote (length bytes), writing c h text)
     unfolding effect
     effect_told text reads =
-        ap (λ o. option_map_or (λ (h : Open Seen). with_result (write_text bytes) (λ (text : WriteText). (Wrote (length bytes), writing c h text))) o (Done, [])) own
+        ap (λ o. option_map_or (λ (h : OpenHandle Progress). with_result (write_text bytes) (λ (text : WriteText). (Wrote (length bytes), writing c h text))) o (Done, [])) own
         ∙ ap (λ (r : Result WriteText Refusal). with_result r (λ text. (Wrote (length bytes), writing c h text))) reads

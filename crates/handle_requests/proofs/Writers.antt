@@ -4,8 +4,8 @@ use Rattle.std.specs.Prelude.{◌&&◌, ◌==◌, nat_lt, is_none, length, optio
 use Rattle.std.proofs.lemmas.Bool.Decides.{nat_tests}
 use Rattle.pps_types.specs.declared.event.Request.TheVariants.{Write}
 use Rattle.pps_types.specs.declared.refusal.Refusal.TheVariants.{BadHandle, BadMode, TooLarge, Gone}
-use Rattle.pps_types.specs.Reading.{Open, is_directory_kind}
-use Rattle.pps_types.specs.Rests.{Seen}
+use Rattle.pps_types.specs.Reading.{OpenHandle, is_directory_kind}
+use Rattle.pps_types.specs.Rests.{Progress}
 use Rattle.pps_types.specs.Content.{LiveObject, own_handle, object_numbered, target_is_dead}
 use Rattle.pps_types.specs.Checks.{first_refusal, request_checks}
 use Rattle.service_laws.proofs.Finds.{find-true}
@@ -35,14 +35,14 @@ pub no_own : (t : Tabled) (conn n : ℕ) (bytes : List ℕ) → None ≡ option_
 no_own t conn n bytes none = unknown_first (content_in t) conn n bytes (own_unknown (own_handle (content_in t) conn n) none)
 
 module _ (t : Tabled) (conn n : ℕ) (bytes : List ℕ) (own : Own) (is : IsOwn t conn n own) where
-  abbrev found : (h : Open Seen) × ((own_handle (content_in t) conn n ≡ Some h) × (as_opened h ≡ opened_as t own))
+  abbrev found : (h : OpenHandle Progress) × ((own_handle (content_in t) conn n ≡ Some h) × (as_opened h ≡ opened_as t own))
   found = own_known (own_handle (content_in t) conn n) (opened_as t own) is
 
   writes_is : (b : Bool) → own.opening.now.writes ≡ b → found.0.writes ≡ b
-  writes_is b mode = ap (λ (x : Open (Unit {0})). x.writes) found.1.1 ∙ mode
+  writes_is b mode = ap (λ (x : OpenHandle (Unit {0})). x.writes) found.1.1 ∙ mode
 
   target_is : found.0.target ≡ number_of own.found
-  target_is = ap (λ (x : Open (Unit {0})). x.target) found.1.1
+  target_is = ap (λ (x : OpenHandle (Unit {0})). x.target) found.1.1
 
   pub mode_refused : own.opening.now.writes ≡ false → first_refusal (request_checks (content_in t) conn (Write n bytes)) ≡ Some BadMode
   mode_refused mode = early_first (content_in t) conn n bytes found.0 found.1.0 BadMode (mode_early (content_in t) bytes found.0 (writes_is false mode))
@@ -70,13 +70,13 @@ module _ (t : Tabled) (conn n : ℕ) (bytes : List ℕ) (own : Own) (is : IsOwn 
       writer_is w handle kind name known =
           let there : object_numbered (content_in t) found.0.target ≡ Some (known_of w.object.now) = ap (object_numbered (content_in t)) target_is ∙ known in
           let number : w.object.now.object.number ≡ found.0.target = eqb-true w.object.now.object.number found.0.target (find-true (λ (o : LiveObject). eqb o.object.number found.0.target) (content_in t).objects (known_of w.object.now) there) in
-          let named : w.name.now ≡ found.0.name = name ∙ sym (ap (λ (x : Open (Unit {0})). x.name) found.1.1) in
+          let named : w.name.now ≡ found.0.name = name ∙ sym (ap (λ (x : OpenHandle (Unit {0})). x.name) found.1.1) in
           let numbered : w.handle ≡ found.0.number = handle ∙ sym (own_is (content_in t).handles conn n found.0 found.1.0).0 in
-          subst (λ (o : Option (Open Seen)). IsSomeAnd o (IsWriter (content_in t) bytes w)) (sym found.1.0)
+          subst (λ (o : Option (OpenHandle Progress)). IsSomeAnd o (IsWriter (content_in t) bytes w)) (sym found.1.0)
           (record {
             early = none_early (content_in t) bytes found.0 (writes_is true mode) (short_test (length bytes) le) (dead_is (Some (known_of w.object.now)) known);
             author_is = λ i. record { handle = numbered i; name = named i; object = number i };
-            kind = kind ∙ sym (ap (λ (x : Open (Unit {0})). x.kind) found.1.1);
+            kind = kind ∙ sym (ap (λ (x : OpenHandle (Unit {0})). x.kind) found.1.1);
             known = there;
             plain = is_plain;
           })

@@ -2,8 +2,8 @@
 use Rattle.std.specs.Prelude.{◌&&◌, ◌==◌, ℕ, List, Bool, false, not, Option}
 use Rattle.std.specs.Option.{option_map_or}
 use Rattle.pps_types.specs.Bytes.{same, is_empty}
-use Rattle.pps_types.specs.Reading.{Open}
-use Rattle.pps_types.specs.Rests.{Seen}
+use Rattle.pps_types.specs.Reading.{OpenHandle}
+use Rattle.pps_types.specs.Rests.{Progress}
 use Rattle.pps_types.specs.Content.{Content}
 use Rattle.pps_types.specs.Checks as checking
 use Rattle.pps_types.specs.Checks.{Check, is_client, meant, client_checks}
@@ -32,7 +32,7 @@ abbrev pub has_client : Content → ℕ → ℕ → Bool
 has_client c object id = not (is_empty (meant c object (checking.OneClient id)))
 
 -- the clients that a message of its server is for
-abbrev pub recipients : Content → ℕ → Recipient → List (Open Seen)
+abbrev pub recipients : Content → ℕ → Recipient → List (OpenHandle Progress)
 recipients c object to = meant c object (addressee_of to)
 
 -- the checks of whom a header names

@@ -1,12 +1,12 @@
 -- What was seen of a handle of a connection at one look.
 use Rattle.std.specs.Prelude.{◌≡◌, ℕ, false, is_some, option_and_then, IfSome}
 use Rattle.std.specs.Option.{option_map_or}
-use Rattle.pps_types.specs.Reading.{Open}
-use Rattle.pps_types.specs.Rests.{Seen, is_over}
+use Rattle.pps_types.specs.Reading.{OpenHandle}
+use Rattle.pps_types.specs.Rests.{Progress, is_over}
 use Rattle.pps_types.specs.Owed.{owed_in_seen}
 use Rattle.pps_types.specs.Content.{own_handle, news as has_news}
 use Rattle.sub_reader.specs.Opened.{handle_at}
-use Rattle.topics.specs.Seated.{handles_of, name_of}
+use Rattle.topics.specs.HandlesOf.{handles_of, name_of}
 use Rattle.open_handles.specs.Whole.{handles_in, name_at}
 use Rattle.service_state.specs.Tables.{Tabled, content_in}
 use Rattle.handle_requests.specs.declared.own.SeenHandle.{SeenHandle}
@@ -17,7 +17,7 @@ pub record IsAsked (t : Tabled) (conn handle : ℕ) (a : SeenHandle) : Type 0 wh
   pub parked : IfSome (own_handle (content_in t) conn handle) (λ h. is_some a.glance.parked ≡ is_some h.parked)
   pub news : IfSome (own_handle (content_in t) conn handle) (λ h. a.glance.has_news ≡ has_news h)
   pub fresh : a.glance.has_news ≡ option_map_or has_news (handle_at handle (handles_in t.handles)) false
-  pub over : a.glance.is_over ≡ option_map_or (λ (h : Open Seen). is_over h.seen) (handle_at handle (handles_in t.handles)) false
-  pub owed : a.glance.owed ≡ option_and_then (λ (h : Open Seen). owed_in_seen h h.seen) (handle_at handle (handles_in t.handles))
-  pub seats : handle_at handle (handles_of a.seats.now) ≡ handle_at handle (handles_in t.handles)
-  pub name : name_of a.seats.now ≡ name_at a.own.found t.handles
+  pub over : a.glance.is_over ≡ option_map_or (λ (h : OpenHandle Progress). is_over h.seen) (handle_at handle (handles_in t.handles)) false
+  pub owed : a.glance.owed ≡ option_and_then (λ (h : OpenHandle Progress). owed_in_seen h h.seen) (handle_at handle (handles_in t.handles))
+  pub topic : handle_at handle (handles_of a.topic.now) ≡ handle_at handle (handles_in t.handles)
+  pub name : name_of a.topic.now ≡ name_at a.own.found t.handles

@@ -2,15 +2,15 @@
 use Rattle.std.specs.Prelude.{ℕ, List, [], ◌∷◌, ◌++◌, Bool, nat_le, if◌then◌else◌, Option, option_map, option_and_then, find}
 use Rattle.std.specs.Option.{option_map_or}
 use Rattle.pps_types.specs.declared.refusal.Refusal.TheVariants.{Backlogged}
-use Rattle.pps_types.specs.Reading.{Open}
-use Rattle.pps_types.specs.Rests.{Seen}
+use Rattle.pps_types.specs.Reading.{OpenHandle}
+use Rattle.pps_types.specs.Rests.{Progress}
 use Rattle.pps_types.specs.Content.{Content, object_numbered, handle_numbered}
 use Rattle.pps_types.specs.Checks.{Check, Refuse, is_server_message, is_message_of, count_owed, client_backlog}
 use Rattle.handle_requests.specs.declared.address.Recipient.{Recipient}
 use Rattle.handle_requests.specs.Addressed.{recipients, recipient_checks}
 
 -- a client that is owed as many messages as its limit
-abbrev pub is_behind : Open Seen → Bool
+abbrev pub is_behind : OpenHandle Progress → Bool
 is_behind h = nat_le h.limit (count_owed is_server_message h)
 
 -- the handle that owns an object, where it is a server's
@@ -26,8 +26,8 @@ server_checks c object client =
 -- ---- a server's message
 
 -- the number of the first of these clients that has to read before it can be sent more
-abbrev pub first_backlogged : List (Open Seen) → Option ℕ
-first_backlogged handles = option_map (λ (h : Open Seen). h.number) (find is_behind handles)
+abbrev pub first_backlogged : List (OpenHandle Progress) → Option ℕ
+first_backlogged handles = option_map (λ (h : OpenHandle Progress). h.number) (find is_behind handles)
 
 -- a message is refused where one whom it is for has to read first
 abbrev pub backlog_checks : Content → ℕ → Recipient → List Check

@@ -3,8 +3,8 @@ use Rattle.std.specs.Prelude.{ℕ, List, [], ◌∷◌, Bool, Option, is_some, m
 use Rattle.std.specs.Option.{option_map_or}
 use Rattle.std.specs.List.{flat_map}
 use Rattle.pps_types.specs.History.{Entry}
-use Rattle.pps_types.specs.Reading.{Open}
-use Rattle.pps_types.specs.Rests.{Seen}
+use Rattle.pps_types.specs.Reading.{OpenHandle}
+use Rattle.pps_types.specs.Rests.{Progress}
 use Rattle.pps_types.specs.Content.{Content, own_handle, handles_of}
 use Rattle.service_state.specs.declared.beginning.Beginning.{Beginning}
 use Rattle.service_state.specs.declared.beginning.Beginning.TheVariants.{Closes}
@@ -19,7 +19,7 @@ begun conn handle parked told = Closes conn handle parked ∷ telling told
 -- a connection's own handle of that number closes behind those of lower numbers
 abbrev pub begun_behind : Content → ℕ → ℕ → List Beginning
 begun_behind c conn number =
-    option_map_or (λ (h : Open Seen). begun conn number (is_some h.parked) (told_behind c conn h)) (own_handle c conn number) []
+    option_map_or (λ (h : OpenHandle Progress). begun conn number (is_some h.parked) (told_behind c conn h)) (own_handle c conn number) []
 
 -- what the close of all of a connection's handles begins with, in rising number
 abbrev pub begun_by : Tabled → ℕ → List Beginning

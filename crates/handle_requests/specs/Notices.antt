@@ -5,8 +5,8 @@ use Rattle.pps_types.specs.declared.event.Request.{Request}
 use Rattle.pps_types.specs.declared.event.Request.TheVariants.{Notify}
 use Rattle.pps_types.specs.declared.outcome.Outcome.{Outcome}
 use Rattle.pps_types.specs.declared.outcome.Outcome.TheVariants.{Input}
-use Rattle.pps_types.specs.Reading.{Open}
-use Rattle.pps_types.specs.Rests.{Seen}
+use Rattle.pps_types.specs.Reading.{OpenHandle}
+use Rattle.pps_types.specs.Rests.{Progress}
 use Rattle.pps_types.specs.Outbox.{arms}
 use Rattle.pps_types.specs.Plan.{Move, Arms}
 use Rattle.pps_types.specs.Content.{Content, own_handle, news}
@@ -29,7 +29,7 @@ notice_of handle n = (Input n.news, Arms handle (armed_pulse n.pulse) ∷ [])
 -- The handle is the connection's own, and reads; the code is one of a pulse. The answer is whether it has news, and the pulse is
 -- armed where the action arms it.
 pub record IsNoticed (c : Content) (conn handle : ℕ) (action : Action) (pulse : Pulse) (n : Notified) : Type 0 where
-  pub own : option_map {U = Bool × Bool} (λ (h : Open Seen). (h.reads, news h)) (own_handle c conn handle) ≡ Some (true, n.news)
+  pub own : option_map {U = Bool × Bool} (λ (h : OpenHandle Progress). (h.reads, news h)) (own_handle c conn handle) ≡ Some (true, n.news)
   pub code : nat_lt 127 pulse.code ≡ false
   pub arming : armed_pulse n.pulse ≡ (if arms action n.news then Some (pulse.code, pulse.value) else None)
 

@@ -7,9 +7,9 @@ use Rattle.pps_types.specs.declared.refusal.Refusal.{Refusal}
 use Rattle.pps_types.specs.declared.refusal.Refusal.TheVariants.{OutOfMemory}
 use Rattle.pps_types.specs.Names.{refusal_of}
 use Rattle.pps_types.specs.History.{line_of}
-use Rattle.pps_types.specs.Reading.{Open, Answer, Everything, Blocks, Needs, Waits}
+use Rattle.pps_types.specs.Reading.{OpenHandle, Answer, Everything, Blocks, Needs, Waits}
 use Rattle.pps_types.specs.Rests as rests
-use Rattle.pps_types.specs.Rests.{Seen}
+use Rattle.pps_types.specs.Rests.{Progress}
 use Rattle.pps_types.specs.Owed.{owed_in_seen}
 use Rattle.pps_types.specs.Content.{Content, LiveObject, own_handle, read_answer, news}
 use Rattle.pps_types.specs.Refused.{IsRefusedAs}
@@ -51,18 +51,18 @@ abbrev pub Refuses : Answer → Refusal → Type 0
 Refuses a r = (refusal_in a ≡ Some r) ⊎ ((r ≡ OutOfMemory) × (takes_memory a ≡ true))
 
 -- the handle reads, and everything of its target is read from this
-pub record IsReader (c : Content) (waits : Bool) (w : Source) (h : Open Seen) : Type 0 where
+pub record IsReader (c : Content) (waits : Bool) (w : Source) (h : OpenHandle Progress) : Type 0 where
   pub reads : h.reads ≡ true
   pub wait : h.options.wait ≡ waits
   pub source : w ≡ source_of c h
 
 -- nothing is owed of a list, and there is news
-abbrev pub is_given_all : Option (Open Seen) → Bool
-is_given_all h = is_none (option_and_then (λ (h : Open Seen). owed_in_seen h h.seen) h) && option_map_or news h false
+abbrev pub is_given_all : Option (OpenHandle Progress) → Bool
+is_given_all h = is_none (option_and_then (λ (h : OpenHandle Progress). owed_in_seen h h.seen) h) && option_map_or news h false
 
 -- The handle is the connection's own and reads, no read waits on it, and this is its answer to a read of that size, which is one
 -- that may be asked.
-pub record IsRead (c : Content) (size : ℕ) (a : Answer) (h : Open Seen) : Type 0 where
+pub record IsRead (c : Content) (size : ℕ) (a : Answer) (h : OpenHandle Progress) : Type 0 where
   pub reads : h.reads ≡ true
   pub size_fits : (nat_le 1 size && nat_le size 17000000) ≡ true
   pub free : h.parked ≡ None
@@ -103,11 +103,11 @@ attribute_lines x = map line_of (option_map_or (λ (o : LiveObject). o.attribute
 -- ---- of the handle of a number among these, where it reads
 
 -- this is what a read of that size gives it of what it is owed
-abbrev pub IsOwedAt : ℕ → List (Open Seen) → ℕ → Option GivenBlocks → Type 0
+abbrev pub IsOwedAt : ℕ → List (OpenHandle Progress) → ℕ → Option GivenBlocks → Type 0
 IsOwedAt number handles size owed = IfSome (handle_at number handles) (λ h. h.reads ≡ true → Owes size h h.seen owed)
 
 -- a read of that size is refused so, whatever everything is
-abbrev pub RefusesAt : ℕ → List (Open Seen) → ℕ → Refusal → Type 0
+abbrev pub RefusesAt : ℕ → List (OpenHandle Progress) → ℕ → Refusal → Type 0
 RefusesAt number handles size r = IfSome (handle_at number handles)
     (λ h. h.reads ≡ true → (everything : List ℕ) (dead : Bool) → Refuses (rests.answer h h.seen everything dead size) r)
 

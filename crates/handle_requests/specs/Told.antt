@@ -6,7 +6,7 @@ use Rattle.pps_types.specs.declared.handle_kind.HandleKind.TheVariants.{Object a
 use Rattle.pps_types.specs.declared.record.Kind.{Kind}
 use Rattle.pps_types.specs.declared.record.Kind.TheVariants.{Dropped, Deleted, Closed}
 use Rattle.pps_types.specs.History.{Entry}
-use Rattle.pps_types.specs.Reading.{Open}
+use Rattle.pps_types.specs.Reading.{OpenHandle}
 use Rattle.pps_types.specs.Content.{Content, LiveObject, object_numbered, own_handle}
 use Rattle.pps_types.specs.Plan.{entry_of}
 use Rattle.sub_reader.specs.declared.opening.Opening.{Opening}
@@ -26,7 +26,7 @@ abbrev pub record_told : Option Kind → Option LiveObject → Option Entry
 record_told kind object = option_and_then (λ (k : Kind). option_map (λ (o : LiveObject). entry_of o.object k None) object) kind
 
 -- the record that the close of a handle tells
-abbrev pub told_of : {S : Type 0} → Content → Open S → Option Entry
+abbrev pub told_of : {S : Type 0} → Content → OpenHandle S → Option Entry
 told_of c h = record_told (kind_told (h.options.critical && h.writes) h.number h.kind) (object_numbered c h.target)
 
 -- ---- behind others of the same connection
@@ -36,11 +36,11 @@ abbrev pub closes_before : Content → ℕ → ℕ → Option ℕ → Bool
 closes_before c conn number server = option_map_or (λ s. nat_lt s number && is_some (own_handle c conn s)) server false
 
 -- the server of its object closes before it, where the connection's handles close in rising number
-abbrev pub is_orphan : {S : Type 0} → Content → ℕ → Open S → Bool
+abbrev pub is_orphan : {S : Type 0} → Content → ℕ → OpenHandle S → Bool
 is_orphan c conn h = option_map_or (λ (o : LiveObject). closes_before c conn h.number o.object.server) (object_numbered c h.target) false
 
 -- the record that its close tells then
-abbrev pub told_behind : {S : Type 0} → Content → ℕ → Open S → Option Entry
+abbrev pub told_behind : {S : Type 0} → Content → ℕ → OpenHandle S → Option Entry
 told_behind c conn h = if is_orphan c conn h then None else told_of c h
 
 -- ---- by what the open of a handle fixed

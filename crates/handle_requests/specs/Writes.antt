@@ -10,8 +10,8 @@ use Rattle.pps_types.specs.declared.record.Kind.TheVariants.{Change, FromClient}
 use Rattle.pps_types.specs.Bytes.{is_empty}
 use Rattle.pps_types.specs.Text.{WriteText, write_text}
 use Rattle.pps_types.specs.History.{Entry, apply_line, resolve, message_line}
-use Rattle.pps_types.specs.Reading.{Open, is_directory_kind}
-use Rattle.pps_types.specs.Rests.{Seen}
+use Rattle.pps_types.specs.Reading.{OpenHandle, is_directory_kind}
+use Rattle.pps_types.specs.Rests.{Progress}
 use Rattle.pps_types.specs.Content.{Content, object_numbered, attributes_of, target_is_dead, own_handle}
 use Rattle.pps_types.specs.Checks.{Check, Refuse, first_refusal, is_server, addressee, own_header, limit_checks, client_checks, client_backlog, meant, where_lines}
 use Rattle.pps_types.specs.Plan.{Move, AppendsRecord, apply_all_seen, entry_of, sent, passes_last_number}
@@ -28,14 +28,14 @@ pub record Author : Type 0 where
   pub name : List ℕ
   pub object : ℕ
 
-abbrev pub author : Open Seen → Author
+abbrev pub author : OpenHandle Progress → Author
 author h = record { handle = h.number; name = h.name; object = h.target }
 
 abbrev pub author_of : Writer → Author
 author_of w = record { handle = w.handle; name = w.name.now; object = w.object.now.object.number }
 
 -- the checks that come before any memory is taken
-abbrev pub early_checks : Content → List ℕ → Open Seen → List Check
+abbrev pub early_checks : Content → List ℕ → OpenHandle Progress → List Check
 early_checks c bytes h = Refuse (not h.writes) BadMode ∷ Refuse (nat_lt 65536 (length bytes)) TooLarge ∷ Refuse (target_is_dead c h) Gone ∷ []
 
 -- its object stands as it was found, and is a server's where the handle is
@@ -45,7 +45,7 @@ pub record IsAuthor (c : Content) (w : Writer) : Type 0 where
   pub served : is_server w.kind ≡ true → is_some (server_in c w.object.now.object.number) ≡ true
 
 -- it is that handle, which may write these bytes, and its object is alive
-pub record IsWriter (c : Content) (bytes : List ℕ) (w : Writer) (h : Open Seen) : Type 0 where
+pub record IsWriter (c : Content) (bytes : List ℕ) (w : Writer) (h : OpenHandle Progress) : Type 0 where
   pub early : first_refusal (early_checks c bytes h) ≡ None
   pub author_is : author_of w ≡ author h
   pub kind : w.kind ≡ h.kind
@@ -93,7 +93,7 @@ pub record IsDrafted (c : Content) (a : Author) (kind_is : HandleKind) (bytes : 
   pub late : first_refusal (checks_by c a kind_is text) ≡ late_refusal c a.object d.kind
 
 -- the same of a handle
-pub record IsDraftOf (c : Content) (bytes : List ℕ) (d : Draft) (h : Open Seen) : Type 0 where
+pub record IsDraftOf (c : Content) (bytes : List ℕ) (d : Draft) (h : OpenHandle Progress) : Type 0 where
   pub early : first_refusal (early_checks c bytes h) ≡ None
   pub alive : is_some (object_numbered c h.target) ≡ true
   pub drafted : IsDrafted c (author h) h.kind bytes d

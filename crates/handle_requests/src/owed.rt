@@ -1,7 +1,7 @@
 //! What a read gives a handle of what it is owed.
 ghost use Rattle.std.specs.Prelude.{◌≡◌, ◌&&◌, is_none, IfOk, IfErr};
 ghost use Rattle.sub_reader.specs.HandleAt.{has_news_at, owed_at};
-ghost use Rattle.topics.specs.Seated.{handles_of};
+ghost use Rattle.topics.specs.HandlesOf.{handles_of};
 ghost use Rattle.handle_requests.specs.Reads.{IsOwedAt, RefusesAt};
 
 use crate::own::SeenHandle;
@@ -28,15 +28,15 @@ pub(crate) fn owed_to(
     handle: Handle,
     size: u32,
 ) -> Result<Option<GivenBlocks>, Refusal>
-    requires owed { asked.now.glance.owed ≡ owed_at handle (handles_of asked.now.seats.now) }
+    requires owed { asked.now.glance.owed ≡ owed_at handle (handles_of asked.now.topic.now) }
     requires news { asked.now.glance.has_news
-        ≡ has_news_at handle (handles_of asked.now.seats.now) }
-    ensures ok { IfOk result (λ owed. IsOwedAt handle (handles_of asked.now.seats.now) size owed) }
-    ensures err { IfErr result (λ r. RefusesAt handle (handles_of asked.now.seats.now) size r) }
+        ≡ has_news_at handle (handles_of asked.now.topic.now) }
+    ensures ok { IfOk result (λ owed. IsOwedAt handle (handles_of asked.now.topic.now) size owed) }
+    ensures err { IfErr result (λ r. RefusesAt handle (handles_of asked.now.topic.now) size r) }
 {
     if is_given_all(&asked.glance) {
         return Ok(None);
     }
-    let given = asked.seats.read_owed(alloc, handle, size)?;
+    let given = asked.topic.read_owed(alloc, handle, size)?;
     Ok(Some(given))
 }

@@ -114,7 +114,7 @@ pub fn own_handle(tables: &Tables, conn: Conn, handle: Handle) -> Option<Own<'_>
 #[derive(Drop)]
 pub(crate) struct SeenHandle<'a> {
     pub(crate) own: Own<'a>,
-    pub(crate) seats: &'a Topic,
+    pub(crate) topic: &'a Topic,
     pub(crate) glance: Glance<'a>,
 }
 
@@ -137,7 +137,7 @@ pub(crate) fn own_asked(tables: &Tables, conn: Conn, handle: Handle) -> Option<S
             found: looked.found,
             opening,
         },
-        seats: looked.seats,
+        topic: looked.topic,
         glance: looked.glance,
     })
 }

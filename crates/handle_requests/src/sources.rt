@@ -75,7 +75,7 @@ pub(crate) fn answer_of_object(
     let known = tables.names().object(ObjId::new(own.target()));
     let is_alive = known.is_some();
     let is_over = asked.glance.is_over;
-    let members = [member_of(asked.seats.name(), known)];
+    let members = [member_of(asked.topic.name(), known)];
     let whole = Whole::new(own.kind(), own.filter(), is_over, is_alive, &members);
     answered(
         tables,

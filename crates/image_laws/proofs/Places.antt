@@ -6,7 +6,7 @@ use Rattle.std.proofs.lemmas.Bool.{and_from}
 use Rattle.std.proofs.lemmas.List.Folds.{list_all-append}
 use Rattle.pps_types.specs.Names.{Name, Path, same_path, parent}
 use Rattle.pps_types.specs.Content.{Directory, LiveObject, Content, directory_at, object_at, object_in}
-use Rattle.pps_types.specs.WellFormed.{AreRising, IsContent, directory_numbered}
+use Rattle.pps_types.specs.WellFormed.{RiseBetween, IsContent, directory_numbered}
 use Rattle.pps_types.specs.Image.{directory_path}
 use Rattle.service_laws.proofs.Finds.{some-of, all-both, all-imp, all-find, find-true}
 use Rattle.service_laws.proofs.PathEnds.{parent-push, last_name-push}
@@ -100,7 +100,7 @@ module _ {X : Type 0} (number : X → ℕ) (path : X → Path) (at : Path → Op
           let is : x ≡ y = cc in
           let le = above.0 in let n = ap number is in absurd (omega arith)
 
-  apart-own : (low high : ℕ) (xs : List X) → AreRising low (map number xs) high → AllByRecursion (λ y. at (path y) ≡ Some y) xs → AreApart (map path xs)
+  apart-own : (low high : ℕ) (xs : List X) → RiseBetween low (map number xs) high → AllByRecursion (λ y. at (path y) ≡ Some y) xs → AreApart (map path xs)
   apart-own low high [] r owns = tt
   apart-own low high (x ∷ xs) r owns = (apart-later x owns.0 xs owns.1 (rising-above number (number x + 1) high xs r.1), apart-own (number x + 1) high xs r.1 owns.1)
 

@@ -25,8 +25,8 @@ use Rattle.pps_types.specs.Text.{WriteText, write_text}
 use Rattle.pps_types.specs.Names.{Path, same_path, parent, last_name, place, new_refusal}
 use Rattle.pps_types.specs.OpenText.{OpenSpec, open_text, path_text}
 use Rattle.pps_types.specs.History.{Attribute, apply_line, resolve, message_line, text_length}
-use Rattle.pps_types.specs.Reading.{Open, is_directory_kind, Answer, Everything, Blocks, Needs, TargetGone, Waits, Nothing}
-use Rattle.pps_types.specs.Rests.{Seen}
+use Rattle.pps_types.specs.Reading.{OpenHandle, is_directory_kind, Answer, Everything, Blocks, Needs, TargetGone, Waits, Nothing}
+use Rattle.pps_types.specs.Rests.{Progress}
 use Rattle.pps_types.specs.Outbox.{first_of}
 use Rattle.pps_types.specs.Content.{Directory, LiveObject, Content, directory_at, parent_number, object_at, object_in, object_numbered, attributes_of, at, subdirectories, own_handle, handles_of, is_attached, queue_of, news, read_answer}
 use Rattle.pps_types.specs.Checks.{Refuse, Memory, first_refusal, refused, parsed, letters_fit, mode_fits, handle_checks, all_checks, object_checks, name_checks, open_checks, on_handle, Addressee, Everyone, OneClient, Nobody, addressee, own_header, limit_checks, changed, text_checks, write_checks, on_path, mkdir_checks, checks}
@@ -58,7 +58,7 @@ quiet-flat : {X : Type 0} (f : X → List Move) → ((x : X) → AreQuiet (f x))
 quiet-flat f p [] = tt
 quiet-flat f p (x ∷ xs) = all-append IsQuiet (f x) (flat_map f xs) (p x) (quiet-flat f p xs)
 
-late_reply-quiet : (h : Open Seen) (a : Answer) → AreQuiet (late_reply h a)
+late_reply-quiet : (h : OpenHandle Progress) (a : Answer) → AreQuiet (late_reply h a)
 late_reply-quiet h (Everything text) = ((λ c. tt), ((λ c. tt), ((λ c. tt), tt)))
 late_reply-quiet h (Blocks count text) = ((λ c. tt), ((λ c. tt), ((λ c. tt), tt)))
 late_reply-quiet h (Needs need) = ((λ c. tt), ((λ c. tt), tt))
@@ -71,24 +71,24 @@ unfolding settling
 settling-quiet before c = quiet-flat (settling_handle before c) (λ h. all-cond IsQuiet (not (had_news before h) && news h) (fired h ++ late_replies c h) []
     (all-append IsQuiet (fired h) (late_replies c h) (all-or IsQuiet _ (λ pulse. ((λ c. tt), ((λ c. tt), tt))) h.armed) (all-or IsQuiet _ (λ size. late_reply-quiet h (read_answer c h size)) h.parked)) tt) c.handles
 
-target-quiet : (c : Content) (h : Open Seen) (kind : Kind) (writer : Option ℕ) → ((d : Content) (number : ℕ) → LeavesSavable d number kind) → AreQuiet (on_target c h kind writer)
+target-quiet : (c : Content) (h : OpenHandle Progress) (kind : Kind) (writer : Option ℕ) → ((d : Content) (number : ℕ) → LeavesSavable d number kind) → AreQuiet (on_target c h kind writer)
 target-quiet c h kind writer few = all-or IsQuiet _ (λ o. ((λ d. few d o.object.number), tt)) (object_numbered c h.target)
 
-parting-quiet : (c : Content) (h : Open Seen) (k : HandleKind) → AreQuiet (parting c h k)
+parting-quiet : (c : Content) (h : OpenHandle Progress) (k : HandleKind) → AreQuiet (parting c h k)
 parting-quiet c h ServerHandle = target-quiet c h Deleted None (λ d number. tt)
 parting-quiet c h ClientHandle = target-quiet c h (Closed h.number) None (λ d number. tt)
 parting-quiet c h NamesHandle = tt
 parting-quiet c h (ObjectHandle delta) = all-cond IsQuiet (h.options.critical && h.writes) _ [] (target-quiet c h Dropped None (λ d number. tt)) tt
 parting-quiet c h (DirectoryHandle delta) = tt
 
-closing-quiet : (c : Content) (h : Open Seen) → AreQuiet (closing c h)
+closing-quiet : (c : Content) (h : OpenHandle Progress) → AreQuiet (closing c h)
 closing-quiet c h = ((λ c. tt), all-append IsQuiet _ (parting c h h.kind) (all-cond IsQuiet (is_some h.parked) _ [] ((λ c. tt), tt) tt) (parting-quiet c h h.kind))
 
-closings-quiet : (c : Content) (hs : List (Open Seen)) → AreQuiet (closings c hs)
+closings-quiet : (c : Content) (hs : List (OpenHandle Progress)) → AreQuiet (closings c hs)
 closings-quiet c [] = tt
 closings-quiet c (h ∷ hs) = all-append IsQuiet (closing c h) (closings (apply_all_seen (closing c h) c) hs) (closing-quiet c h) (closings-quiet (apply_all_seen (closing c h) c) hs)
 
-read-quiet : (h : Open Seen) (size : ℕ) (a : Answer) → AreQuiet (read_effect h size a).1
+read-quiet : (h : OpenHandle Progress) (size : ℕ) (a : Answer) → AreQuiet (read_effect h size a).1
 read-quiet h size (Everything text) = ((λ c. tt), tt)
 read-quiet h size (Blocks count text) = ((λ c. tt), tt)
 read-quiet h size Waits = ((λ c. tt), tt)
@@ -118,7 +118,7 @@ few-within attributes p =
     grind (arith, nat_tests, many.0)
 
 -- a change of lines that have a printing, whose result is within the limit
-change-savable : (c : Content) (b : Basis c) (s : CanBeSaved c) (h : Open Seen) (text : WriteText) → AllByRecursion IsWritten text.lines → length (changed c h text) ≤ 1024
+change-savable : (c : Content) (b : Basis c) (s : CanBeSaved c) (h : OpenHandle Progress) (text : WriteText) → AllByRecursion IsWritten text.lines → length (changed c h text) ≤ 1024
     → (o : LiveObject) → object_numbered c h.target ≡ Some o → LeavesSavable c o.object.number (Change (resolve (attributes_of c h.target) text.lines))
 change-savable c b s h text written le o e =
     all-imp (λ (p : LiveObject). p.object.number ≡ o.object.number → p ≡ o) (λ p. p.object.number ≡ o.object.number → AreSavable (fold apply_line p.attributes ls)) (λ p only own. subst (λ p. AreSavable (fold apply_line p.attributes ls)) (sym (only own)) few) c.objects
@@ -136,12 +136,12 @@ change-savable c b s h text written le o e =
       subst (λ attributes. length (fold apply_line attributes ls) ≤ 1024) same le,
     )
 
-sent-quiet : (c : Content) (h : Open Seen) (to : Addressee) (lines : List Line) → AreQuiet (on_target c h (sent to lines) (Some h.number))
+sent-quiet : (c : Content) (h : OpenHandle Progress) (to : Addressee) (lines : List Line) → AreQuiet (on_target c h (sent to lines) (Some h.number))
 sent-quiet c h Everyone lines = target-quiet c h (ToAll lines) (Some h.number) (λ d number. tt)
 sent-quiet c h Nobody lines = target-quiet c h (ToAll lines) (Some h.number) (λ d number. tt)
 sent-quiet c h (OneClient id) lines = target-quiet c h (ToClient id lines) (Some h.number) (λ d number. tt)
 
-written-saving : (c : Content) → Basis c → CanBeSaved c → (h : Open Seen) (kind : HandleKind) (text : WriteText) → is_directory_kind kind ≡ false → AllByRecursion IsWritten text.lines → first_refusal (text_checks c h kind text) ≡ None
+written-saving : (c : Content) → Basis c → CanBeSaved c → (h : OpenHandle Progress) (kind : HandleKind) (text : WriteText) → is_directory_kind kind ≡ false → AllByRecursion IsWritten text.lines → first_refusal (text_checks c h kind text) ≡ None
     → AreSaving c (on_target c h (written_kind c h kind text) (Some h.number))
 written-saving c b s h (ObjectHandle delta) text plain written p =
     go (object_numbered c h.target) (change-savable c b s h text written (few-within (changed c h text) (passes-both (own_header h.name text.header) (limit_checks (changed c h text)) p).1))
@@ -156,14 +156,14 @@ written-saving c b s h (DirectoryHandle delta) text plain written p = absurd (le
 written-saving c b s h NamesHandle text plain written p = absurd (let no = plain in cc)
 
 -- a handle on a directory does not write
-no-directory : (h : Open Seen) → IsBoundHandle h → not h.writes ≡ false → is_directory_kind h.kind ≡ false
+no-directory : (h : OpenHandle Progress) → IsBoundHandle h → not h.writes ≡ false → is_directory_kind h.kind ≡ false
 no-directory h b writes = go (is_directory_kind h.kind) b.listens
   where
     go : (k : Bool) → (k ≡ true → h.writes ≡ false) → k ≡ false
     go true listens = absurd (let no = listens refl in let yes = writes in cc)
     go false listens = refl
 
-write-saving : (c : Content) → Basis c → CanBeSaved c → (h : Open Seen) → IsBoundHandle h → (bytes : List ℕ) → first_refusal (write_checks c bytes h) ≡ None → AreSaving c (with_result (write_text bytes) (λ text. (Wrote (length bytes), writing c h text))).1
+write-saving : (c : Content) → Basis c → CanBeSaved c → (h : OpenHandle Progress) → IsBoundHandle h → (bytes : List ℕ) → first_refusal (write_checks c bytes h) ≡ None → AreSaving c (with_result (write_text bytes) (λ text. (Wrote (length bytes), writing c h text))).1
 write-saving c b s h bound bytes p =
     let tests = all-pass (write_checks c bytes h) p in
     go (no-directory h bound tests.0) (write_text bytes) (text-written bytes) (none-fails (parsed (write_text bytes) (text_checks c h h.kind)) tests.1.1.1)
@@ -319,7 +319,7 @@ effect-saving c conn (OpenRequest mode text) b bound s p =
 effect-saving c conn (Read handle size) b bound s p = quiet-saving _ c (quiet-outcome _ (λ h. read-quiet h size (read_answer c h size)) (own_handle c conn handle))
 effect-saving c conn (Write handle bytes) b bound s p =
     let own = accepted c conn handle (write_checks c bytes) (ordered c b.order.0) (behind (not (is_attached c conn)) Refusal.NotAttached (on_handle c conn handle (write_checks c bytes)) p).1 in
-    rw (own.is_own) (write-saving c b s own.h (all-find IsBoundHandle (λ (h : Open Seen). eqb h.number handle && eqb h.connection conn) c.handles own.h bound.handles own.is_own) bytes own.fine)
+    rw (own.is_own) (write-saving c b s own.h (all-find IsBoundHandle (λ (h : OpenHandle Progress). eqb h.number handle && eqb h.connection conn) c.handles own.h bound.handles own.is_own) bytes own.fine)
 effect-saving c conn (Close handle) b bound s p = quiet-saving _ c (quiet-outcome _ (λ h. closing-quiet c h) (own_handle c conn handle))
 effect-saving c conn (Unlink path) b bound s p = quiet-saving _ c (quiet-outcome _ (λ names. unlinking-quiet (object_at c names) (directory_at c names)) (path_text path))
 effect-saving c conn (Mkdir path) b bound s p = mkdir-saving c path (behind (not (is_attached c conn)) Refusal.NotAttached (Memory ∷ on_path path (mkdir_checks c)) p).1

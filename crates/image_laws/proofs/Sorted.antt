@@ -73,9 +73,9 @@ lt-other p q lt = by (same_path q p) refl
 abbrev above : Path → List Saved → Bool
 above p es = list_all (λ x. is_lt (path_cmp p (path_of x))) es
 
-abbrev pub AreRising : List Saved → Type 0
-AreRising [] = Unit {0}
-AreRising (e ∷ es) = (above (path_of e) es ≡ true) × AreRising es
+abbrev pub PathsRise : List Saved → Type 0
+PathsRise [] = Unit {0}
+PathsRise (e ∷ es) = (above (path_of e) es ≡ true) × PathsRise es
 
 above-weaken : (p q : Path) (es : List Saved) → is_lt (path_cmp p q) ≡ true → above q es ≡ true → above p es ≡ true
 above-weaken p q [] lt h = refl
@@ -96,13 +96,13 @@ above-insert p e (x ∷ es) lt h =
 abbrev differs : Path → List Saved → Bool
 differs p es = list_all (λ x. not (same_path p (path_of x))) es
 
-insert-rising : (e : Saved) (es : List Saved) → differs (path_of e) es ≡ true → AreRising es → AreRising (insert e es)
+insert-rising : (e : Saved) (es : List Saved) → differs (path_of e) es ≡ true → PathsRise es → PathsRise (insert e es)
 insert-rising e [] apart r = (refl, tt)
 insert-rising e (x ∷ es) apart r =
     let parts = and_parts (not (same_path (path_of e) (path_of x))) (differs (path_of e) es) apart in
     by (is_lt (path_cmp (path_of e) (path_of x))) refl (not-true _ parts.0) (insert-rising e es parts.1 r.1)
   where
-    by : (b : Bool) → is_lt (path_cmp (path_of e) (path_of x)) ≡ b → same_path (path_of e) (path_of x) ≡ false → AreRising (insert e es) → AreRising (cond b (e ∷ x ∷ es) (x ∷ insert e es))
+    by : (b : Bool) → is_lt (path_cmp (path_of e) (path_of x)) ≡ b → same_path (path_of e) (path_of x) ≡ false → PathsRise (insert e es) → PathsRise (cond b (e ∷ x ∷ es) (x ∷ insert e es))
     by true lt other rest = (and_from _ _ lt (above-weaken (path_of e) (path_of x) es lt r.0), r)
     by false lt other rest = (above-insert (path_of x) e es (otherwise (path_of e) (path_of x) lt other) r.0, rest)
 
@@ -113,7 +113,7 @@ apart-of : (p : Path) (es : List Saved) → list_all (λ q. not (same_path p q))
 apart-of p [] h = refl
 apart-of p (e ∷ es) h = let parts = and_parts (not (same_path p (path_of e))) (list_all (λ q. not (same_path p q)) (map path_of es)) h in and_from _ _ parts.0 (apart-of p es parts.1)
 
-sorted-rising : (es : List Saved) → AreApart (map path_of es) → AreRising (sorted es)
+sorted-rising : (es : List Saved) → AreApart (map path_of es) → PathsRise (sorted es)
 sorted-rising [] h = tt
 sorted-rising (e ∷ es) h =
     insert-rising e (sorted es) (all-sorted path_cmp path_of (λ x. not (same_path (path_of e) (path_of x))) es ∙ apart-of (path_of e) es h.0) (sorted-rising es h.1)
@@ -145,14 +145,14 @@ pub record IsWell (xs : List Saved) (e : Saved) : Type 0 where
   pub lines_are : AreLines 65536 [] (lines_of e)
 
 -- the front of rising entries is below what follows
-below-front : (front es : List Saved) (e : Saved) → AreRising (front ++ e ∷ es) → list_all (λ x. is_lt (path_cmp (path_of x) (path_of e))) front ≡ true
+below-front : (front es : List Saved) (e : Saved) → PathsRise (front ++ e ∷ es) → list_all (λ x. is_lt (path_cmp (path_of x) (path_of e))) front ≡ true
 below-front [] es e r = refl
 below-front (x ∷ front) es e r =
     let parts = list_all-append (λ y. is_lt (path_cmp (path_of x) (path_of y))) front (e ∷ es) in
     let both = and_parts (above (path_of x) front) (above (path_of x) (e ∷ es)) (sym parts ∙ r.0) in
     and_from _ _ (and_parts (is_lt (path_cmp (path_of x) (path_of e))) (above (path_of x) es) both.1).0 (below-front front es e r.1)
 
-behind-of : (front es : List Saved) (e : Saved) → AreRising (front ++ e ∷ es) → above (path_of e) es ≡ true
+behind-of : (front es : List Saved) (e : Saved) → PathsRise (front ++ e ∷ es) → above (path_of e) es ≡ true
 behind-of [] es e r = r.0
 behind-of (x ∷ front) es e r = behind-of front es e r.1
 
@@ -190,7 +190,7 @@ count-front p (x ∷ xs) ys e n own le = by (p x) n le (λ m. count-front p xs y
 some-parent : (xs : List Saved) (e : Saved) → is_empty (parent (path_of e)) ≡ false → has_parent xs e ≡ true → list_any (λ x. is_directory_entry x && same_path (path_of x) (parent (path_of e))) xs ≡ true
 some-parent xs e some h = rw some at h
 
-has-front : (xs front es : List Saved) (e : Saved) (n : Name) (ns : Path) → path_of e ≡ n ∷ ns → sorted xs ≡ front ++ e ∷ es → AreRising (front ++ e ∷ es) → has_parent xs e ≡ true → has_parent front e ≡ true
+has-front : (xs front es : List Saved) (e : Saved) (n : Name) (ns : Path) → path_of e ≡ n ∷ ns → sorted xs ≡ front ++ e ∷ es → PathsRise (front ++ e ∷ es) → has_parent xs e ≡ true → has_parent front e ≡ true
 has-front xs front es e n ns path is r h = by (is_empty (parent (path_of e))) refl
   where
     test : Saved → Bool
@@ -209,7 +209,7 @@ has-front xs front es e n ns path is r h = by (is_empty (parent (path_of e))) re
 record Follows (front : List Saved) (e : Saved) : Type 0 where
   pub it : may_follow front e ≡ true
 
-follows-front : (xs front es : List Saved) (e : Saved) (n : Name) (ns : Path) → path_of e ≡ n ∷ ns → sorted xs ≡ front ++ e ∷ es → AreRising (front ++ e ∷ es) → are_beside e e ≡ true → same_sort e e ≡ true
+follows-front : (xs front es : List Saved) (e : Saved) (n : Name) (ns : Path) → path_of e ≡ n ∷ ns → sorted xs ≡ front ++ e ∷ es → PathsRise (front ++ e ∷ es) → are_beside e e ≡ true → same_sort e e ≡ true
     → has_parent xs e ≡ true → length (filter (are_beside e) xs) ≤ 256 → length (filter (same_sort e) xs) ≤ 65535 → may_follow front e ≡ true
 follows-front xs front es e n ns path is r own-beside own-sort has beside all =
     let few = count-front (are_beside e) front es e 256 own-beside (subst (λ l. l ≤ 256) (sym (count-sorted path_cmp path_of (are_beside e) xs) ∙ ap (λ ys. length (filter (are_beside e) ys)) is) beside) in
@@ -220,7 +220,7 @@ follows-front xs front es e n ns path is r own-beside own-sort has beside all =
     less : (a b : ℕ) → a < b → nat_lt a b ≡ true
     less a b h = grind (arith, nat_tests)
 
-entry-well : (xs front es : List Saved) (e : Saved) → sorted xs ≡ front ++ e ∷ es → AreRising (front ++ e ∷ es) → IsWell xs e → IsEntry 65536 front e
+entry-well : (xs front es : List Saved) (e : Saved) → sorted xs ≡ front ++ e ∷ es → PathsRise (front ++ e ∷ es) → IsWell xs e → IsEntry 65536 front e
 entry-well xs front es (SavedDirectory []) is r w = absurd (let h = w.some in cc)
 entry-well xs front es (SavedDirectory (n ∷ ns)) is r w =
     (w.path_is, follows-front xs front es (SavedDirectory (n ∷ ns)) n ns refl is r (path-itself (parent (n ∷ ns))) refl w.parent_is w.beside w.all)
@@ -228,11 +228,11 @@ entry-well xs front es (SavedObject [] lines) is r w = absurd (let h = w.some in
 entry-well xs front es (SavedObject (n ∷ ns) lines) is r w =
     (w.path_is, follows-front xs front es (SavedObject (n ∷ ns) lines) n ns refl is r (path-itself (parent (n ∷ ns))) refl w.parent_is w.beside w.all, w.few, w.lines_are)
 
-entries-well : (xs front es : List Saved) → sorted xs ≡ front ++ es → AreRising (front ++ es) → AllByRecursion (IsWell xs) es → AreEntries 65536 front es
+entries-well : (xs front es : List Saved) → sorted xs ≡ front ++ es → PathsRise (front ++ es) → AllByRecursion (IsWell xs) es → AreEntries 65536 front es
 entries-well xs front [] is r all = tt
 entries-well xs front (e ∷ es) is r all =
     let on = append_assoc front (e ∷ []) es in
-    (entry-well xs front es e is r all.0, entries-well xs (front ++ e ∷ []) es (is ∙ sym on) (subst AreRising (sym on) r) all.1)
+    (entry-well xs front es e is r all.0, entries-well xs (front ++ e ∷ []) es (is ∙ sym on) (subst PathsRise (sym on) r) all.1)
 
 -- entries that are apart, and each well among all, may follow one another once they are in order
 pub sorted-entries : (xs : List Saved) → AreApart (map path_of xs) → AllByRecursion (IsWell xs) xs → AreEntries 65536 [] (sorted_by path_cmp path_of xs)

@@ -9,7 +9,7 @@ use Rattle.pps_types.specs.Bytes.{same, is_empty}
 use Rattle.pps_types.specs.Names.{Path, same_path, parent, last_name, path_cmp, sorted_by}
 use Rattle.pps_types.specs.History.{Attribute, Entry, put, persistent}
 use Rattle.pps_types.specs.Content.{Object, Directory, LiveObject, Content, parent_number}
-use Rattle.pps_types.specs.WellFormed.{AreRising}
+use Rattle.pps_types.specs.WellFormed.{RiseBetween}
 use Rattle.pps_types.specs.Plan.{Move, AppendsRecord, entry_of, touched, apply_all_seen}
 use Rattle.pps_types.specs.Machine.{start, content_of}
 use Rattle.pps_types.specs.Image.{SavedLine, Saved, SavedDirectory, SavedObject, path_of, as_line, saved_line, directory_path, is_kept, saved_object, saved, Image, is_directory_entry, has_parent, restored_object, restored_seen, started_seen}
@@ -109,8 +109,8 @@ HasRoot (d ∷ ds) = ((d.number ≡ 0) × (d.path ≡ [])) × AllByRecursion (λ
 
 -- what holds of it
 pub record IsHeld (h : Held) : Type 0 where
-  pub directories_rise : AreRising 0 (map (λ d. d.number) h.directories) h.next_directory
-  pub objects_rise : AreRising 0 (map (λ o. o.object.number) h.objects) h.next_object
+  pub directories_rise : RiseBetween 0 (map (λ d. d.number) h.directories) h.next_directory
+  pub objects_rise : RiseBetween 0 (map (λ o. o.object.number) h.objects) h.next_object
   pub homes : AllByRecursion (λ o. o.object.directory < h.next_directory) h.objects
   pub root : HasRoot h.directories
   pub follow : 1 ≤ h.next_directory
@@ -123,8 +123,8 @@ restored-one d longest h before (SavedObject path lines) held is =
 
 -- ---- it holds of what follows
 
-rising-at : {X : Type 0} (number : X → ℕ) (low high : ℕ) (xs : List X) (y : X) → number y ≡ high → AreRising low (map number xs) high → AreRising low (map number (xs ++ y ∷ [])) (high + 1)
-rising-at {X = X} number low high xs y is r = subst (λ ns. AreRising low ns (high + 1)) (sym (map-push xs) ∙ refl) (rising-push low high (map number xs) r)
+rising-at : {X : Type 0} (number : X → ℕ) (low high : ℕ) (xs : List X) (y : X) → number y ≡ high → RiseBetween low (map number xs) high → RiseBetween low (map number (xs ++ y ∷ [])) (high + 1)
+rising-at {X = X} number low high xs y is r = subst (λ ns. RiseBetween low ns (high + 1)) (sym (map-push xs) ∙ refl) (rising-push low high (map number xs) r)
   where
     map-push : (xs : List X) → map number (xs ++ y ∷ []) ≡ map number xs ++ high ∷ []
     map-push [] = ap (λ n. n ∷ []) is
@@ -137,14 +137,14 @@ root-stays (x ∷ ds) d le h = (h.0, all-push (λ d. 1 ≤ d.number) ds d h.1 le
 -- ---- directories by their numbers
 
 -- those of other numbers pass no test for this one
-none-numbered : (n : ℕ) (low high : ℕ) (ds : List Directory) → n < low → AreRising low (map (λ d. d.number) ds) high → filter (λ d. eqb d.number n) ds ≡ []
+none-numbered : (n : ℕ) (low high : ℕ) (ds : List Directory) → n < low → RiseBetween low (map (λ d. d.number) ds) high → filter (λ d. eqb d.number n) ds ≡ []
 none-numbered n low high [] lt r = refl
 none-numbered n low high (d ∷ ds) lt r =
     let other : eqb d.number n ≡ false = ne_eqb _ _ (λ is. absurd (omega (arith, r.0, is))) in
     rw other (none-numbered n (d.number + 1) high ds (omega (arith, r.0)) r.1)
 
 -- the one that is found is the one of its number
-pub path-numbered : (test : Directory → Bool) (low high : ℕ) (ds : List Directory) (d : Directory) → AreRising low (map (λ d. d.number) ds) high → find test ds ≡ Some d → (low ≤ d.number) × (rest : List Directory) × (filter (λ x. eqb x.number d.number) ds ≡ d ∷ rest)
+pub path-numbered : (test : Directory → Bool) (low high : ℕ) (ds : List Directory) (d : Directory) → RiseBetween low (map (λ d. d.number) ds) high → find test ds ≡ Some d → (low ≤ d.number) × (rest : List Directory) × (filter (λ x. eqb x.number d.number) ds ≡ d ∷ rest)
 path-numbered test low high [] d r e = absurd cc
 path-numbered test low high (x ∷ ds) d r e = by (test x) e (path-numbered test (x.number + 1) high ds d r.1)
   where

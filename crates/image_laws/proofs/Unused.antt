@@ -14,8 +14,8 @@ use Rattle.pps_types.specs.Text.{print_line, print_lines}
 use Rattle.pps_types.specs.Names.{Path, parent, last_name, place, is_directory, find_at, new_refusal, refusal_of}
 use Rattle.pps_types.specs.OpenText.{are_names}
 use Rattle.pps_types.specs.History.{Attribute, line_of, text_length, put, apply_line}
-use Rattle.pps_types.specs.Reading.{Open}
-use Rattle.pps_types.specs.Rests.{Seen}
+use Rattle.pps_types.specs.Reading.{OpenHandle}
+use Rattle.pps_types.specs.Rests.{Progress}
 use Rattle.pps_types.specs.Content.{Directory, LiveObject, Content, at, directory_at, parent_number, object_at, object_numbered, members, subdirectories}
 use Rattle.pps_types.specs.Checks.{Check, Refuse, first_refusal, refused, parsed, object_checks, objects_beside, limit_checks, mkdir_checks}
 use Rattle.pps_types.specs.Plan.{Move, Creates, AppendsRecord, MakesDirectory, creation, entry_of, offer, apply_seen, apply_all_seen, passes_last_number}
@@ -66,7 +66,7 @@ accepted c moves checks d h = by (first_refusal (with_numbers c moves checks)) r
 
 -- ---- one move
 
-no-handles : (e : Rattle.pps_types.specs.History.Entry) (hs : List (Open Seen)) → hs ≡ [] → map (offer e) hs ≡ []
+no-handles : (e : Rattle.pps_types.specs.History.Entry) (hs : List (OpenHandle Progress)) → hs ≡ [] → map (offer e) hs ≡ []
 no-handles e hs none = ap (map (offer e)) none
 
 idle-unused : (d : Content) → d.handles ≡ [] → AreIdle d

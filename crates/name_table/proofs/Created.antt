@@ -11,7 +11,7 @@ use Rattle.pps_types.specs.Bytes.{is_empty, ◌>>=◌}
 use Rattle.pps_types.specs.Names.{Map, Path, path_cmp, last_name, add_refusal, new_refusal, refusal_of, place, find_at, parent}
 use Rattle.pps_types.specs.Content.{Object, Directory, LiveObject, Content, at, parent_number, directory_at, object_at}
 use Rattle.pps_types.specs.Plan.{Creates, apply_seen}
-use Rattle.pps_types.specs.WellFormed.{AreRising}
+use Rattle.pps_types.specs.WellFormed.{RiseBetween}
 use Rattle.service_laws.proofs.Fits.{IsFree, IsPlaced, Order, Tree, order-in, tree-in, tree-out}
 use Rattle.service_laws.proofs.Trees.{tree-kept}
 use Rattle.service_laws.proofs.Passes.{free-place, place-at}
@@ -112,7 +112,7 @@ module _ (m : Map) (es : List (Entry Placed)) (k : ℕ) (ds : List (Entry Direct
     created_named = record {
       order = record {
         handles_rise = named.order.handles_rise;
-        objects_rise = subst (λ ns. AreRising 0 ns (k + 1)) numbers_are (rising-push 0 k _ named.order.objects_rise);
+        objects_rise = subst (λ ns. RiseBetween 0 ns (k + 1)) numbers_are (rising-push 0 k _ named.order.objects_rise);
         directories_rise = named.order.directories_rise;
         connections_rise = named.order.connections_rise;
       };

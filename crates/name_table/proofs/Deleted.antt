@@ -14,7 +14,7 @@ use Rattle.pps_types.specs.Bytes.{same, is_empty, ◌>>=◌}
 use Rattle.pps_types.specs.Names.{Map, Path, path_cmp, same_path, parent, last_name, beyond, place, find_at, is_object, object_refusal, refusal_of}
 use Rattle.pps_types.specs.Content.{Object, Directory, LiveObject, Content, at, parent_number, directory_at, object_at, object_in}
 use Rattle.pps_types.specs.Plan.{AppendsRecord, apply_seen, touched}
-use Rattle.pps_types.specs.WellFormed.{AreRising}
+use Rattle.pps_types.specs.WellFormed.{RiseBetween}
 use Rattle.service_laws.proofs.Fits.{Order, Tree, order-in, tree-in, tree-out}
 use Rattle.service_laws.proofs.Trees.{tree-kept, of_name, object-at, path-of, one-directory, above-of, object-touched, find-left, touched-of}
 use Rattle.service_laws.proofs.Passes.{IsDirectoryFound, object-found}
@@ -225,7 +225,7 @@ of_knowns P [] all = tt
 of_knowns P (e ∷ es) all = (all.0, of_knowns P es all.1)
 
 -- the object of that number is gone, and no other is
-pub gone_knowns : (n : ℕ) (es : List (Entry Placed)) (low high : ℕ) → AllTell (λ (x : Placed). x.object.number) es → AreRising low (map number_in (knowns es)) high
+pub gone_knowns : (n : ℕ) (es : List (Entry Placed)) (low high : ℕ) → AllTell (λ (x : Placed). x.object.number) es → RiseBetween low (map number_in (knowns es)) high
     → knowns (without_first (has_number n) es) ≡ filter_map (touched (bare_entry n Deleted)) (knowns es)
 gone_knowns n [] low high told r = refl
 gone_knowns n (e ∷ es) low high told r = by (eqb e.number n) refl (gone_knowns n es (e.value.object.number + 1) high told.1 r.1)
@@ -299,7 +299,7 @@ module _ (m : Map) (es : List (Entry Placed)) (k : ℕ) (ds : List (Entry Direct
     deleted_named = record {
       order = record {
         handles_rise = named.order.handles_rise;
-        objects_rise = subst (λ xs. AreRising 0 (map number_in xs) k) (sym are_left) (rising-filter_map number_in (touched (bare_entry n Deleted)) (λ x. touched-of (λ o. o.number ≡ x.object.number) (bare_entry n Deleted) x refl) 0 k (knowns es) named.order.objects_rise);
+        objects_rise = subst (λ xs. RiseBetween 0 (map number_in xs) k) (sym are_left) (rising-filter_map number_in (touched (bare_entry n Deleted)) (λ x. touched-of (λ o. o.number ≡ x.object.number) (bare_entry n Deleted) x refl) 0 k (knowns es) named.order.objects_rise);
         directories_rise = named.order.directories_rise;
         connections_rise = named.order.connections_rise;
       };

@@ -9,7 +9,7 @@ use Rattle.pps_types.specs.Bytes.{same, is_empty}
 use Rattle.pps_types.specs.Names.{Map, Path, last_name}
 use Rattle.pps_types.specs.Content.{Object, Directory, LiveObject, Content, at, parent_number, directory_at, object_in}
 use Rattle.pps_types.specs.Plan.{AppendsRecord, apply_seen, touched, still_known}
-use Rattle.pps_types.specs.WellFormed.{AreRising}
+use Rattle.pps_types.specs.WellFormed.{RiseBetween}
 use Rattle.service_laws.proofs.Fits.{Tree, order-in, tree-in, tree-out}
 use Rattle.service_laws.proofs.Trees.{tree-kept, touched-object, touched-of}
 use Rattle.service_laws.proofs.Rising.{rising-filter_map}
@@ -43,7 +43,7 @@ number_in x = x.object.number
 
 module _ (n : ℕ) (kind : Kind) where
   -- nothing above is touched
-  pub untouched : (low high : ℕ) (xs : List LiveObject) → n < low → AreRising low (map number_in xs) high → filter_map (touched (bare_entry n kind)) xs ≡ xs
+  pub untouched : (low high : ℕ) (xs : List LiveObject) → n < low → RiseBetween low (map number_in xs) high → filter_map (touched (bare_entry n kind)) xs ≡ xs
   untouched low high [] above r = refl
   untouched low high (x ∷ xs) above r =
       let other : eqb n x.object.number ≡ false = apart n x.object.number (omega (arith, r.0)) in
@@ -51,7 +51,7 @@ module _ (n : ℕ) (kind : Kind) where
 
   module _ (w : Placed) where
     -- the object of that number is another, and no other is
-    pub touched_set : (es : List (Entry Placed)) (low high : ℕ) → AllTell (λ (x : Placed). x.object.number) es → AreRising low (map number_in (knowns es)) high
+    pub touched_set : (es : List (Entry Placed)) (low high : ℕ) → AllTell (λ (x : Placed). x.object.number) es → RiseBetween low (map number_in (knowns es)) high
         → ((x : Placed) → value_under n es ≡ Some x → still_known (known_of x) kind ≡ Some (known_of w))
         → knowns (on_first (has_number n) (λ e. record e { value = w }) es) ≡ filter_map (touched (bare_entry n kind)) (knowns es)
     touched_set [] low high told r still = refl
@@ -142,7 +142,7 @@ module _ (m : Map) (es fs : List (Entry Placed)) (k : ℕ) (ds : List (Entry Dir
   happened_named paths told = record {
     order = record {
       handles_rise = named.order.handles_rise;
-      objects_rise = subst (λ xs. AreRising 0 (map number_in xs) k) (sym are) (rising-filter_map number_in (touched (bare_entry n kind)) (λ x. touched-of (λ o. o.number ≡ x.object.number) (bare_entry n kind) x refl) 0 k (knowns es) named.order.objects_rise);
+      objects_rise = subst (λ xs. RiseBetween 0 (map number_in xs) k) (sym are) (rising-filter_map number_in (touched (bare_entry n kind)) (λ x. touched-of (λ o. o.number ≡ x.object.number) (bare_entry n kind) x refl) 0 k (knowns es) named.order.objects_rise);
       directories_rise = named.order.directories_rise;
       connections_rise = named.order.connections_rise;
     };

@@ -19,7 +19,7 @@ use Rattle.pps_types.specs.Checks.{first_refusal, parsed, Refuse, list_checks}
 use Rattle.pps_types.specs.Bytes.{same, ◌>>=◌}
 use Rattle.pps_types.specs.Names.{Name, Map, Path, name_cmp, path_cmp, same_path, parent, last_name, sorted_by, name_in, members_in, members_of, objects_in, directories_in, is_object, is_directory, refusal_of, list_refusal, find_at}
 use Rattle.pps_types.specs.Content.{Directory, LiveObject, Content, at, parent_number, directory_at, object_at, object_in, members, subdirectories}
-use Rattle.pps_types.specs.WellFormed.{AreRising}
+use Rattle.pps_types.specs.WellFormed.{RiseBetween}
 use Rattle.service_laws.proofs.Fits.{Order, Tree}
 use Rattle.service_laws.proofs.Trees.{of_name, object-at, same_path-is, path-itself}
 use Rattle.service_laws.proofs.Rising.{rising-above}
@@ -164,7 +164,7 @@ module _ (c : Content) (r : Order c) (t : Tree c) (path : Path) where
 
   module _ {X : Type 0} (name : X → Name) (number : X → ℕ) (make : ℕ → Found) (one : (a b : ℕ) → make a ≡ make b → a ≡ b) (test : X → Bool) where
     -- what has different numbers has different names
-    distinct_names : (low high : ℕ) (xs : List X) → AreRising low (map number xs) high → AllByRecursion (λ x. test x ≡ true → IsAt (name x, make (number x))) xs → AreDistinct name_cmp name (filter test xs)
+    distinct_names : (low high : ℕ) (xs : List X) → RiseBetween low (map number xs) high → AllByRecursion (λ x. test x ≡ true → IsAt (name x, make (number x))) xs → AreDistinct name_cmp name (filter test xs)
     distinct_names low high [] rise all = tt
     distinct_names low high (x ∷ xs) rise all = by (test x) refl (distinct_names (number x + 1) high xs rise.1 all.1)
       where

@@ -10,7 +10,7 @@ use Rattle.pps_types.specs.Bytes.{same}
 use Rattle.pps_types.specs.Names.{Map, Path, path_cmp, same_path, last_name, parent, mkdir_refusal}
 use Rattle.pps_types.specs.Content.{Directory, LiveObject, Content, at, parent_number, directory_at, object_at, object_in}
 use Rattle.pps_types.specs.Plan.{MakesDirectory, apply_seen}
-use Rattle.pps_types.specs.WellFormed.{AreRising, directory_numbered}
+use Rattle.pps_types.specs.WellFormed.{RiseBetween, directory_numbered}
 use Rattle.service_laws.proofs.Fits.{IsFree, Order, Tree, order-in, tree-in, tree-out}
 use Rattle.service_laws.proofs.Trees.{tree-kept, above-of, same_path-is, path-itself, of_name}
 use Rattle.service_laws.proofs.Rising.{rising-push, rising-below}
@@ -147,7 +147,7 @@ module _ (m : Map) (es : List (Entry Placed)) (k : ℕ) (ds : List (Entry Direct
     order = record {
       handles_rise = named.order.handles_rise;
       objects_rise = named.order.objects_rise;
-      directories_rise = subst (λ ns. AreRising 0 ns (j + 1)) numbers_are (rising-push 0 j _ named.order.directories_rise);
+      directories_rise = subst (λ ns. RiseBetween 0 ns (j + 1)) numbers_are (rising-push 0 j _ named.order.directories_rise);
       connections_rise = named.order.connections_rise;
     };
     tree = tree-out _ (subst (λ directories. Tree (with_directories directories)) directories_are (tree_alone then (tree-kept (MakesDirectory path) old old_order old_tree at_free)));

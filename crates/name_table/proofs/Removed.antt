@@ -12,7 +12,7 @@ use Rattle.pps_types.specs.Names.{Map, Path, path_cmp, name_cmp, same_path, pare
 use Rattle.pps_types.specs.Content.{Directory, LiveObject, Content, at, parent_number, directory_at, object_at, object_in, members}
 use Rattle.pps_types.specs.Plan as planning
 use Rattle.pps_types.specs.Plan.{RemovesDirectory, apply_seen}
-use Rattle.pps_types.specs.WellFormed.{AreRising, directory_numbered}
+use Rattle.pps_types.specs.WellFormed.{RiseBetween, directory_numbered}
 use Rattle.service_laws.proofs.Fits.{IsEmptied, Order, Tree, order-in, tree-in, tree-out}
 use Rattle.service_laws.proofs.Trees.{tree-kept, of_name, path-of, one-directory, above-of, same_path-is}
 use Rattle.service_laws.proofs.Rising.{rising-without, none-left}
@@ -227,7 +227,7 @@ module _ (m : Map) (es : List (Entry Placed)) (k : ℕ) (ds : List (Entry Direct
       order = record {
         handles_rise = named.order.handles_rise;
         objects_rise = named.order.objects_rise;
-        directories_rise = subst (λ ds. AreRising 0 (map (λ (d : Directory). d.number) ds) j) (sym are_left) (rising-without (λ (d : Directory). d.number) (λ (d : Directory). eqb d.number n) 0 j (values ds) named.order.directories_rise);
+        directories_rise = subst (λ ds. RiseBetween 0 (map (λ (d : Directory). d.number) ds) j) (sym are_left) (rising-without (λ (d : Directory). d.number) (λ (d : Directory). eqb d.number n) 0 j (values ds) named.order.directories_rise);
         connections_rise = named.order.connections_rise;
       };
       tree = tree-out _ (subst (λ directories. Tree (with_directories directories)) (sym are_left) (tree_alone then (tree-kept (RemovesDirectory n) old old_order old_tree emptied)));

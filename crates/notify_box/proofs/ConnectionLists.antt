@@ -6,7 +6,7 @@ use Rattle.std.proofs.lemmas.Bool.Decides.{nat_tests}
 use Rattle.std.specs.List.{filter_map, cons_option, list_any, AllByRecursion}
 use Rattle.pps_types.specs.Outbox.{put_rising}
 use Rattle.pps_types.specs.Plan.{on_first, without_first}
-use Rattle.pps_types.specs.WellFormed.{AreRising}
+use Rattle.pps_types.specs.WellFormed.{RiseBetween}
 use Rattle.service_laws.proofs.Finds.{OfSome, all-find}
 use Rattle.service_laws.proofs.Rising.{rising-above}
 use Rattle.service_laws.proofs.SettlingLists.{rising-behind}
@@ -142,11 +142,11 @@ module _ {X Y : Type 0} (number : X → ℕ) (key : Y → ℕ) (see : X → Opti
           let most : nat_lt (key y) (key z) ≡ false = grind (arith, nat_tests, is, k, lower) in
           ap (λ b. cond b (y ∷ z ∷ ys) (z ∷ put_rising key y ys)) most
 
-  behind : (x : X) (high : ℕ) (xs : List X) → number x ≡ n → AreRising (number x + 1) (map number xs) high → AllByRecursion (λ x. n < number x) xs
+  behind : (x : X) (high : ℕ) (xs : List X) → number x ≡ n → RiseBetween (number x + 1) (map number xs) high → AllByRecursion (λ x. n < number x) xs
   behind x high xs is r = rising-behind number n high xs (rw (← is) r)
 
   -- it is taken out, and its entry with it
-  pub entries-gone : (low high : ℕ) (xs : List X) → AreRising low (map number xs) high → filter_map see (without_first numbered xs) ≡ kept (filter_map see xs)
+  pub entries-gone : (low high : ℕ) (xs : List X) → RiseBetween low (map number xs) high → filter_map see (without_first numbered xs) ≡ kept (filter_map see xs)
   entries-gone low high [] r = refl
   entries-gone low high (x ∷ xs) r = by (number x == n) refl (entries-gone (number x + 1) high xs r.1)
     where
@@ -156,11 +156,11 @@ module _ {X Y : Type 0} (number : X → ℕ) (key : Y → ℕ) (see : X → Opti
 
   module _ (x : X) where
     -- where it has none, no other has its number
-    pub entries-none : see x ≡ None → (low high : ℕ) (xs : List X) → AreRising low (map number xs) high → find numbered xs ≡ Some x → kept (filter_map see xs) ≡ filter_map see xs
+    pub entries-none : see x ≡ None → (low high : ℕ) (xs : List X) → RiseBetween low (map number xs) high → find numbered xs ≡ Some x → kept (filter_map see xs) ≡ filter_map see xs
     entries-none none low high xs r e = sym (entries-gone low high xs r) ∙ entries-without see numbered x none xs e
 
     -- it loses its entry
-    pub entries-out : (f : X → X) → see (f x) ≡ None → (low high : ℕ) (xs : List X) → AreRising low (map number xs) high → find numbered xs ≡ Some x → filter_map see (on_first numbered f xs) ≡ kept (filter_map see xs)
+    pub entries-out : (f : X → X) → see (f x) ≡ None → (low high : ℕ) (xs : List X) → RiseBetween low (map number xs) high → find numbered xs ≡ Some x → filter_map see (on_first numbered f xs) ≡ kept (filter_map see xs)
     entries-out f none low high [] r e = refl
     entries-out f none low high (z ∷ zs) r e = by (number z == n) refl e (entries-out f none (number z + 1) high zs r.1)
       where
@@ -173,7 +173,7 @@ module _ {X Y : Type 0} (number : X → ℕ) (key : Y → ℕ) (see : X → Opti
         by false e found rest = ap (cons_option (see z)) (rest found) ∙ sym (other-kept z e (filter_map see zs))
 
     -- it gets an entry, or another one
-    pub entries-put : (f : X → X) (y : Y) → key y ≡ n → see (f x) ≡ Some y → (low high : ℕ) (xs : List X) → AreRising low (map number xs) high → find numbered xs ≡ Some x → filter_map see (on_first numbered f xs) ≡ put_rising key y (kept (filter_map see xs))
+    pub entries-put : (f : X → X) (y : Y) → key y ≡ n → see (f x) ≡ Some y → (low high : ℕ) (xs : List X) → RiseBetween low (map number xs) high → find numbered xs ≡ Some x → filter_map see (on_first numbered f xs) ≡ put_rising key y (kept (filter_map see xs))
     entries-put f y named some low high [] r e = absurd (let bad = e in cc)
     entries-put f y named some low high (z ∷ zs) r e = by (number z == n) refl e (entries-put f y named some (number z + 1) high zs r.1)
       where
@@ -236,7 +236,7 @@ module _ {X Y : Type 0} (number : X → ℕ) (key : Y → ℕ) (see : X → Opti
       by None k rest = rest
       by (Some y) k rest = ap (λ b. b || list_any (λ y. key y == n) (filter_map see xs)) (ne_eqb (key y) n (λ same. omega (arith, same, k, all.0))) ∙ rest
 
-  pub entries-any : (x : X) (low high : ℕ) (xs : List X) → AreRising low (map number xs) high → find numbered xs ≡ Some x → list_any (λ y. key y == n) (filter_map see xs) ≡ is_some (see x)
+  pub entries-any : (x : X) (low high : ℕ) (xs : List X) → RiseBetween low (map number xs) high → find numbered xs ≡ Some x → list_any (λ y. key y == n) (filter_map see xs) ≡ is_some (see x)
   entries-any x low high [] r e = absurd (let bad = e in cc)
   entries-any x low high (z ∷ zs) r e = by (number z == n) refl e (entries-any x (number z + 1) high zs r.1)
     where
@@ -253,7 +253,7 @@ module _ {X Y : Type 0} (number : X → ℕ) (key : Y → ℕ) (see : X → Opti
       by false e found rest = skip (see z) (keyed z) e ∙ rest found
 
 -- where numbers rise, one that is found by its number and by more is found by its number
-pub found-both : {X : Type 0} (number : X → ℕ) (n : ℕ) (test : X → Bool) (low high : ℕ) (xs : List X) (x : X) → AreRising low (map number xs) high → find (λ x. (number x == n) && test x) xs ≡ Some x → find (λ x. number x == n) xs ≡ Some x
+pub found-both : {X : Type 0} (number : X → ℕ) (n : ℕ) (test : X → Bool) (low high : ℕ) (xs : List X) (x : X) → RiseBetween low (map number xs) high → find (λ x. (number x == n) && test x) xs ≡ Some x → find (λ x. number x == n) xs ≡ Some x
 found-both number n test low high [] x r e = e
 found-both {X = X} number n test low high (y ∷ ys) x r e = by (number y == n) refl (test y) e (found-both number n test (number y + 1) high ys x r.1)
   where

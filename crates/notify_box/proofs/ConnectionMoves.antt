@@ -9,12 +9,12 @@ use Rattle.pps_types.specs.declared.refusal.Refusal.{Refusal}
 use Rattle.pps_types.specs.declared.refusal.Refusal.TheVariants.{BadHandle}
 use Rattle.pps_types.specs.declared.outcome.Item.{Item}
 use Rattle.pps_types.specs.declared.outcome.Item.TheVariants.{Pulse, ReadDone}
-use Rattle.pps_types.specs.Reading.{Open, reseen, style}
-use Rattle.pps_types.specs.Rests.{Seen}
+use Rattle.pps_types.specs.Reading.{OpenHandle, reseen, style}
+use Rattle.pps_types.specs.Rests.{Progress}
 use Rattle.pps_types.specs.Outbox.{PulseOf, queued, disarmed, with_pulse, with_parked, fired_in, finished_in, behind_first}
 use Rattle.pps_types.specs.Content.{Connection, Content, handle_numbered, own_handle}
 use Rattle.pps_types.specs.Plan.{Leaves, Opens, Closes, Parks, Arms, Queues, Takes, on_first, without_first, on_numbered, on_connection, requeued, first_seen, apply_seen, apply_all_seen, fired}
-use Rattle.pps_types.specs.WellFormed.{AreRising}
+use Rattle.pps_types.specs.WellFormed.{RiseBetween}
 use Rattle.service_laws.proofs.Finds.{and-both}
 use Rattle.pps_types.proofs.Lists.{append-nil, map-without_first}
 use Rattle.service_laws.proofs.Rising.{rising-without, same-on_first}
@@ -27,7 +27,7 @@ use Rattle.notify_box.proofs.ConnectionStandings.{pulse_by, read_by, number_by, 
 
 -- ---- a change of one connection
 
-abbrev each : List (Open Seen) → Connection → Standing
+abbrev each : List (OpenHandle Progress) → Connection → Standing
 each hs x = shown hs x.number x.queue
 
 -- Where its queue changes, and by the handles it alone, the connection of that number is changed.
@@ -38,14 +38,14 @@ changed c d conn queue change rise is own others =
     shown-all d rises ∙ ap (map (each d.handles)) is ∙ go 1 c.connections rise ∙ ap (on_first (is_numbered conn) change) (sym (shown-all c rise))
   where
     rises : ConnectionsRise d
-    rises = subst (λ xs. AreRising 1 (map (λ (x : Connection). x.number) xs) 1025) (sym is)
-        (subst (λ ns. AreRising 1 ns 1025) (sym (same-on_first (λ (x : Connection). x.number) (λ x. x.number == conn) (requeued queue) (λ x. refl) c.connections)) rise)
+    rises = subst (λ xs. RiseBetween 1 (map (λ (x : Connection). x.number) xs) 1025) (sym is)
+        (subst (λ ns. RiseBetween 1 ns 1025) (sym (same-on_first (λ (x : Connection). x.number) (λ x. x.number == conn) (requeued queue) (λ x. refl) c.connections)) rise)
 
     later : (xs : List Connection) → AllByRecursion (λ x. conn < x.number) xs → map (each d.handles) xs ≡ map (each c.handles) xs
     later [] all = refl
     later (x ∷ xs) all = λ i. others x.number (ne_eqb x.number conn (λ same. omega (arith, same, all.0))) x.queue i ∷ later xs all.1 i
 
-    go : (low : ℕ) (xs : List Connection) → AreRising low (map (λ x. x.number) xs) 1025 → map (each d.handles) (on_connection conn queue xs) ≡ on_first (is_numbered conn) change (map (each c.handles) xs)
+    go : (low : ℕ) (xs : List Connection) → RiseBetween low (map (λ x. x.number) xs) 1025 → map (each d.handles) (on_connection conn queue xs) ≡ on_first (is_numbered conn) change (map (each c.handles) xs)
     go low [] r = refl
     go low (x ∷ xs) r = by (x.number == conn) refl (go (x.number + 1) xs r.1)
       where
@@ -91,10 +91,10 @@ off-none b o e = ap (λ b. cond b o None) e
 
 -- ---- one more handle
 
-abbrev opened_as : Open (Unit {0}) → Open Seen
+abbrev opened_as : OpenHandle (Unit {0}) → OpenHandle Progress
 opened_as h = reseen (λ h. first_seen h (style h.kind)) h
 
-pub opened-told : (c : Content) → ConnectionsRise c → (h : Open (Unit {0})) → h.parked ≡ None → h.armed ≡ None → connections_of (apply_seen (Opens h) c) ≡ with_handles h.connection (λ hs. hs ++ h.number ∷ []) (connections_of c)
+pub opened-told : (c : Content) → ConnectionsRise c → (h : OpenHandle (Unit {0})) → h.parked ≡ None → h.armed ≡ None → connections_of (apply_seen (Opens h) c) ≡ with_handles h.connection (λ hs. hs ++ h.number ∷ []) (connections_of c)
 opened-told c rise h idle unarmed =
     changed c (apply_seen (Opens h) c) h.connection (λ q. q) (λ s. record s { handles = s.handles ++ h.number ∷ [] }) rise (same-queues c h.connection)
     (λ q i. record {
@@ -104,7 +104,7 @@ opened-told c rise h idle unarmed =
     })
     (λ m e q. shown-same (c.handles ++ opened_as h ∷ []) c.handles m q (nothing (pulse_by m) (pulse m)) (nothing (read_by m) (reads m)) (nothing (number_by m) (off-none (h.connection == m) (Some h.number) (turned m h.connection e))))
   where
-    nothing : {Y : Type 0} (see : Open Seen → Option Y) → see (opened_as h) ≡ None → filter_map see (c.handles ++ opened_as h ∷ []) ≡ filter_map see c.handles
+    nothing : {Y : Type 0} (see : OpenHandle Progress → Option Y) → see (opened_as h) ≡ None → filter_map see (c.handles ++ opened_as h ∷ []) ≡ filter_map see c.handles
     nothing see none = filter_map-append see c.handles (opened_as h ∷ []) ∙ ap (λ o. filter_map see c.handles ++ cons_option o []) none ∙ append-nil (filter_map see c.handles)
 
     pulse : (m : ℕ) → pulse_by m (opened_as h) ≡ None
@@ -115,12 +115,12 @@ opened-told c rise h idle unarmed =
 
 -- ---- a handle of a connection
 
-module _ (c : Content) (rise : HandlesRise c) (rises : ConnectionsRise c) (conn n : ℕ) (h : Open Seen) (own : own_handle c conn n ≡ Some h) where
+module _ (c : Content) (rise : HandlesRise c) (rises : ConnectionsRise c) (conn n : ℕ) (h : OpenHandle Progress) (own : own_handle c conn n ≡ Some h) where
   both : ((h.number == n) ≡ true) × ((h.connection == conn) ≡ true)
   both = and-both (h.number == n) (h.connection == conn) (passes (λ g. (g.number == n) && (g.connection == conn)) c.handles h own)
 
   found : handle_numbered c n ≡ Some h
-  found = found-both (λ (g : Open Seen). g.number) n (λ g. g.connection == conn) 0 c.next_handle c.handles h rise own
+  found = found-both (λ (g : OpenHandle Progress). g.number) n (λ g. g.connection == conn) 0 c.next_handle c.handles h rise own
 
   numbered : h.number ≡ n
   numbered = eqb-true h.number n both.0
@@ -129,7 +129,7 @@ module _ (c : Content) (rise : HandlesRise c) (rises : ConnectionsRise c) (conn 
   elsewhere m e = ap (λ k. k == m) (eqb-true h.connection conn both.1) ∙ turned m conn e
 
   -- what a change of the handle leaves of another connection
-  others-stay : (f : Open Seen → Open Seen) → (f h).connection ≡ h.connection → (m : ℕ) → (m == conn) ≡ false → (q : List Item) → shown (on_numbered n f c.handles) m q ≡ shown c.handles m q
+  others-stay : (f : OpenHandle Progress → OpenHandle Progress) → (f h).connection ≡ h.connection → (m : ℕ) → (m == conn) ≡ false → (q : List Item) → shown (on_numbered n f c.handles) m q ≡ shown c.handles m q
   others-stay f keeps m e q = shown-same (on_numbered n f c.handles) c.handles m q
       (entries-found (pulse_by m) (λ g. g.number == n) f h (none (option_map (λ pulse. ((f h).number, pulse)) (f h).armed) (option_map (λ pulse. (h.number, pulse)) h.armed)) c.handles found)
       (entries-found (read_by m) (λ g. g.number == n) f h (none (option_map (λ size. (f h).number) (f h).parked) (option_map (λ size. h.number) h.parked)) c.handles found)
@@ -143,7 +143,7 @@ module _ (c : Content) (rise : HandlesRise c) (rises : ConnectionsRise c) (conn 
   abbrev pulses : List (ℕ × PulseOf)
   pulses = filter_map (pulse_by conn) c.handles
 
-  abbrev rearmed : Option PulseOf → Open Seen → Open Seen
+  abbrev rearmed : Option PulseOf → OpenHandle Progress → OpenHandle Progress
   rearmed pulse g = record g { armed = pulse }
 
   same-reads : (pulse : Option PulseOf) → filter_map (read_by conn) (on_numbered n (rearmed pulse) c.handles) ≡ filter_map (read_by conn) c.handles
@@ -153,7 +153,7 @@ module _ (c : Content) (rise : HandlesRise c) (rises : ConnectionsRise c) (conn 
   same-numbers pulse = entries-found (number_by conn) (λ g. g.number == n) (rearmed pulse) h refl c.handles found
 
   pulse-out : filter_map (pulse_by conn) (on_numbered n (rearmed None) c.handles) ≡ filter (λ a. not (a.0 == n)) pulses
-  pulse-out = entries-out (λ (g : Open Seen). g.number) (λ (a : ℕ × PulseOf). a.0) (pulse_by conn) (pulse-keyed conn) n h (rearmed None) (none-twice (h.connection == conn) None refl) 0 c.next_handle c.handles rise found
+  pulse-out = entries-out (λ (g : OpenHandle Progress). g.number) (λ (a : ℕ × PulseOf). a.0) (pulse_by conn) (pulse-keyed conn) n h (rearmed None) (none-twice (h.connection == conn) None refl) 0 c.next_handle c.handles rise found
 
   pub armed-told : (pulse : PulseOf) → connections_of (apply_seen (Arms n (Some pulse)) c) ≡ with_outbox conn (λ box. with_pulse box n pulse) (connections_of c)
   armed-told pulse =
@@ -162,7 +162,7 @@ module _ (c : Content) (rise : HandlesRise c) (rises : ConnectionsRise c) (conn 
         number = conn;
         outbox = record {
           items = q;
-          armed = entries-put (λ (g : Open Seen). g.number) (λ (a : ℕ × PulseOf). a.0) (pulse_by conn) (pulse-keyed conn) n h (rearmed (Some pulse)) (n, pulse) refl (λ i. cond (both.1 i) (Some (numbered i, pulse)) None) 0 c.next_handle c.handles rise found i;
+          armed = entries-put (λ (g : OpenHandle Progress). g.number) (λ (a : ℕ × PulseOf). a.0) (pulse_by conn) (pulse-keyed conn) n h (rearmed (Some pulse)) (n, pulse) refl (λ i. cond (both.1 i) (Some (numbered i, pulse)) None) 0 c.next_handle c.handles rise found i;
           parked = same-reads (Some pulse) i;
         };
         handles = same-numbers (Some pulse) i;
@@ -187,7 +187,7 @@ module _ (c : Content) (rise : HandlesRise c) (rises : ConnectionsRise c) (conn 
       (others-stay (rearmed None) refl)
     where
       is : find (λ a. a.0 == n) pulses ≡ Some (n, pulse)
-      is = entries-find (λ (g : Open Seen). g.number) (λ (a : ℕ × PulseOf). a.0) (pulse_by conn) (pulse-keyed conn) n h (n, pulse) (λ i. cond (both.1 i) (option_map (λ p. (numbered i, p)) (armed i)) None) c.handles found
+      is = entries-find (λ (g : OpenHandle Progress). g.number) (λ (a : ℕ × PulseOf). a.0) (pulse_by conn) (pulse-keyed conn) n h (n, pulse) (λ i. cond (both.1 i) (option_map (λ p. (numbered i, p)) (armed i)) None) c.handles found
 
   pub unarmed-told : h.armed ≡ None → connections_of c ≡ with_outbox conn (λ box. fired_in box n) (connections_of c)
   unarmed-told armed =
@@ -196,7 +196,7 @@ module _ (c : Content) (rise : HandlesRise c) (rises : ConnectionsRise c) (conn 
       (λ m e q. refl)
     where
       any : list_any (λ a. a.0 == n) pulses ≡ false
-      any = entries-any (λ (g : Open Seen). g.number) (λ (a : ℕ × PulseOf). a.0) (pulse_by conn) (pulse-keyed conn) n h 0 c.next_handle c.handles rise found
+      any = entries-any (λ (g : OpenHandle Progress). g.number) (λ (a : ℕ × PulseOf). a.0) (pulse_by conn) (pulse-keyed conn) n h 0 c.next_handle c.handles rise found
           ∙ ap is_some (ap (λ o. cond (h.connection == conn) (option_map (λ (p : PulseOf). (h.number, p)) o) None) armed ∙ none-twice (h.connection == conn) None refl)
 
       none-found : (xs : List (ℕ × PulseOf)) → list_any (λ a. a.0 == n) xs ≡ false → find (λ a. a.0 == n) xs ≡ None
@@ -212,7 +212,7 @@ module _ (c : Content) (rise : HandlesRise c) (rises : ConnectionsRise c) (conn 
   abbrev reads : List ℕ
   reads = filter_map (read_by conn) c.handles
 
-  abbrev reparked : Option ℕ → Open Seen → Open Seen
+  abbrev reparked : Option ℕ → OpenHandle Progress → OpenHandle Progress
   reparked size g = record g { parked = size }
 
   same-pulses : (size : Option ℕ) → filter_map (pulse_by conn) (on_numbered n (reparked size) c.handles) ≡ pulses
@@ -231,8 +231,8 @@ module _ (c : Content) (rise : HandlesRise c) (rises : ConnectionsRise c) (conn 
       (others-stay (reparked (Some size)) refl)
     where
       put : filter_map (read_by conn) (on_numbered n (reparked (Some size)) c.handles) ≡ (with_parked (record { items = []; armed = []; parked = reads }) n).parked
-      put = entries-put (λ (g : Open Seen). g.number) (λ (p : ℕ). p) (read_by conn) (read-keyed conn) n h (reparked (Some size)) n refl (λ i. cond (both.1 i) (Some (numbered i)) None) 0 c.next_handle c.handles rise found
-          ∙ ap (λ ps. (with_parked (record { items = []; armed = []; parked = ps }) n).parked) (entries-none (λ (g : Open Seen). g.number) (λ (p : ℕ). p) (read_by conn) (read-keyed conn) n h (idle-none idle) 0 c.next_handle c.handles rise found)
+      put = entries-put (λ (g : OpenHandle Progress). g.number) (λ (p : ℕ). p) (read_by conn) (read-keyed conn) n h (reparked (Some size)) n refl (λ i. cond (both.1 i) (Some (numbered i)) None) 0 c.next_handle c.handles rise found
+          ∙ ap (λ ps. (with_parked (record { items = []; armed = []; parked = ps }) n).parked) (entries-none (λ (g : OpenHandle Progress). g.number) (λ (p : ℕ). p) (read_by conn) (read-keyed conn) n h (idle-none idle) 0 c.next_handle c.handles rise found)
 
   pub finished-told : (result : Result (List ℕ) Refusal) → connections_of (apply_all_seen (Parks n None ∷ Queues conn (ReadDone n result) ∷ []) c) ≡ with_outbox conn (λ box. finished_in box n result) (connections_of c)
   finished-told result =
@@ -241,7 +241,7 @@ module _ (c : Content) (rise : HandlesRise c) (rises : ConnectionsRise c) (conn 
       (others-stay (reparked None) refl)
     where
       out : filter_map (read_by conn) (on_numbered n (reparked None) c.handles) ≡ filter (λ p. not (p == n)) reads
-      out = entries-out (λ (g : Open Seen). g.number) (λ (p : ℕ). p) (read_by conn) (read-keyed conn) n h (reparked None) (none-twice (h.connection == conn) None refl) 0 c.next_handle c.handles rise found
+      out = entries-out (λ (g : OpenHandle Progress). g.number) (λ (p : ℕ). p) (read_by conn) (read-keyed conn) n h (reparked None) (none-twice (h.connection == conn) None refl) 0 c.next_handle c.handles rise found
 
   -- ---- it closes
 
@@ -255,13 +255,13 @@ module _ (c : Content) (rise : HandlesRise c) (rises : ConnectionsRise c) (conn 
       (entries-without (number_by m) (λ g. g.number == n) h (off-none (h.connection == m) (Some h.number) (elsewhere m e)) c.handles found)
 
   pulse-gone : filter_map (pulse_by conn) (without_first (λ g. g.number == n) c.handles) ≡ filter (λ a. not (a.0 == n)) pulses
-  pulse-gone = entries-gone (λ (g : Open Seen). g.number) (λ (a : ℕ × PulseOf). a.0) (pulse_by conn) (pulse-keyed conn) n 0 c.next_handle c.handles rise
+  pulse-gone = entries-gone (λ (g : OpenHandle Progress). g.number) (λ (a : ℕ × PulseOf). a.0) (pulse_by conn) (pulse-keyed conn) n 0 c.next_handle c.handles rise
 
   number-gone : filter_map (number_by conn) (without_first (λ g. g.number == n) c.handles) ≡ without_first (λ k. k == n) (filter_map (number_by conn) c.handles)
-  number-gone = entries-first (λ (g : Open Seen). g.number) (λ (k : ℕ). k) (number_by conn) (number-keyed conn) n h n (λ i. cond (both.1 i) (Some (numbered i)) None) c.handles found
+  number-gone = entries-first (λ (g : OpenHandle Progress). g.number) (λ (k : ℕ). k) (number_by conn) (number-keyed conn) n h n (λ i. cond (both.1 i) (Some (numbered i)) None) c.handles found
 
   any-read : list_any (λ p. p == n) reads ≡ is_some h.parked
-  any-read = entries-any (λ (g : Open Seen). g.number) (λ (p : ℕ). p) (read_by conn) (read-keyed conn) n h 0 c.next_handle c.handles rise found
+  any-read = entries-any (λ (g : OpenHandle Progress). g.number) (λ (p : ℕ). p) (read_by conn) (read-keyed conn) n h 0 c.next_handle c.handles rise found
       ∙ ap (λ b. is_some (cond b (option_map (λ size. h.number) h.parked) None)) both.1 ∙ by h.parked
     where
       by : (o : Option ℕ) → is_some (option_map (λ size. h.number) o) ≡ is_some o
@@ -299,7 +299,7 @@ module _ (c : Content) (rise : HandlesRise c) (rises : ConnectionsRise c) (conn 
             outbox = record {
               items = q ++ ReadDone n (Err BadHandle) ∷ [];
               armed = pulse-gone i;
-              parked = entries-gone (λ (g : Open Seen). g.number) (λ (p : ℕ). p) (read_by conn) (read-keyed conn) n 0 c.next_handle c.handles rise i;
+              parked = entries-gone (λ (g : OpenHandle Progress). g.number) (λ (p : ℕ). p) (read_by conn) (read-keyed conn) n 0 c.next_handle c.handles rise i;
             };
             handles = number-gone i;
           })
@@ -308,7 +308,7 @@ module _ (c : Content) (rise : HandlesRise c) (rises : ConnectionsRise c) (conn 
 
 -- ---- a pulse that is armed or is not
 
-pub fires-told : (c : Content) → HandlesRise c → ConnectionsRise c → (h : Open Seen) → handle_numbered c h.number ≡ Some h → connections_of (apply_all_seen (fired h) c) ≡ with_outbox h.connection (λ box. fired_in box h.number) (connections_of c)
+pub fires-told : (c : Content) → HandlesRise c → ConnectionsRise c → (h : OpenHandle Progress) → handle_numbered c h.number ≡ Some h → connections_of (apply_all_seen (fired h) c) ≡ with_outbox h.connection (λ box. fired_in box h.number) (connections_of c)
 fires-told c rise rises h found = by h.armed refl
   where
     own : own_handle c h.connection h.number ≡ Some h

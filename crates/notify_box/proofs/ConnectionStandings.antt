@@ -5,8 +5,8 @@ use Rattle.std.specs.Option.{option_map_or}
 use Rattle.std.proofs.lemmas.Bool.{eqb-true, eq-eqb}
 use Rattle.std.specs.List.{filter_map, AllByRecursion}
 use Rattle.pps_types.specs.declared.outcome.Item.{Item}
-use Rattle.pps_types.specs.Reading.{Open}
-use Rattle.pps_types.specs.Rests.{Seen}
+use Rattle.pps_types.specs.Reading.{OpenHandle}
+use Rattle.pps_types.specs.Rests.{Progress}
 use Rattle.pps_types.specs.Outbox.{PulseOf, empty_outbox}
 use Rattle.pps_types.specs.Content.{Connection, Content, handle_numbered, own_handle, connection_numbered, is_attached, queue_of, handles_of, outbox_of}
 use Rattle.service_laws.proofs.Finds.{OfSome}
@@ -18,13 +18,13 @@ use Rattle.notify_box.proofs.ConnectionLists.{passes, find-map, filter_map-filte
 
 -- ---- what a handle gives to a connection
 
-abbrev pub pulse_by : ℕ → Open Seen → Option (ℕ × PulseOf)
+abbrev pub pulse_by : ℕ → OpenHandle Progress → Option (ℕ × PulseOf)
 pulse_by conn h = cond (h.connection == conn) (option_map (λ pulse. (h.number, pulse)) h.armed) None
 
-abbrev pub read_by : ℕ → Open Seen → Option ℕ
+abbrev pub read_by : ℕ → OpenHandle Progress → Option ℕ
 read_by conn h = cond (h.connection == conn) (option_map (λ size. h.number) h.parked) None
 
-abbrev pub number_by : ℕ → Open Seen → Option ℕ
+abbrev pub number_by : ℕ → OpenHandle Progress → Option ℕ
 number_by conn h = cond (h.connection == conn) (Some h.number) None
 
 -- each by the handle's number
@@ -33,26 +33,26 @@ keyed-own : {Y : Type 0} (key : Y → ℕ) (n : ℕ) (b : Bool) (o : Option Y) �
 keyed-own key n true o k = k
 keyed-own key n false o k = tt
 
-pub pulse-keyed : (conn : ℕ) (h : Open Seen) → OfSome (λ (a : ℕ × PulseOf). a.0 ≡ h.number) (pulse_by conn h)
+pub pulse-keyed : (conn : ℕ) (h : OpenHandle Progress) → OfSome (λ (a : ℕ × PulseOf). a.0 ≡ h.number) (pulse_by conn h)
 pulse-keyed conn h = keyed-own (λ (a : ℕ × PulseOf). a.0) h.number (h.connection == conn) (option_map (λ pulse. (h.number, pulse)) h.armed) (by h.armed)
   where
     by : (o : Option PulseOf) → OfSome (λ (a : ℕ × PulseOf). a.0 ≡ h.number) (option_map (λ pulse. (h.number, pulse)) o)
     by None = tt
     by (Some pulse) = refl
 
-pub read-keyed : (conn : ℕ) (h : Open Seen) → OfSome (λ (p : ℕ). p ≡ h.number) (read_by conn h)
+pub read-keyed : (conn : ℕ) (h : OpenHandle Progress) → OfSome (λ (p : ℕ). p ≡ h.number) (read_by conn h)
 read-keyed conn h = keyed-own (λ (p : ℕ). p) h.number (h.connection == conn) (option_map (λ size. h.number) h.parked) (by h.parked)
   where
     by : (o : Option ℕ) → OfSome (λ (p : ℕ). p ≡ h.number) (option_map (λ size. h.number) o)
     by None = tt
     by (Some size) = refl
 
-pub number-keyed : (conn : ℕ) (h : Open Seen) → OfSome (λ (k : ℕ). k ≡ h.number) (number_by conn h)
+pub number-keyed : (conn : ℕ) (h : OpenHandle Progress) → OfSome (λ (k : ℕ). k ≡ h.number) (number_by conn h)
 number-keyed conn h = keyed-own (λ (k : ℕ). k) h.number (h.connection == conn) (Some h.number) refl
 
 -- ---- a connection by its queue and all handles
 
-abbrev pub shown : List (Open Seen) → ℕ → List Item → Standing
+abbrev pub shown : List (OpenHandle Progress) → ℕ → List Item → Standing
 shown hs conn queue = record {
   number = conn;
   outbox = record { items = queue; armed = filter_map (pulse_by conn) hs; parked = filter_map (read_by conn) hs };
@@ -60,7 +60,7 @@ shown hs conn queue = record {
 }
 
 -- by its three lists
-pub shown-same : (hs gs : List (Open Seen)) (conn : ℕ) (queue : List Item) → filter_map (pulse_by conn) hs ≡ filter_map (pulse_by conn) gs → filter_map (read_by conn) hs ≡ filter_map (read_by conn) gs → filter_map (number_by conn) hs ≡ filter_map (number_by conn) gs → shown hs conn queue ≡ shown gs conn queue
+pub shown-same : (hs gs : List (OpenHandle Progress)) (conn : ℕ) (queue : List Item) → filter_map (pulse_by conn) hs ≡ filter_map (pulse_by conn) gs → filter_map (read_by conn) hs ≡ filter_map (read_by conn) gs → filter_map (number_by conn) hs ≡ filter_map (number_by conn) gs → shown hs conn queue ≡ shown gs conn queue
 shown-same hs gs conn queue a p n = λ i. record { number = conn; outbox = record { items = queue; armed = a i; parked = p i }; handles = n i }
 
 pub standing-shown : (c : Content) (x : Connection) → standing_of c x ≡ shown c.handles x.number (queue_of c x.number)
@@ -68,10 +68,10 @@ standing-shown c x = λ i. record {
   number = x.number;
   outbox = record {
     items = queue_of c x.number;
-    armed = filter_map-filter (λ (h : Open Seen). option_map (λ pulse. (h.number, pulse)) h.armed) (λ h. h.connection == x.number) c.handles i;
-    parked = filter_map-filter (λ (h : Open Seen). option_map (λ size. h.number) h.parked) (λ h. h.connection == x.number) c.handles i;
+    armed = filter_map-filter (λ (h : OpenHandle Progress). option_map (λ pulse. (h.number, pulse)) h.armed) (λ h. h.connection == x.number) c.handles i;
+    parked = filter_map-filter (λ (h : OpenHandle Progress). option_map (λ size. h.number) h.parked) (λ h. h.connection == x.number) c.handles i;
   };
-  handles = map-filter (λ (h : Open Seen). h.number) (λ h. h.connection == x.number) c.handles i;
+  handles = map-filter (λ (h : OpenHandle Progress). h.number) (λ h. h.connection == x.number) c.handles i;
 }
 
 -- where connections rise, each has its own queue
@@ -97,7 +97,7 @@ found-attached c conn = ap is_some (found-standing c conn) ∙ by (connection_nu
 pub none-unattached : (c : Content) → AreOwned c → (conn : ℕ) → is_attached c conn ≡ false → handles_of c conn ≡ []
 none-unattached c owned conn off = go c.handles owned
   where
-    go : (hs : List (Open Seen)) → AllByRecursion (λ h. is_attached c h.connection ≡ true) hs → filter (λ h. h.connection == conn) hs ≡ []
+    go : (hs : List (OpenHandle Progress)) → AllByRecursion (λ h. is_attached c h.connection ≡ true) hs → filter (λ h. h.connection == conn) hs ≡ []
     go [] all = refl
     go (h ∷ hs) all = by (h.connection == conn) refl (go hs all.1)
       where
@@ -128,12 +128,12 @@ module _ (c : Content) (owned : AreOwned c) (conn : ℕ) where
           let q : [] ≡ queue_of c conn = queue (connection_numbered c conn) off in
           λ i. record {
             items = q i;
-            armed = filter_map (λ (h : Open Seen). option_map (λ pulse. (h.number, pulse)) h.armed) (sym hs i);
-            parked = filter_map (λ (h : Open Seen). option_map (λ size. h.number) h.parked) (sym hs i);
+            armed = filter_map (λ (h : OpenHandle Progress). option_map (λ pulse. (h.number, pulse)) h.armed) (sym hs i);
+            parked = filter_map (λ (h : OpenHandle Progress). option_map (λ size. h.number) h.parked) (sym hs i);
           }
 
   pub found-handles : handles_at conn (connections_of c) ≡ map (λ h. h.number) (handles_of c conn)
-  found-handles = found-any (λ s. s.handles) [] (λ n. map (λ h. h.number) (handles_of c n)) (λ x. refl) (λ off. ap (λ hs. map (λ (h : Open Seen). h.number) hs) (sym (none-unattached c owned conn off)))
+  found-handles = found-any (λ s. s.handles) [] (λ n. map (λ h. h.number) (handles_of c n)) (λ x. refl) (λ off. ap (λ hs. map (λ (h : OpenHandle Progress). h.number) hs) (sym (none-unattached c owned conn off)))
 
 pub found-queues : (c : Content) → ConnectionsRise c → queues_of (connections_of c) ≡ c.connections
 found-queues c rise = ap queues_of (shown-all c rise) ∙ go c.connections
@@ -142,5 +142,5 @@ found-queues c rise = ap queues_of (shown-all c rise) ∙ go c.connections
     go [] = refl
     go (x ∷ xs) = ap (λ ys. x ∷ ys) (go xs)
 
-pub found-own : (c : Content) (n : ℕ) (h : Open Seen) → handle_numbered c n ≡ Some h → own_handle c h.connection n ≡ Some h
+pub found-own : (c : Content) (n : ℕ) (h : OpenHandle Progress) → handle_numbered c n ≡ Some h → own_handle c h.connection n ≡ Some h
 found-own c n h e = found-more (λ g. g.number == n) (λ g. g.connection == h.connection) c.handles h e (eq-eqb h.connection h.connection refl)

@@ -5,8 +5,8 @@ use Rattle.std.specs.Option.{option_map_or}
 use Rattle.std.proofs.lemmas.Bool.{eq-eqb}
 use Rattle.std.specs.List.{filter_map, list_all, AllByRecursion}
 use Rattle.pps_types.specs.declared.outcome.Item.{Item}
-use Rattle.pps_types.specs.Reading.{Open, reseen}
-use Rattle.pps_types.specs.Rests.{Seen}
+use Rattle.pps_types.specs.Reading.{OpenHandle, reseen}
+use Rattle.pps_types.specs.Rests.{Progress}
 use Rattle.pps_types.specs.Outbox.{empty_outbox, put_rising}
 use Rattle.pps_types.specs.Content.{Connection, Content, is_attached, queue_of, handles_of}
 use Rattle.pps_types.specs.Plan.{Move, Attaches, Leaves, Creates, AppendsRecord, Opens, Closes, CatchesUp, Advances, Parks, Arms, Queues, Takes, MakesDirectory, RemovesDirectory, with_connection, apply_seen, apply_all_seen, on_numbered, creation, offered, caught_up, left}
@@ -30,10 +30,10 @@ stays c d is same = ap (map (standing_of d)) is ∙ go c.connections
     go (x ∷ xs) = λ i. (standing-shown d x ∙ same x.number (queue_of d x.number) ∙ ap (shown c.handles x.number) (queue x.number) ∙ sym (standing-shown c x)) i ∷ go xs i
 
 -- what handles have seen is not shown
-seen-all : (see : Open Seen → Seen) (hs : List (Open Seen)) (m : ℕ) (q : List Item) → shown (map (reseen see) hs) m q ≡ shown hs m q
+seen-all : (see : OpenHandle Progress → Progress) (hs : List (OpenHandle Progress)) (m : ℕ) (q : List Item) → shown (map (reseen see) hs) m q ≡ shown hs m q
 seen-all see hs m q = shown-same (map (reseen see) hs) hs m q (entries-map (pulse_by m) (reseen see) (λ h. refl) hs) (entries-map (read_by m) (reseen see) (λ h. refl) hs) (entries-map (number_by m) (reseen see) (λ h. refl) hs)
 
-seen-one : (n : ℕ) (see : Open Seen → Seen) (hs : List (Open Seen)) (m : ℕ) (q : List Item) → shown (on_numbered n (reseen see) hs) m q ≡ shown hs m q
+seen-one : (n : ℕ) (see : OpenHandle Progress → Progress) (hs : List (OpenHandle Progress)) (m : ℕ) (q : List Item) → shown (on_numbered n (reseen see) hs) m q ≡ shown hs m q
 seen-one n see hs m q = shown-same (on_numbered n (reseen see) hs) hs m q
     (entries-on_first (pulse_by m) (λ h. h.number == n) (reseen see) (λ h. refl) hs)
     (entries-on_first (read_by m) (λ h. h.number == n) (reseen see) (λ h. refl) hs)
@@ -110,10 +110,10 @@ module _ (c : Content) (conn : ℕ) (off : is_attached c conn ≡ false) (none :
     number = conn;
     outbox = record {
       items = option_map_or (λ (x : Connection). x.queue) (finds-new c.connections (others c.connections off) i) [];
-      armed = filter_map (λ (h : Open Seen). option_map (λ pulse. (h.number, pulse)) h.armed) (none i);
-      parked = filter_map (λ (h : Open Seen). option_map (λ size. h.number) h.parked) (none i);
+      armed = filter_map (λ (h : OpenHandle Progress). option_map (λ pulse. (h.number, pulse)) h.armed) (none i);
+      parked = filter_map (λ (h : OpenHandle Progress). option_map (λ size. h.number) h.parked) (none i);
     };
-    handles = map (λ (h : Open Seen). h.number) (none i);
+    handles = map (λ (h : OpenHandle Progress). h.number) (none i);
   }
 
   abbrev by_queue : Connection → List Item → Standing

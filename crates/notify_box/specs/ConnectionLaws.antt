@@ -5,8 +5,8 @@ use Rattle.pps_types.specs.declared.refusal.Refusal.{Refusal}
 use Rattle.pps_types.specs.declared.refusal.Refusal.TheVariants.{BadHandle}
 use Rattle.pps_types.specs.declared.outcome.Item.{Item}
 use Rattle.pps_types.specs.declared.outcome.Item.TheVariants.{Pulse, ReadDone}
-use Rattle.pps_types.specs.Reading.{Open}
-use Rattle.pps_types.specs.Rests.{Seen}
+use Rattle.pps_types.specs.Reading.{OpenHandle}
+use Rattle.pps_types.specs.Rests.{Progress}
 use Rattle.pps_types.specs.Outbox.{PulseOf, empty_outbox, queued as with_item, disarmed as without_pulse, with_pulse, with_parked, fired_in, finished_in, behind_first, put_rising}
 use Rattle.pps_types.specs.Content.{Content, handle_numbered, own_handle, connection_numbered, is_attached, handles_of, outbox_of}
 use Rattle.pps_types.specs.Plan.{Move, Attaches, Leaves, Opens, Closes, Parks, Arms, Queues, Takes, without_first, apply_seen, apply_all_seen, fired as firing}
@@ -24,7 +24,7 @@ pub record ConnectionsAreFound : Type 0 where
   pub handles : (c : Content) → AreOwned c → (conn : ℕ) → handles_at conn (connections_of c) ≡ map (λ h. h.number) (handles_of c conn)
   pub queues : (c : Content) → ConnectionsRise c → queues_of (connections_of c) ≡ c.connections
   pub unattached : (c : Content) → AreOwned c → (conn : ℕ) → is_attached c conn ≡ false → handles_of c conn ≡ []
-  pub own : (c : Content) (n : ℕ) (h : Open Seen) → handle_numbered c n ≡ Some h → own_handle c h.connection n ≡ Some h
+  pub own : (c : Content) (n : ℕ) (h : OpenHandle Progress) → handle_numbered c n ≡ Some h → own_handle c h.connection n ≡ Some h
 
 -- What moves make of the connections. kept: those that are of none leave them. attached, left: one comes or goes.
 -- Each other is a change of one connection, that of the handle that it is of: its handles where it opens or closes one,
@@ -41,24 +41,24 @@ pub record ConnectionsAreTold : Type 0 where
       → connections_of (apply_seen (Queues conn item) c) ≡ with_outbox conn (λ box. with_item box item) (connections_of c)
   pub taken : (c : Content) → ConnectionsRise c → (conn : ℕ)
       → connections_of (apply_seen (Takes conn) c) ≡ with_outbox conn (λ box. record box { items = behind_first box.items }) (connections_of c)
-  pub opened : (c : Content) → ConnectionsRise c → (h : Open (Unit {0})) → h.parked ≡ None → h.armed ≡ None
+  pub opened : (c : Content) → ConnectionsRise c → (h : OpenHandle (Unit {0})) → h.parked ≡ None → h.armed ≡ None
       → connections_of (apply_seen (Opens h) c) ≡ with_handles h.connection (λ hs. hs ++ h.number ∷ []) (connections_of c)
-  pub closed : (c : Content) → HandlesRise c → ConnectionsRise c → (conn n : ℕ) (h : Open Seen) → own_handle c conn n ≡ Some h
+  pub closed : (c : Content) → HandlesRise c → ConnectionsRise c → (conn n : ℕ) (h : OpenHandle Progress) → own_handle c conn n ≡ Some h
       → connections_of (apply_all_seen (Closes n ∷ (if is_some h.parked then Queues conn (ReadDone n (Err BadHandle)) ∷ [] else [])) c)
       ≡ with_handles conn (λ hs. without_first (λ k. k == n) hs)
       (with_outbox conn (λ box. parked_ended box n) (with_outbox conn (λ box. without_pulse box n) (connections_of c)))
-  pub armed : (c : Content) → HandlesRise c → ConnectionsRise c → (conn n : ℕ) (h : Open Seen) → own_handle c conn n ≡ Some h → (pulse : PulseOf)
+  pub armed : (c : Content) → HandlesRise c → ConnectionsRise c → (conn n : ℕ) (h : OpenHandle Progress) → own_handle c conn n ≡ Some h → (pulse : PulseOf)
       → connections_of (apply_seen (Arms n (Some pulse)) c) ≡ with_outbox conn (λ box. with_pulse box n pulse) (connections_of c)
-  pub disarmed : (c : Content) → HandlesRise c → ConnectionsRise c → (conn n : ℕ) (h : Open Seen) → own_handle c conn n ≡ Some h
+  pub disarmed : (c : Content) → HandlesRise c → ConnectionsRise c → (conn n : ℕ) (h : OpenHandle Progress) → own_handle c conn n ≡ Some h
       → connections_of (apply_seen (Arms n None) c) ≡ with_outbox conn (λ box. without_pulse box n) (connections_of c)
-  pub fired : (c : Content) → HandlesRise c → ConnectionsRise c → (conn n : ℕ) (h : Open Seen) → own_handle c conn n ≡ Some h
+  pub fired : (c : Content) → HandlesRise c → ConnectionsRise c → (conn n : ℕ) (h : OpenHandle Progress) → own_handle c conn n ≡ Some h
       → (pulse : PulseOf) → h.armed ≡ Some pulse
       → connections_of (apply_all_seen (Arms n None ∷ Queues conn (Pulse pulse.0 pulse.1) ∷ []) c) ≡ with_outbox conn (λ box. fired_in box n) (connections_of c)
-  pub fires : (c : Content) → HandlesRise c → ConnectionsRise c → (h : Open Seen) → handle_numbered c h.number ≡ Some h
+  pub fires : (c : Content) → HandlesRise c → ConnectionsRise c → (h : OpenHandle Progress) → handle_numbered c h.number ≡ Some h
       → connections_of (apply_all_seen (firing h) c) ≡ with_outbox h.connection (λ box. fired_in box h.number) (connections_of c)
-  pub parked : (c : Content) → HandlesRise c → ConnectionsRise c → (conn n : ℕ) (h : Open Seen) → own_handle c conn n ≡ Some h → h.parked ≡ None → (size : ℕ)
+  pub parked : (c : Content) → HandlesRise c → ConnectionsRise c → (conn n : ℕ) (h : OpenHandle Progress) → own_handle c conn n ≡ Some h → h.parked ≡ None → (size : ℕ)
       → connections_of (apply_seen (Parks n (Some size)) c) ≡ with_outbox conn (λ box. with_parked box n) (connections_of c)
-  pub finished : (c : Content) → HandlesRise c → ConnectionsRise c → (conn n : ℕ) (h : Open Seen) → own_handle c conn n ≡ Some h
+  pub finished : (c : Content) → HandlesRise c → ConnectionsRise c → (conn n : ℕ) (h : OpenHandle Progress) → own_handle c conn n ≡ Some h
       → (result : Result (List ℕ) Refusal)
       → connections_of (apply_all_seen (Parks n None ∷ Queues conn (ReadDone n result) ∷ []) c) ≡ with_outbox conn (λ box. finished_in box n result) (connections_of c)
 
@@ -69,5 +69,5 @@ pub record PremisesStay : Type 0 where
   pub handles : (c : Content) (ms : List Move) → HandlesRise c → AreNumbered c.next_handle ms → HandlesRise (apply_all_seen ms c)
   pub connections : (c : Content) (ms : List Move) → ConnectionsRise c → list_all attaches_none ms ≡ true → ConnectionsRise (apply_all_seen ms c)
   pub attached : (c : Content) (conn : ℕ) → ConnectionsRise c → 1 ≤ conn → conn < 1025 → is_attached c conn ≡ false → ConnectionsRise (apply_seen (Attaches conn) c)
-  pub own : (c : Content) (ms : List Move) → HandlesRise c → AreNumbered c.next_handle ms → (conn n : ℕ) (h : Open Seen) → own_handle c conn n ≡ Some h
+  pub own : (c : Content) (ms : List Move) → HandlesRise c → AreNumbered c.next_handle ms → (conn n : ℕ) (h : OpenHandle Progress) → own_handle c conn n ≡ Some h
       → own_handle (apply_all_seen ms c) conn n ≡ handle_after ms h

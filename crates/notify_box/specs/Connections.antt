@@ -2,7 +2,7 @@
 use Rattle.std.specs.Prelude.{◌≡◌, List, Bool, true, false, map}
 use Rattle.std.specs.List.{AllByRecursion}
 use Rattle.pps_types.specs.Content.{Connection, Content, is_attached, handles_of, outbox_of}
-use Rattle.pps_types.specs.WellFormed.{AreRising}
+use Rattle.pps_types.specs.WellFormed.{RiseBetween}
 use Rattle.pps_types.specs.Plan.{Move, Attaches, Creates, AppendsRecord, CatchesUp, Advances, MakesDirectory, RemovesDirectory}
 use Rattle.notify_box.specs.Standing.{Standing}
 
@@ -18,7 +18,7 @@ connections_of c = map (standing_of c) c.connections
 
 -- the connections stand in rising number
 abbrev pub ConnectionsRise : Content → Type 0
-ConnectionsRise c = AreRising 1 (map (λ x. x.number) c.connections) 1025
+ConnectionsRise c = RiseBetween 1 (map (λ x. x.number) c.connections) 1025
 
 -- the connection of each handle is attached
 abbrev pub AreOwned : Content → Type 0

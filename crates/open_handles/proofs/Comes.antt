@@ -3,14 +3,14 @@ use Rattle.std.proofs.Common.{◌≡◌, ◌<◌, ◌≤◌, ℕ, ◌+◌, Bool,
 use Rattle.std.specs.Prelude.{find, is_some, option_map}
 use Rattle.std.specs.List.{AllByRecursion, filter_map, cons_option}
 use Rattle.pps_types.specs.declared.found.Found.{Found}
-use Rattle.pps_types.specs.Reading.{Open}
-use Rattle.pps_types.specs.Rests.{Seen}
-use Rattle.pps_types.specs.WellFormed.{AreRising}
+use Rattle.pps_types.specs.Reading.{OpenHandle}
+use Rattle.pps_types.specs.Rests.{Progress}
+use Rattle.pps_types.specs.WellFormed.{RiseBetween}
 use Rattle.service_laws.proofs.Finds.{all-imp, some-of, find-push, find-last}
 use Rattle.service_laws.proofs.Rising.{rising-below}
 use Rattle.number_table.specs.Numbered.{Entry as Numbering, has_number, value_under}
 use Rattle.sub_reader.specs.Opened.{handle_at, is_directory, number_of}
-use Rattle.sub_reader.specs.Seated.{AreSeated}
+use Rattle.sub_reader.specs.HandlesOf.{AreOn}
 use Rattle.open_handles.specs.Whole.{row_handle, AreRowed}
 use Rattle.open_handles.proofs.Finds.{found_cases, NoneNumbered, none_at}
 use Rattle.open_handles.proofs.Rows.{none_anywhere}
@@ -40,18 +40,18 @@ module _ {T : Type 0} where
       by false none rest = rest none
 
   -- a number above all has nothing
-  pub under_none : (n low high : ℕ) (es : List (Numbering T)) → high ≤ n → AreRising low (map (λ (e : Numbering T). e.number) es) high → value_under n es ≡ None
+  pub under_none : (n low high : ℕ) (es : List (Numbering T)) → high ≤ n → RiseBetween low (map (λ (e : Numbering T). e.number) es) high → value_under n es ≡ None
   under_none n low high [] le r = refl
   under_none n low high (e ∷ es) le r =
       ap (λ b. option_map told (cond b (Some e) (find (has_number n) es))) (ne_eqb e.number n (λ same. let lt = (rising-below (λ (e : Numbering T). e.number) low high (e ∷ es) r).0 in absurd (omega arith)))
       ∙ under_none n (e.number + 1) high es le r.1
 
-  pub rise_push : (low high n : ℕ) (x : T) (es : List (Numbering T)) → high ≤ n → AreRising low (map (λ (e : Numbering T). e.number) es) high → AreRising low (map (λ (e : Numbering T). e.number) (es ++ record { number = n; value = x } ∷ [])) (n + 1)
+  pub rise_push : (low high n : ℕ) (x : T) (es : List (Numbering T)) → high ≤ n → RiseBetween low (map (λ (e : Numbering T). e.number) es) high → RiseBetween low (map (λ (e : Numbering T). e.number) (es ++ record { number = n; value = x } ∷ [])) (n + 1)
   rise_push low high n x [] le r = (let lt = r in omega arith, omega arith)
   rise_push low high n x (e ∷ es) le r = (r.0, rise_push (e.number + 1) high n x es le r.1)
 
   -- a number with something under it is below the next
-  pub below_next : (m low high : ℕ) (y : T) (es : List (Numbering T)) → AreRising low (map (λ (e : Numbering T). e.number) es) high → value_under m es ≡ Some y → m < high
+  pub below_next : (m low high : ℕ) (y : T) (es : List (Numbering T)) → RiseBetween low (map (λ (e : Numbering T). e.number) es) high → value_under m es ≡ Some y → m < high
   below_next m low high y [] r is = absurd (let bad = is in cc)
   below_next m low high y (e ∷ es) r is = by (eqb e.number m) refl is (below_next m (e.number + 1) high y es r.1)
     where
@@ -61,26 +61,26 @@ module _ {T : Type 0} where
 
 -- ---- a handle comes
 
-at_last : (n : ℕ) (h : Open Seen) (hs : List (Open Seen)) → h.number ≡ n → NoneNumbered n hs → handle_at n (hs ++ h ∷ []) ≡ Some h
+at_last : (n : ℕ) (h : OpenHandle Progress) (hs : List (OpenHandle Progress)) → h.number ≡ n → NoneNumbered n hs → handle_at n (hs ++ h ∷ []) ≡ Some h
 at_last n h hs same none =
-    find-last (λ (g : Open Seen). eqb g.number n) hs h (none_at n hs none)
+    find-last (λ (g : OpenHandle Progress). eqb g.number n) hs h (none_at n hs none)
     ∙ ap (λ b. cond b (Some h) None) (eq-eqb h.number n same)
 
-all_push : (P : Open Seen → Type 0) (hs : List (Open Seen)) (h : Open Seen) → AllByRecursion P hs → P h → AllByRecursion P (hs ++ h ∷ [])
+all_push : (P : OpenHandle Progress → Type 0) (hs : List (OpenHandle Progress)) (h : OpenHandle Progress) → AllByRecursion P hs → P h → AllByRecursion P (hs ++ h ∷ [])
 all_push P [] h all p = (p, tt)
 all_push P (g ∷ hs) h all p = (all.0, all_push P hs h all.1 p)
 
 -- all numbers are lower
-pub below_at : (on : Found → List (Open Seen)) (rows : List (Numbering Found)) (next : ℕ) → AreRowed on rows next → (n : ℕ) → next ≤ n → (g : Found) → AllByRecursion (λ (x : Open Seen). x.number < n) (on g)
-below_at on rows next rowed n above g = all-imp (λ (x : Open Seen). value_under x.number rows ≡ Some g) (λ (x : Open Seen). x.number < n) (λ x own. let lt = below_next x.number 0 next g rows rowed.rise own in omega arith) (on g) (rowed.own g)
+pub below_at : (on : Found → List (OpenHandle Progress)) (rows : List (Numbering Found)) (next : ℕ) → AreRowed on rows next → (n : ℕ) → next ≤ n → (g : Found) → AllByRecursion (λ (x : OpenHandle Progress). x.number < n) (on g)
+below_at on rows next rowed n above g = all-imp (λ (x : OpenHandle Progress). value_under x.number rows ≡ Some g) (λ (x : OpenHandle Progress). x.number < n) (λ x own. let lt = below_next x.number 0 next g rows rowed.rise own in omega arith) (on g) (rowed.own g)
 
-module _ (on then : Found → List (Open Seen)) (rows : List (Numbering Found)) (next : ℕ) (rowed : AreRowed on rows next) (n : ℕ) (f : Found) (above : next ≤ n)
-    (elsewhere : (g : Found) → (g ≡ f → ⊥) → then g ≡ on g) (h : Open Seen) (same : h.number ≡ n) (is : then f ≡ on f ++ h ∷ []) where
-  stays : (m : ℕ) (g : Found) (x : Open Seen) → handle_at m (on g) ≡ Some x → handle_at m (then g) ≡ Some x
+module _ (on then : Found → List (OpenHandle Progress)) (rows : List (Numbering Found)) (next : ℕ) (rowed : AreRowed on rows next) (n : ℕ) (f : Found) (above : next ≤ n)
+    (elsewhere : (g : Found) → (g ≡ f → ⊥) → then g ≡ on g) (h : OpenHandle Progress) (same : h.number ≡ n) (is : then f ≡ on f ++ h ∷ []) where
+  stays : (m : ℕ) (g : Found) (x : OpenHandle Progress) → handle_at m (on g) ≡ Some x → handle_at m (then g) ≡ Some x
   stays m g x at = by (found_cases g f)
     where
       by : (g ≡ f) ⊎ (g ≡ f → ⊥) → handle_at m (then g) ≡ Some x
-      by (inl here) = subst (λ g. handle_at m (then g) ≡ Some x) (sym here) (ap (handle_at m) is ∙ find-push (λ (y : Open Seen). eqb y.number m) (on f) h x (subst (λ g. handle_at m (on g) ≡ Some x) here at))
+      by (inl here) = subst (λ g. handle_at m (then g) ≡ Some x) (sym here) (ap (handle_at m) is ∙ find-push (λ (y : OpenHandle Progress). eqb y.number m) (on f) h x (subst (λ g. handle_at m (on g) ≡ Some x) here at))
       by (inr other) = ap (handle_at m) (elsewhere g other) ∙ at
 
   row_stays : (e : Numbering Found) → is_some (row_handle on e) ≡ true → row_handle then e ≡ row_handle on e
@@ -93,7 +93,7 @@ module _ (on then : Found → List (Open Seen)) (rows : List (Numbering Found)) 
       ∙ ap (cons_option (row_handle on e)) (rows_stay es each.1)
       ∙ by (row_handle on e)
     where
-      by : (o : Option (Open Seen)) → cons_option o (filter_map (row_handle on) es ++ h ∷ []) ≡ cons_option o (filter_map (row_handle on) es) ++ h ∷ []
+      by : (o : Option (OpenHandle Progress)) → cons_option o (filter_map (row_handle on) es ++ h ∷ []) ≡ cons_option o (filter_map (row_handle on) es) ++ h ∷ []
       by None = refl
       by (Some x) = refl
 
@@ -104,26 +104,26 @@ module _ (on then : Found → List (Open Seen)) (rows : List (Numbering Found)) 
   each_push [] each = (ap is_some (ap (handle_at n) is ∙ at_last n h (on f) same (none_anywhere on rows next rowed n f (under_none n 0 next rows above rowed.rise))), tt)
   each_push (e ∷ es) each = (ap is_some (row_stays e each.0) ∙ each.0, each_push es each.1)
 
-  own_push : (g : Found) → AllByRecursion (λ (x : Open Seen). value_under x.number (rows ++ record { number = n; value = f } ∷ []) ≡ Some g) (then g)
+  own_push : (g : Found) → AllByRecursion (λ (x : OpenHandle Progress). value_under x.number (rows ++ record { number = n; value = f } ∷ []) ≡ Some g) (then g)
   own_push g = by (found_cases g f)
     where
-      old : AllByRecursion (λ (x : Open Seen). value_under x.number (rows ++ record { number = n; value = f } ∷ []) ≡ Some g) (on g)
-      old = all-imp (λ (x : Open Seen). value_under x.number rows ≡ Some g) (λ (x : Open Seen). value_under x.number (rows ++ record { number = n; value = f } ∷ []) ≡ Some g) (λ x own. under_push x.number n f g rows own) (on g) (rowed.own g)
+      old : AllByRecursion (λ (x : OpenHandle Progress). value_under x.number (rows ++ record { number = n; value = f } ∷ []) ≡ Some g) (on g)
+      old = all-imp (λ (x : OpenHandle Progress). value_under x.number rows ≡ Some g) (λ (x : OpenHandle Progress). value_under x.number (rows ++ record { number = n; value = f } ∷ []) ≡ Some g) (λ x own. under_push x.number n f g rows own) (on g) (rowed.own g)
 
       new : value_under h.number (rows ++ record { number = n; value = f } ∷ []) ≡ Some f
       new = ap (λ m. value_under m (rows ++ record { number = n; value = f } ∷ [])) same ∙ under_new n n f rows (under_none n 0 next rows above rowed.rise) ∙ ap (λ b. cond b (Some f) None) (eq-eqb n n refl)
 
-      by : (g ≡ f) ⊎ (g ≡ f → ⊥) → AllByRecursion (λ (x : Open Seen). value_under x.number (rows ++ record { number = n; value = f } ∷ []) ≡ Some g) (then g)
+      by : (g ≡ f) ⊎ (g ≡ f → ⊥) → AllByRecursion (λ (x : OpenHandle Progress). value_under x.number (rows ++ record { number = n; value = f } ∷ []) ≡ Some g) (then g)
       by (inl here) =
           let hs : then g ≡ on g ++ h ∷ [] = subst (λ g. then g ≡ on g ++ h ∷ []) (sym here) is in
-          subst (AllByRecursion (λ (x : Open Seen). value_under x.number (rows ++ record { number = n; value = f } ∷ []) ≡ Some g)) (sym hs)
-          (all_push (λ (x : Open Seen). value_under x.number (rows ++ record { number = n; value = f } ∷ []) ≡ Some g) (on g) h old (new ∙ ap Some (sym here)))
-      by (inr other) = subst (AllByRecursion (λ (x : Open Seen). value_under x.number (rows ++ record { number = n; value = f } ∷ []) ≡ Some g)) (sym (elsewhere g other)) old
+          subst (AllByRecursion (λ (x : OpenHandle Progress). value_under x.number (rows ++ record { number = n; value = f } ∷ []) ≡ Some g)) (sym hs)
+          (all_push (λ (x : OpenHandle Progress). value_under x.number (rows ++ record { number = n; value = f } ∷ []) ≡ Some g) (on g) h old (new ∙ ap Some (sym here)))
+      by (inr other) = subst (AllByRecursion (λ (x : OpenHandle Progress). value_under x.number (rows ++ record { number = n; value = f } ∷ []) ≡ Some g)) (sym (elsewhere g other)) old
 
-  pub opened_rowed : ((g : Found) → AreSeated (is_directory g) (number_of g) (then g)) → AreRowed then (rows ++ record { number = n; value = f } ∷ []) (n + 1)
-  opened_rowed seated = record {
+  pub opened_rowed : ((g : Found) → AreOn (is_directory g) (number_of g) (then g)) → AreRowed then (rows ++ record { number = n; value = f } ∷ []) (n + 1)
+  opened_rowed on_topic = record {
     rise = rise_push 0 next n f rows above rowed.rise;
-    seated = seated;
+    on_topic = on_topic;
     each = each_push rows rowed.each;
     own = own_push;
   }

@@ -7,11 +7,11 @@ use Rattle.std.specs.Prelude.{◌==◌}
 use Rattle.pps_types.specs.declared.found.Found.{Found}
 use Rattle.pps_types.specs.declared.found.Found.TheVariants.{Object as FoundObject, Directory as FoundDirectory}
 use Rattle.pps_types.specs.Owed.{longest_rest}
-use Rattle.pps_types.specs.WellFormed.{AreRising}
+use Rattle.pps_types.specs.WellFormed.{RiseBetween}
 use Rattle.number_table.specs.Numbered.{Entry as Numbering, Numbered, value_under, has_number, IsCloneEntry}
 use Rattle.sub_reader.specs.Opened.{is_directory, number_of}
 use Rattle.topics.specs.declared.topic.Topic.{Topic}
-use Rattle.topics.specs.Seated.{target_of, kept_of, IsCopy}
+use Rattle.topics.specs.HandlesOf.{target_of, kept_of, IsCopy}
 use Rattle.open_handles.specs.declared.places.Places.{Places}
 use Rattle.open_handles.specs.Whole.{IsWhole, ArePlaced, AreRowed, HoldsWhatIsOwed, site_of, site_at, kept_at, place_at, handles_on, handles_in, handles_in_place, row_handle}
 use Rattle.open_handles.proofs.Wholes.{same_rowed, same_filter}
@@ -100,8 +100,8 @@ module _ (rows more : Numbered Found) (p q : Places) (whole : IsWhole (whole_of 
       subst (λ m. AreRowed (handles_on q) more.entries m) (sym next)
       (subst (λ es. AreRowed (handles_on q) es rows.next) (sym entries) (same_rowed (handles_on p) (handles_on q) rows.entries rows.next same_on whole.rowed))
 
-  copied_rise : (es fs : List (Numbering Topic)) (m n : ℕ) → AreCopies es fs → n ≡ m → AreRising 0 (map (λ (e : Numbering Topic). e.number) es) m → AreRising 0 (map (λ (e : Numbering Topic). e.number) fs) n
-  copied_rise es fs m n z same rise = subst (λ m. AreRising 0 (map (λ (e : Numbering Topic). e.number) fs) m) (sym same) (subst (λ ns. AreRising 0 ns m) (sym (copied_numbers es fs z)) rise)
+  copied_rise : (es fs : List (Numbering Topic)) (m n : ℕ) → AreCopies es fs → n ≡ m → RiseBetween 0 (map (λ (e : Numbering Topic). e.number) es) m → RiseBetween 0 (map (λ (e : Numbering Topic). e.number) fs) n
+  copied_rise es fs m n z same rise = subst (λ m. RiseBetween 0 (map (λ (e : Numbering Topic). e.number) fs) m) (sym same) (subst (λ ns. RiseBetween 0 ns m) (sym (copied_numbers es fs z)) rise)
 
   copied_places : ArePlaced q
   copied_places = record {

@@ -3,13 +3,13 @@ use Rattle.std.specs.Prelude.{◌<◌, ◌≤◌, ℕ, List, [], ◌∷◌, Bool
 use Rattle.std.proofs.Common.{cond, arith, le_trans}
 use Rattle.std.proofs.lemmas.List.Sums.{sum_by-cons}
 use Rattle.pps_types.specs.History.{Entry}
-use Rattle.pps_types.specs.Reading.{Open, visible}
-use Rattle.pps_types.specs.Rests.{Seen}
+use Rattle.pps_types.specs.Reading.{OpenHandle, visible}
+use Rattle.pps_types.specs.Rests.{Progress}
 use Rattle.server_queue.specs.Senders.{client_messages}
 use Rattle.topics.specs.Standing.{Spare, HaveRoom}
 use Rattle.topics.specs.declared.topic.Topic.{Topic}
 use Rattle.topics.specs.declared.topic.Topic.TheVariants.{Readers, Served}
-use Rattle.topics.specs.Seated.{IsReady, handles_of}
+use Rattle.topics.specs.HandlesOf.{IsReady, handles_of}
 use Rattle.open_handles.specs.Whole.{Whole, HasRoom, is_told}
 
 first-few : (b : Bool) (e : Entry) (es : List Entry) → length (cond b (e ∷ []) []) ≤ length (cond b (e ∷ es) es)
@@ -20,7 +20,7 @@ first-sum : (f : Entry → ℕ) (b : Bool) (e : Entry) (es : List Entry) → sum
 first-sum f true e es = let one = sum_by-cons f e [] in let more = sum_by-cons f e es in let le : sum_by f (e ∷ []) ≤ sum_by f (e ∷ es) = omega arith in le
 first-sum f false e es = let le : 0 ≤ sum_by f es = omega arith in le
 
-have_first : (e : Entry) (es : List Entry) (hs : List (Open Seen)) (ss : List Spare) → HaveRoom (e ∷ es) hs ss → HaveRoom (e ∷ []) hs ss
+have_first : (e : Entry) (es : List Entry) (hs : List (OpenHandle Progress)) (ss : List Spare) → HaveRoom (e ∷ es) hs ss → HaveRoom (e ∷ []) hs ss
 have_first e es [] ss room = tt
 have_first e es (h ∷ hs) [] room = room
 have_first e es (h ∷ hs) (s ∷ ss) room = (

@@ -3,13 +3,13 @@ use Rattle.std.proofs.Common.{◌≡◌, ◌<◌, ℕ, ◌+◌, Bool, true, fals
 use Rattle.std.specs.Prelude.{find, option_map}
 use Rattle.pps_types.specs.declared.found.Found.{Found}
 use Rattle.pps_types.specs.declared.found.Found.TheVariants.{Object as FoundObject, Directory as FoundDirectory}
-use Rattle.pps_types.specs.Reading.{Open}
-use Rattle.pps_types.specs.Rests.{Seen}
-use Rattle.pps_types.specs.WellFormed.{AreRising}
+use Rattle.pps_types.specs.Reading.{OpenHandle}
+use Rattle.pps_types.specs.Rests.{Progress}
+use Rattle.pps_types.specs.WellFormed.{RiseBetween}
 use Rattle.service_laws.proofs.Rising.{rising-lower}
 use Rattle.number_table.specs.Numbered.{Entry as Numbering, Numbered, has_number, value_under, without_first}
 use Rattle.topics.specs.declared.topic.Topic.{Topic}
-use Rattle.open_handles.specs.Whole.{Whole, IsWhole, handles_in, handles_at, handles_in_place, seats_at, KeepsRecords}
+use Rattle.open_handles.specs.Whole.{Whole, IsWhole, handles_in, handles_at, handles_in_place, topic_at, KeepsRecords}
 use Rattle.open_handles.proofs.Wholes.{bare_handles, bare_whole, bare_records}
 
 module _ {T : Type 0} where
@@ -31,17 +31,17 @@ module _ {T : Type 0} where
           go true = refl
           go false = rest
 
-  rise_without : (n low high : ℕ) (es : List (Numbering T)) → AreRising low (map entry_number es) high → AreRising low (map entry_number (without_first (has_number n) es)) high
+  rise_without : (n low high : ℕ) (es : List (Numbering T)) → RiseBetween low (map entry_number es) high → RiseBetween low (map entry_number (without_first (has_number n) es)) high
   rise_without n low high [] r = r
   rise_without n low high (e ∷ es) r =
-      elim (eqb e.number n) as (λ b. AreRising low (map entry_number (cond b es (e ∷ without_first (has_number n) es))) high)
+      elim (eqb e.number n) as (λ b. RiseBetween low (map entry_number (cond b es (e ∷ without_first (has_number n) es))) high)
       [ true ↦ rising-lower (e.number + 1) low high (map entry_number es) (let le = r.0 in omega arith) r.1 | false ↦ (r.0, rise_without n (e.number + 1) high es r.1) ]
 
-  none_over : (n low high : ℕ) (es : List (Numbering T)) → n < low → AreRising low (map entry_number es) high → value_under n es ≡ None
+  none_over : (n low high : ℕ) (es : List (Numbering T)) → n < low → RiseBetween low (map entry_number es) high → value_under n es ≡ None
   none_over n low high [] lt r = refl
   none_over n low high (e ∷ es) lt r = ap (λ b. option_map told (cond b (Some e) (find (has_number n) es))) (ne_eqb e.number n (λ same. let le = r.0 in absurd (omega arith))) ∙ none_over n (e.number + 1) high es (let le = r.0 in omega arith) r.1
 
-  pub under_gone : (n low high : ℕ) (es : List (Numbering T)) → AreRising low (map entry_number es) high → value_under n (without_first (has_number n) es) ≡ None
+  pub under_gone : (n low high : ℕ) (es : List (Numbering T)) → RiseBetween low (map entry_number es) high → value_under n (without_first (has_number n) es) ≡ None
   under_gone n low high [] r = refl
   under_gone n low high (e ∷ es) r = by (eqb e.number n) refl (under_gone n (e.number + 1) high es r.1)
     where
@@ -61,16 +61,16 @@ module _ {T : Type 0} where
 pub record IsDropped (f : Found) (old new : Whole) : Type 0 where
   pub whole : IsWhole new
   pub handles : handles_in new ≡ handles_in old
-  pub gone : handles_at f old ≡ [] → seats_at f new ≡ None
+  pub gone : handles_at f old ≡ [] → topic_at f new ≡ None
   pub used : (handles_at f old ≡ [] → ⊥) → new ≡ old
-  pub others : (g : Found) → (g ≡ f → ⊥) → seats_at g new ≡ seats_at g old
+  pub others : (g : Found) → (g ≡ f → ⊥) → topic_at g new ≡ topic_at g old
   pub records : KeepsRecords old new
 
 stayed : (f : Found) (old new : Whole) → IsWhole old → (handles_at f old ≡ [] → ⊥) → new ≡ old → IsDropped f old new
 stayed f old new whole some same = subst (λ w. IsDropped f old w) (sym same) (record { whole = whole; handles = refl; gone = λ none. absurd (some none); used = λ some. refl; others = λ g other. refl; records = λ es room. room })
 
-went : (f : Found) (old new : Whole) (whole : IsWhole old) → handles_at f old ≡ [] → seats_at f new ≡ None → new.rows ≡ old.rows → ((g : Found) → (g ≡ f → ⊥) → seats_at g new ≡ seats_at g old)
-    → AreRising 0 (map (λ (e : Numbering Topic). e.number) new.objects.entries) new.objects.next → AreRising 0 (map (λ (e : Numbering Topic). e.number) new.directories.entries) new.directories.next → IsDropped f old new
+went : (f : Found) (old new : Whole) (whole : IsWhole old) → handles_at f old ≡ [] → topic_at f new ≡ None → new.rows ≡ old.rows → ((g : Found) → (g ≡ f → ⊥) → topic_at g new ≡ topic_at g old)
+    → RiseBetween 0 (map (λ (e : Numbering Topic). e.number) new.objects.entries) new.objects.next → RiseBetween 0 (map (λ (e : Numbering Topic). e.number) new.directories.entries) new.directories.next → IsDropped f old new
 went f old new whole none here rows elsewhere objects_rise directories_rise =
     let next : new.rows.next ≡ old.rows.next = ap (λ (t : Numbered Found). t.next) rows in
     let entries : new.rows.entries ≡ old.rows.entries = ap (λ (t : Numbered Found). t.entries) rows in
@@ -84,7 +84,7 @@ went f old new whole none here rows elsewhere objects_rise directories_rise =
       records = bare_records old new whole f entries next elsewhere nobody objects_rise directories_rise none;
     }
 
-empty_or : (hs : List (Open Seen)) (A : Type 0) → (hs ≡ [] → A) → ((hs ≡ [] → ⊥) → A) → A
+empty_or : (hs : List (OpenHandle Progress)) (A : Type 0) → (hs ≡ [] → A) → ((hs ≡ [] → ⊥) → A) → A
 empty_or [] A yes_case no_case = yes_case refl
 empty_or (h ∷ hs) A yes_case no_case = no_case (λ e. cc)
 
@@ -104,10 +104,10 @@ module _ (rows : Numbered Found) (objects directories : Numbered Topic) (whole :
           let are : more.entries ≡ without_first (has_number n) objects.entries = gone none ∙ ap (λ k. without_first (has_number k) objects.entries) same in
           went (FoundObject n) old_object new_object whole (ap (λ k. handles_in_place (value_under k objects.entries)) (sym same) ∙ none) (ap (value_under n) are ∙ under_gone n 0 objects.next objects.entries whole.placed.objects_rise) refl
           (elsewhere are)
-          (subst (λ k. AreRising 0 (map (λ (e : Numbering Topic). e.number) more.entries) k) (sym next) (subst (λ es. AreRising 0 (map (λ (e : Numbering Topic). e.number) es) objects.next) (sym are) (rise_without n 0 objects.next objects.entries whole.placed.objects_rise)))
+          (subst (λ k. RiseBetween 0 (map (λ (e : Numbering Topic). e.number) more.entries) k) (sym next) (subst (λ es. RiseBetween 0 (map (λ (e : Numbering Topic). e.number) es) objects.next) (sym are) (rise_without n 0 objects.next objects.entries whole.placed.objects_rise)))
           whole.placed.directories_rise
         where
-          elsewhere : more.entries ≡ without_first (has_number n) objects.entries → (g : Found) → (g ≡ FoundObject n → ⊥) → seats_at g new_object ≡ seats_at g old_object
+          elsewhere : more.entries ≡ without_first (has_number n) objects.entries → (g : Found) → (g ≡ FoundObject n → ⊥) → topic_at g new_object ≡ topic_at g old_object
           elsewhere are (FoundObject k) other = ap (value_under k) are ∙ under_other k n (λ is. other (ap FoundObject is)) objects.entries
           elsewhere are (FoundDirectory k) other = refl
 
@@ -130,9 +130,9 @@ module _ (rows : Numbered Found) (objects directories : Numbered Topic) (whole :
           went (FoundDirectory n) old_directory new_directory whole (ap (λ k. handles_in_place (value_under k directories.entries)) (sym same) ∙ none) (ap (value_under n) are ∙ under_gone n 0 directories.next directories.entries whole.placed.directories_rise) refl
           (elsewhere are)
           whole.placed.objects_rise
-          (subst (λ k. AreRising 0 (map (λ (e : Numbering Topic). e.number) more.entries) k) (sym next) (subst (λ es. AreRising 0 (map (λ (e : Numbering Topic). e.number) es) directories.next) (sym are) (rise_without n 0 directories.next directories.entries whole.placed.directories_rise)))
+          (subst (λ k. RiseBetween 0 (map (λ (e : Numbering Topic). e.number) more.entries) k) (sym next) (subst (λ es. RiseBetween 0 (map (λ (e : Numbering Topic). e.number) es) directories.next) (sym are) (rise_without n 0 directories.next directories.entries whole.placed.directories_rise)))
         where
-          elsewhere : more.entries ≡ without_first (has_number n) directories.entries → (g : Found) → (g ≡ FoundDirectory n → ⊥) → seats_at g new_directory ≡ seats_at g old_directory
+          elsewhere : more.entries ≡ without_first (has_number n) directories.entries → (g : Found) → (g ≡ FoundDirectory n → ⊥) → topic_at g new_directory ≡ topic_at g old_directory
           elsewhere are (FoundDirectory k) other = ap (value_under k) are ∙ under_other k n (λ is. other (ap FoundDirectory is)) directories.entries
           elsewhere are (FoundObject k) other = refl
 

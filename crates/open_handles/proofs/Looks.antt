@@ -8,7 +8,7 @@ use Rattle.sub_reader.specs.Opened.{handle_at, number_of}
 use Rattle.sub_reader.specs.Glances.{glanced, glance_on}
 use Rattle.sub_reader.specs.declared.glance.Glance.{Glance}
 use Rattle.topics.specs.declared.topic.Topic.{Topic}
-use Rattle.topics.specs.Seated.{target_of, handles_of, name_of}
+use Rattle.topics.specs.HandlesOf.{target_of, handles_of, name_of}
 use Rattle.open_handles.specs.declared.places.Places.{Places}
 use Rattle.open_handles.specs.Whole.{IsWhole, place_at, handles_in, name_at, Site, site_of}
 use Rattle.open_handles.proofs.Turns.{whole_of, in_place}

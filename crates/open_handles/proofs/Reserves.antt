@@ -6,17 +6,17 @@ use Rattle.std.proofs.lemmas.List.Sums.{sum_by-cons}
 use Rattle.pps_types.specs.declared.found.Found.{Found}
 use Rattle.pps_types.specs.declared.found.Found.TheVariants.{Object as FoundObject, Directory as FoundDirectory}
 use Rattle.pps_types.specs.History.{Entry}
-use Rattle.pps_types.specs.Reading.{Open, visible}
-use Rattle.pps_types.specs.Rests.{Seen}
+use Rattle.pps_types.specs.Reading.{OpenHandle, visible}
+use Rattle.pps_types.specs.Rests.{Progress}
 use Rattle.service_laws.proofs.Finds.{all-imp}
 use Rattle.number_table.specs.Numbered.{Numbered}
 use Rattle.server_queue.specs.Senders.{client_messages}
 use Rattle.topics.specs.Standing.{Spare, HaveRoom, messages_in}
 use Rattle.topics.specs.declared.topic.Topic.{Topic}
 use Rattle.topics.specs.declared.topic.Topic.TheVariants.{Readers, Served}
-use Rattle.topics.specs.Seated.{handles_of, places_of as places_for, IsReady, IsSameTarget, KeepsRoom}
+use Rattle.topics.specs.HandlesOf.{handles_of, places_of as places_for, IsReady, IsSameTarget, KeepsRoom}
 use Rattle.open_handles.specs.declared.places.Places.{Places}
-use Rattle.open_handles.specs.Whole.{IsRight, Whole, IsWhole, place_at, with_place, seats_at, is_told, HasRoom, IsReadyAt, IsReadyFor, IsReserved, KeepsTable}
+use Rattle.open_handles.specs.Whole.{IsRight, Whole, IsWhole, place_at, with_place, topic_at, is_told, HasRoom, IsReadyAt, IsReadyFor, IsReserved, KeepsTable}
 use Rattle.open_handles.proofs.Finds.{found_cases}
 use Rattle.open_handles.proofs.Standing.{with_found, with_other}
 use Rattle.open_handles.proofs.Turns.{whole_of, same_turned, turn_sites, turn_places, turn_records}
@@ -49,7 +49,7 @@ short : (q : Entry → Bool) (es : List Entry) → length (filter q es) ≤ leng
 short q [] = omega arith
 short q (e ∷ es) = elim (q e) as (λ b. length (cond b (e ∷ filter q es) (filter q es)) ≤ length (e ∷ es)) [ true ↦ omega (arith, short q es) | false ↦ omega (arith, short q es) ]
 
-have_fewer : (q : Entry → Bool) (es : List Entry) (hs : List (Open Seen)) (ss : List Spare) → HaveRoom es hs ss → HaveRoom (filter q es) hs ss
+have_fewer : (q : Entry → Bool) (es : List Entry) (hs : List (OpenHandle Progress)) (ss : List Spare) → HaveRoom es hs ss → HaveRoom (filter q es) hs ss
 have_fewer q es [] ss have = tt
 have_fewer q es (h ∷ hs) [] have = have
 have_fewer q es (h ∷ hs) (s ∷ ss) have = (
@@ -116,13 +116,13 @@ all_more P xs i x lt is all p = subst (λ n. AllByRecursion P (take n xs)) (let 
 
 -- ---- in all
 
-told_ready : (es : List Entry) (w : Whole) (f : Found) (s : Topic) → seats_at f w ≡ Some s → (xs : List Entry) → AllByRecursion (IsReadyFor es w) xs → 0 < length (filter (is_told f) xs) → IsReady es s
+told_ready : (es : List Entry) (w : Whole) (f : Found) (s : Topic) → topic_at f w ≡ Some s → (xs : List Entry) → AllByRecursion (IsReadyFor es w) xs → 0 < length (filter (is_told f) xs) → IsReady es s
 told_ready es w f s at [] all some = absurd (omega arith)
 told_ready es w f s at (x ∷ xs) all some = by (is_told f x) refl some (told_ready es w f s at xs all.1)
   where
-    here : (f : Found) → seats_at f w ≡ Some s → is_told f x ≡ true → IsReady es s
-    here (FoundObject n) at told = if_here (seats_at (FoundObject n) w) s (IsReady es) at (subst (λ n. IsReadyAt es (FoundObject n) w) (eqb-true x.record_of.object n told) all.0.object)
-    here (FoundDirectory n) at told = if_here (seats_at (FoundDirectory n) w) s (IsReady es) at (subst (λ n. IsReadyAt es (FoundDirectory n) w) (eqb-true x.directory n told) all.0.directory)
+    here : (f : Found) → topic_at f w ≡ Some s → is_told f x ≡ true → IsReady es s
+    here (FoundObject n) at told = if_here (topic_at (FoundObject n) w) s (IsReady es) at (subst (λ n. IsReadyAt es (FoundObject n) w) (eqb-true x.record_of.object n told) all.0.object)
+    here (FoundDirectory n) at told = if_here (topic_at (FoundDirectory n) w) s (IsReady es) at (subst (λ n. IsReadyAt es (FoundDirectory n) w) (eqb-true x.directory n told) all.0.directory)
 
     by : (b : Bool) → is_told f x ≡ b → 0 < length (cond b (x ∷ filter (is_told f) xs) (filter (is_told f) xs)) → (0 < length (filter (is_told f) xs) → IsReady es s) → IsReady es s
     by true told some rest = here f at told

@@ -3,16 +3,16 @@ use Rattle.std.proofs.Common.{◌≡◌, ◌≤◌, ℕ, ◌+◌, Bool, true, fa
 use Rattle.std.specs.Prelude.{find, is_some, option_map, option_and_then}
 use Rattle.std.specs.List.{AllByRecursion, filter_map, cons_option}
 use Rattle.pps_types.specs.declared.found.Found.{Found}
-use Rattle.pps_types.specs.Reading.{Open}
-use Rattle.pps_types.specs.Rests.{Seen}
+use Rattle.pps_types.specs.Reading.{OpenHandle}
+use Rattle.pps_types.specs.Rests.{Progress}
 use Rattle.pps_types.specs.Plan.{on_numbered, without_number}
-use Rattle.pps_types.specs.WellFormed.{AreRising}
+use Rattle.pps_types.specs.WellFormed.{RiseBetween}
 use Rattle.service_laws.proofs.Finds.{all-imp, all-both}
 use Rattle.service_laws.proofs.Rising.{rising-lower, rising-above}
 use Rattle.pps_types.specs.Rising.{IsRising}
 use Rattle.number_table.specs.Numbered.{Entry as Numbering, has_number, value_under, without_first}
 use Rattle.sub_reader.specs.Opened.{handle_at, is_directory, number_of}
-use Rattle.sub_reader.specs.Seated.{AreSeated}
+use Rattle.sub_reader.specs.HandlesOf.{AreOn}
 use Rattle.open_handles.specs.Whole.{row_handle, AreRowed}
 use Rattle.open_handles.proofs.Finds.{some_is, differ, found_cases, at_number, at_map, all_map, NoneNumbered, is_rising, where_numbered, same_number, unchanged, changed_map, at_without, all_without, none_without}
 
@@ -21,18 +21,18 @@ row_number e = e.number
 
 -- ---- one is looked up
 
-module _ (on : Found → List (Open Seen)) where
+module _ (on : Found → List (OpenHandle Progress)) where
   pub found_in : (n : ℕ) (es : List (Numbering Found)) → AllByRecursion (λ e. is_some (row_handle on e) ≡ true) es → handle_at n (filter_map (row_handle on) es) ≡ option_and_then (λ f. handle_at n (on f)) (value_under n es)
   found_in n [] all = refl
   found_in n (e ∷ es) all = by (row_handle on e) refl all.0 (found_in n es all.1)
     where
-      at : (h : Open Seen) → row_handle on e ≡ Some h → (b : Bool) → eqb e.number n ≡ b
+      at : (h : OpenHandle Progress) → row_handle on e ≡ Some h → (b : Bool) → eqb e.number n ≡ b
           → handle_at n (filter_map (row_handle on) es) ≡ option_and_then (λ f. handle_at n (on f)) (value_under n es)
           → cond b (Some h) (handle_at n (filter_map (row_handle on) es)) ≡ option_and_then (λ f. handle_at n (on f)) (option_map (λ (e : Numbering Found). e.value) (cond b (Some e) (find (has_number n) es)))
       at h is true same rest = sym (ap (λ m. handle_at m (on e.value)) (sym (eqb-true e.number n same)) ∙ is)
       at h is false same rest = rest
 
-      by : (o : Option (Open Seen)) → row_handle on e ≡ o → is_some o ≡ true
+      by : (o : Option (OpenHandle Progress)) → row_handle on e ≡ o → is_some o ≡ true
           → handle_at n (filter_map (row_handle on) es) ≡ option_and_then (λ f. handle_at n (on f)) (value_under n es)
           → handle_at n (cons_option o (filter_map (row_handle on) es)) ≡ option_and_then (λ f. handle_at n (on f)) (value_under n (e ∷ es))
       by None is some rest = absurd (let bad = some in cc)
@@ -41,30 +41,30 @@ module _ (on : Found → List (Open Seen)) where
           ∙ at h is (eqb e.number n) refl rest
 
   -- the numbers of the handles rise as those of the rows
-  pub handles_rise : (low high : ℕ) (es : List (Numbering Found)) → AreRising low (map row_number es) high → AreRising low (map (λ h. h.number) (filter_map (row_handle on) es)) high
+  pub handles_rise : (low high : ℕ) (es : List (Numbering Found)) → RiseBetween low (map row_number es) high → RiseBetween low (map (λ h. h.number) (filter_map (row_handle on) es)) high
   handles_rise low high [] r = r
   handles_rise low high (e ∷ es) r = by (row_handle on e) refl (handles_rise (e.number + 1) high es r.1)
     where
-      by : (o : Option (Open Seen)) → row_handle on e ≡ o → AreRising (e.number + 1) (map (λ h. h.number) (filter_map (row_handle on) es)) high → AreRising low (map (λ h. h.number) (cons_option o (filter_map (row_handle on) es))) high
+      by : (o : Option (OpenHandle Progress)) → row_handle on e ≡ o → RiseBetween (e.number + 1) (map (λ h. h.number) (filter_map (row_handle on) es)) high → RiseBetween low (map (λ h. h.number) (cons_option o (filter_map (row_handle on) es))) high
       by None is rest = rising-lower (e.number + 1) low high (map (λ h. h.number) (filter_map (row_handle on) es)) (let le = r.0 in omega arith) rest
-      by (Some h) is rest = subst (λ m. (low ≤ m) × AreRising (m + 1) (map (λ h. h.number) (filter_map (row_handle on) es)) high) (sym (at_number e.number (on e.value) h is)) (r.0, rest)
+      by (Some h) is rest = subst (λ m. (low ≤ m) × RiseBetween (m + 1) (map (λ h. h.number) (filter_map (row_handle on) es)) high) (sym (at_number e.number (on e.value) h is)) (r.0, rest)
 
 -- what is under the number of a handle is where it is
-module _ (on : Found → List (Open Seen)) (rows : List (Numbering Found)) (next : ℕ) (rowed : AreRowed on rows next) where
+module _ (on : Found → List (OpenHandle Progress)) (rows : List (Numbering Found)) (next : ℕ) (rowed : AreRowed on rows next) where
   -- a handle of another place has another number
   pub none_elsewhere : (n : ℕ) (f g : Found) → value_under n rows ≡ Some f → (g ≡ f → ⊥) → NoneNumbered n (on g)
-  none_elsewhere n f g under other = all-imp (λ (h : Open Seen). value_under h.number rows ≡ Some g) (λ (h : Open Seen). eqb h.number n ≡ false) (λ h own. ne_eqb h.number n (λ same. other (some_is g f (sym own ∙ ap (λ m. value_under m rows) same ∙ under)))) (on g) (rowed.own g)
+  none_elsewhere n f g under other = all-imp (λ (h : OpenHandle Progress). value_under h.number rows ≡ Some g) (λ (h : OpenHandle Progress). eqb h.number n ≡ false) (λ h own. ne_eqb h.number n (λ same. other (some_is g f (sym own ∙ ap (λ m. value_under m rows) same ∙ under)))) (on g) (rowed.own g)
 
   -- a number that no row has, no handle has
   pub none_anywhere : (n : ℕ) (g : Found) → value_under n rows ≡ None → NoneNumbered n (on g)
-  none_anywhere n g under = all-imp (λ (h : Open Seen). value_under h.number rows ≡ Some g) (λ (h : Open Seen). eqb h.number n ≡ false) (λ h own. ne_eqb h.number n (λ same. let bad : None ≡ Some g = sym under ∙ ap (λ m. value_under m rows) (sym same) ∙ own in cc)) (on g) (rowed.own g)
+  none_anywhere n g under = all-imp (λ (h : OpenHandle Progress). value_under h.number rows ≡ Some g) (λ (h : OpenHandle Progress). eqb h.number n ≡ false) (λ h own. ne_eqb h.number n (λ same. let bad : None ≡ Some g = sym under ∙ ap (λ m. value_under m rows) (sym same) ∙ own in cc)) (on g) (rowed.own g)
 
   pub all_rise : IsRising (λ h. h.number) (filter_map (row_handle on) rows)
   all_rise = is_rising 0 next (filter_map (row_handle on) rows) (handles_rise on 0 next rows rowed.rise)
 
 -- ---- each is changed
 
-module _ (c : Open Seen → Open Seen) (same : (h : Open Seen) → (c h).number ≡ h.number) (on then : Found → List (Open Seen)) (are : (f : Found) → then f ≡ map c (on f)) where
+module _ (c : OpenHandle Progress → OpenHandle Progress) (same : (h : OpenHandle Progress) → (c h).number ≡ h.number) (on then : Found → List (OpenHandle Progress)) (are : (f : Found) → then f ≡ map c (on f)) where
   mapped_at : (e : Numbering Found) → row_handle then e ≡ option_map c (row_handle on e)
   mapped_at e = ap (handle_at e.number) (are e.value) ∙ at_map c same e.number (on e.value)
 
@@ -72,38 +72,38 @@ module _ (c : Open Seen → Open Seen) (same : (h : Open Seen) → (c h).number 
   mapped [] = refl
   mapped (e ∷ es) = ap (λ o. cons_option o (filter_map (row_handle then) es)) (mapped_at e) ∙ ap (cons_option (option_map c (row_handle on e))) (mapped es) ∙ by (row_handle on e)
     where
-      by : (o : Option (Open Seen)) → cons_option (option_map c o) (map c (filter_map (row_handle on) es)) ≡ map c (cons_option o (filter_map (row_handle on) es))
+      by : (o : Option (OpenHandle Progress)) → cons_option (option_map c o) (map c (filter_map (row_handle on) es)) ≡ map c (cons_option o (filter_map (row_handle on) es))
       by None = refl
       by (Some h) = refl
 
-  some_map : (o : Option (Open Seen)) → is_some (option_map c o) ≡ is_some o
+  some_map : (o : Option (OpenHandle Progress)) → is_some (option_map c o) ≡ is_some o
   some_map None = refl
   some_map (Some h) = refl
 
-  pub mapped_rowed : (rows : List (Numbering Found)) (next : ℕ) → AreRowed on rows next → ((f : Found) → AreSeated (is_directory f) (number_of f) (then f)) → AreRowed then rows next
-  mapped_rowed rows next rowed seated = record {
+  pub mapped_rowed : (rows : List (Numbering Found)) (next : ℕ) → AreRowed on rows next → ((f : Found) → AreOn (is_directory f) (number_of f) (then f)) → AreRowed then rows next
+  mapped_rowed rows next rowed on_topic = record {
     rise = rowed.rise;
-    seated = seated;
+    on_topic = on_topic;
     each = all-imp (λ (e : Numbering Found). is_some (row_handle on e) ≡ true) (λ (e : Numbering Found). is_some (row_handle then e) ≡ true) (λ e some. ap is_some (mapped_at e) ∙ some_map (row_handle on e) ∙ some) rows rowed.each;
-    own = λ f. subst (λ hs. AllByRecursion (λ h. value_under h.number rows ≡ Some f) hs) (sym (are f)) (all_map (λ (h : Open Seen). value_under h.number rows ≡ Some f) (λ (h : Open Seen). value_under h.number rows ≡ Some f) c (λ h own. ap (λ m. value_under m rows) (same h) ∙ own) (on f) (rowed.own f));
+    own = λ f. subst (λ hs. AllByRecursion (λ h. value_under h.number rows ≡ Some f) hs) (sym (are f)) (all_map (λ (h : OpenHandle Progress). value_under h.number rows ≡ Some f) (λ (h : OpenHandle Progress). value_under h.number rows ≡ Some f) c (λ h own. ap (λ m. value_under m rows) (same h) ∙ own) (on f) (rowed.own f));
   }
 
 -- ---- one is changed
 
-module _ (on then : Found → List (Open Seen)) (rows : List (Numbering Found)) (next : ℕ) (rowed : AreRowed on rows next) (n : ℕ) (f : Found) (under : value_under n rows ≡ Some f)
+module _ (on then : Found → List (OpenHandle Progress)) (rows : List (Numbering Found)) (next : ℕ) (rowed : AreRowed on rows next) (n : ℕ) (f : Found) (under : value_under n rows ≡ Some f)
     (elsewhere : (g : Found) → (g ≡ f → ⊥) → then g ≡ on g) where
-  module _ (change : Open Seen → Open Seen) (same : (h : Open Seen) → (change h).number ≡ h.number) (is : then f ≡ on_numbered n change (on f)) where
+  module _ (change : OpenHandle Progress → OpenHandle Progress) (same : (h : OpenHandle Progress) → (change h).number ≡ h.number) (is : then f ≡ on_numbered n change (on f)) where
     pub changed_each : (g : Found) → then g ≡ map (where_numbered n change) (on g)
     changed_each g = by (found_cases g f)
       where
         by : (g ≡ f) ⊎ (g ≡ f → ⊥) → then g ≡ map (where_numbered n change) (on g)
-        by (inl same) = subst (λ g. then g ≡ map (where_numbered n change) (on g)) (sym same) (is ∙ changed_map n change (on f) (rowed.seated f).rising)
+        by (inl same) = subst (λ g. then g ≡ map (where_numbered n change) (on g)) (sym same) (is ∙ changed_map n change (on f) (rowed.on_topic f).rising)
         by (inr other) = elsewhere g other ∙ sym (unchanged n change (on g) (none_elsewhere on rows next rowed n f g under other))
 
     pub changed : filter_map (row_handle then) rows ≡ on_numbered n change (filter_map (row_handle on) rows)
     changed = mapped (where_numbered n change) (same_number n change same) on then changed_each rows ∙ sym (changed_map n change (filter_map (row_handle on) rows) (all_rise on rows next rowed))
 
-    pub changed_rowed : ((g : Found) → AreSeated (is_directory g) (number_of g) (then g)) → AreRowed then rows next
+    pub changed_rowed : ((g : Found) → AreOn (is_directory g) (number_of g) (then g)) → AreRowed then rows next
     changed_rowed = mapped_rowed (where_numbered n change) (same_number n change same) on then changed_each rows next rowed
 
   -- ---- one leaves
@@ -113,15 +113,15 @@ module _ (on then : Found → List (Open Seen)) (rows : List (Numbering Found)) 
     gone g = by (found_cases g f)
       where
         by : (g ≡ f) ⊎ (g ≡ f → ⊥) → NoneNumbered n (then g)
-        by (inl same) = subst (λ g. NoneNumbered n (then g)) (sym same) (subst (NoneNumbered n) (sym is) (none_without n (on f) (rowed.seated f).rising))
+        by (inl same) = subst (λ g. NoneNumbered n (then g)) (sym same) (subst (NoneNumbered n) (sym is) (none_without n (on f) (rowed.on_topic f).rising))
         by (inr other) = subst (NoneNumbered n) (sym (elsewhere g other)) (none_elsewhere on rows next rowed n f g under other)
 
-    owned : (g : Found) → AllByRecursion (λ (h : Open Seen). value_under h.number rows ≡ Some g) (then g)
+    owned : (g : Found) → AllByRecursion (λ (h : OpenHandle Progress). value_under h.number rows ≡ Some g) (then g)
     owned g = by (found_cases g f)
       where
-        by : (g ≡ f) ⊎ (g ≡ f → ⊥) → AllByRecursion (λ (h : Open Seen). value_under h.number rows ≡ Some g) (then g)
-        by (inl same) = subst (λ g. AllByRecursion (λ (h : Open Seen). value_under h.number rows ≡ Some g) (then g)) (sym same) (subst (AllByRecursion (λ (h : Open Seen). value_under h.number rows ≡ Some f)) (sym is) (all_without (λ (h : Open Seen). value_under h.number rows ≡ Some f) n (on f) (rowed.own f)))
-        by (inr other) = subst (AllByRecursion (λ (h : Open Seen). value_under h.number rows ≡ Some g)) (sym (elsewhere g other)) (rowed.own g)
+        by : (g ≡ f) ⊎ (g ≡ f → ⊥) → AllByRecursion (λ (h : OpenHandle Progress). value_under h.number rows ≡ Some g) (then g)
+        by (inl same) = subst (λ g. AllByRecursion (λ (h : OpenHandle Progress). value_under h.number rows ≡ Some g) (then g)) (sym same) (subst (AllByRecursion (λ (h : OpenHandle Progress). value_under h.number rows ≡ Some f)) (sym is) (all_without (λ (h : OpenHandle Progress). value_under h.number rows ≡ Some f) n (on f) (rowed.own f)))
+        by (inr other) = subst (AllByRecursion (λ (h : OpenHandle Progress). value_under h.number rows ≡ Some g)) (sym (elsewhere g other)) (rowed.own g)
 
     others_at : (m : ℕ) → (m ≡ n → ⊥) → (g : Found) → handle_at m (then g) ≡ handle_at m (on g)
     others_at m apart g = by (found_cases g f)
@@ -138,15 +138,15 @@ module _ (on then : Found → List (Open Seen)) (rows : List (Numbering Found)) 
     other_rows [] all = refl
     other_rows (e ∷ es) all = λ i. cons_option (other_row e all.0 i) (other_rows es all.1 i)
 
-    above_apart : (m : ℕ) → m ≡ n → (high : ℕ) (es : List (Numbering Found)) → AreRising (m + 1) (map row_number es) high → AllByRecursion (λ (e : Numbering Found). e.number ≡ n → ⊥) es
+    above_apart : (m : ℕ) → m ≡ n → (high : ℕ) (es : List (Numbering Found)) → RiseBetween (m + 1) (map row_number es) high → AllByRecursion (λ (e : Numbering Found). e.number ≡ n → ⊥) es
     above_apart m is_n high es r = all-imp (λ (e : Numbering Found). m + 1 ≤ e.number) (λ (e : Numbering Found). e.number ≡ n → ⊥) (λ e le bad. omega arith) es (rising-above row_number (m + 1) high es r)
 
-    left : (low high : ℕ) (es : List (Numbering Found)) → AreRising low (map row_number es) high → AllByRecursion (λ (e : Numbering Found). is_some (row_handle on e) ≡ true) es
+    left : (low high : ℕ) (es : List (Numbering Found)) → RiseBetween low (map row_number es) high → AllByRecursion (λ (e : Numbering Found). is_some (row_handle on e) ≡ true) es
         → filter_map (row_handle then) (without_first (has_number n) es) ≡ without_number n (filter_map (row_handle on) es)
     left low high [] r each = refl
     left low high (e ∷ es) r each = by (row_handle on e) refl each.0 (eqb e.number n) refl (left (e.number + 1) high es r.1 each.1)
       where
-        by : (o : Option (Open Seen)) → row_handle on e ≡ o → is_some o ≡ true → (b : Bool) → eqb e.number n ≡ b
+        by : (o : Option (OpenHandle Progress)) → row_handle on e ≡ o → is_some o ≡ true → (b : Bool) → eqb e.number n ≡ b
             → filter_map (row_handle then) (without_first (has_number n) es) ≡ without_number n (filter_map (row_handle on) es)
             → filter_map (row_handle then) (cond b es (e ∷ without_first (has_number n) es)) ≡ without_number n (cons_option o (filter_map (row_handle on) es))
         by None at some b same rest = absurd (let bad = some in cc)
@@ -173,13 +173,13 @@ module _ (on then : Found → List (Open Seen)) (rows : List (Numbering Found)) 
             go true = refl
             go false = rest
 
-    rise_without : (low high : ℕ) (es : List (Numbering Found)) → AreRising low (map row_number es) high → AreRising low (map row_number (without_first (has_number n) es)) high
+    rise_without : (low high : ℕ) (es : List (Numbering Found)) → RiseBetween low (map row_number es) high → RiseBetween low (map row_number (without_first (has_number n) es)) high
     rise_without low high [] r = r
     rise_without low high (e ∷ es) r =
-        elim (eqb e.number n) as (λ b. AreRising low (map row_number (cond b es (e ∷ without_first (has_number n) es))) high)
+        elim (eqb e.number n) as (λ b. RiseBetween low (map row_number (cond b es (e ∷ without_first (has_number n) es))) high)
         [ true ↦ rising-lower (e.number + 1) low high (map row_number es) (let le = r.0 in omega arith) r.1 | false ↦ (r.0, rise_without (e.number + 1) high es r.1) ]
 
-    each_without : (low high : ℕ) (es : List (Numbering Found)) → AreRising low (map row_number es) high → AllByRecursion (λ (e : Numbering Found). is_some (row_handle on e) ≡ true) es
+    each_without : (low high : ℕ) (es : List (Numbering Found)) → RiseBetween low (map row_number es) high → AllByRecursion (λ (e : Numbering Found). is_some (row_handle on e) ≡ true) es
         → AllByRecursion (λ (e : Numbering Found). is_some (row_handle then e) ≡ true) (without_first (has_number n) es)
     each_without low high [] r each = tt
     each_without low high (e ∷ es) r each = by (eqb e.number n) refl (each_without (e.number + 1) high es r.1 each.1)
@@ -193,11 +193,11 @@ module _ (on then : Found → List (Open Seen)) (rows : List (Numbering Found)) 
         by true same rest = kept es (above_apart e.number (eqb-true e.number n same) high es r.1) each.1
         by false same rest = (ap is_some (other_row e (differ e.number n same)) ∙ each.0, rest)
 
-    pub closed_rowed : ((g : Found) → AreSeated (is_directory g) (number_of g) (then g)) → AreRowed then (without_first (has_number n) rows) next
-    closed_rowed seated = record {
+    pub closed_rowed : ((g : Found) → AreOn (is_directory g) (number_of g) (then g)) → AreRowed then (without_first (has_number n) rows) next
+    closed_rowed on_topic = record {
       rise = rise_without 0 next rows rowed.rise;
-      seated = seated;
+      on_topic = on_topic;
       each = each_without 0 next rows rowed.rise rowed.each;
-      own = λ g. all-imp (λ (h : Open Seen). (eqb h.number n ≡ false) × (value_under h.number rows ≡ Some g)) (λ (h : Open Seen). value_under h.number (without_first (has_number n) rows) ≡ Some g)
-          (λ h both. under_without h.number (differ h.number n both.0) rows ∙ both.1) (then g) (all-both (λ (h : Open Seen). eqb h.number n ≡ false) (λ (h : Open Seen). value_under h.number rows ≡ Some g) (then g) (gone g) (owned g));
+      own = λ g. all-imp (λ (h : OpenHandle Progress). (eqb h.number n ≡ false) × (value_under h.number rows ≡ Some g)) (λ (h : OpenHandle Progress). value_under h.number (without_first (has_number n) rows) ≡ Some g)
+          (λ h both. under_without h.number (differ h.number n both.0) rows ∙ both.1) (then g) (all-both (λ (h : OpenHandle Progress). eqb h.number n ≡ false) (λ (h : OpenHandle Progress). value_under h.number rows ≡ Some g) (then g) (gone g) (owned g));
     }

@@ -6,16 +6,16 @@ use Rattle.std.specs.Cmp.Lexicographic.{pointwise}
 use Rattle.pps_types.specs.declared.found.Found.{Found}
 use Rattle.pps_types.specs.contracts.found.FoundPartialEq.TheImpl.{eq-value}
 use Rattle.pps_types.specs.declared.found.Found.TheVariants.{Object as FoundObject, Directory as FoundDirectory}
-use Rattle.pps_types.specs.Reading.{Open, is_directory_kind}
-use Rattle.pps_types.specs.Rests.{Seen}
-use Rattle.pps_types.specs.WellFormed.{AreRising}
+use Rattle.pps_types.specs.Reading.{OpenHandle, is_directory_kind}
+use Rattle.pps_types.specs.Rests.{Progress}
+use Rattle.pps_types.specs.WellFormed.{RiseBetween}
 use Rattle.service_laws.proofs.Finds.{all-imp, all-find, and-both}
 use Rattle.service_laws.proofs.Rising.{rising-above}
 use Rattle.number_table.specs.Numbered.{Entry as Numbering, Numbered, value_under, has_number, is_same, is_same_entry}
 use Rattle.sub_reader.specs.Opened.{handle_at, is_directory, number_of}
-use Rattle.sub_reader.specs.Seated.{IsSeated, AreSeated}
+use Rattle.sub_reader.specs.HandlesOf.{IsOn, AreOn}
 use Rattle.topics.specs.declared.topic.Topic.{Topic}
-use Rattle.topics.specs.Seated.{target_of}
+use Rattle.topics.specs.HandlesOf.{target_of}
 use Rattle.open_handles.specs.declared.places.Places.{Places}
 use Rattle.open_handles.specs.Whole.{IsWhole, place_at, handles_on, handles_in, handles_in_place, row_handle, is_on, HasSame}
 use Rattle.open_handles.proofs.Finds.{at_number}
@@ -39,7 +39,7 @@ module _ {T : Type 0} where
   passed : (x e : Numbering T) (es : List (Numbering T)) → x.number + 1 ≤ e.number → value_under e.number es ≡ Some e.value → value_under e.number (x ∷ es) ≡ Some e.value
   passed x e es above at = ap (λ b. option_map (λ (e : Numbering T). e.value) (cond b (Some x) (find (has_number e.number) es))) (ne_eqb x.number e.number (λ same. omega arith)) ∙ at
 
-  own_values : (low high : ℕ) (es : List (Numbering T)) → AreRising low (map (λ (e : Numbering T). e.number) es) high → AllByRecursion (λ (e : Numbering T). value_under e.number es ≡ Some e.value) es
+  own_values : (low high : ℕ) (es : List (Numbering T)) → RiseBetween low (map (λ (e : Numbering T). e.number) es) high → AllByRecursion (λ (e : Numbering T). value_under e.number es ≡ Some e.value) es
   own_values low high [] r = tt
   own_values low high (e ∷ es) r = (
     ap (λ b. option_map (λ (e : Numbering T). e.value) (cond b (Some e) (find (has_number e.number) es))) (eq-eqb e.number e.number refl),
@@ -113,28 +113,28 @@ module _ (p q : Places) (objects : AllByRecursion (HasSame q) (map (λ (e : Numb
 -- ---- back from handles
 
 -- what a handle is on
-abbrev found_of : Open Seen → Found
+abbrev found_of : OpenHandle Progress → Found
 found_of h = cond (is_directory_kind h.kind) (FoundDirectory h.target) (FoundObject h.target)
 
-seated_found : (f : Found) (h : Open Seen) → IsSeated (is_directory f) (number_of f) h → found_of h ≡ f
-seated_found (FoundObject n) h is = ap (λ b. cond b (FoundDirectory h.target) (FoundObject h.target)) is.flag ∙ ap FoundObject is.on
-seated_found (FoundDirectory n) h is = ap (λ b. cond b (FoundDirectory h.target) (FoundObject h.target)) is.flag ∙ ap FoundDirectory is.on
+on_found : (f : Found) (h : OpenHandle Progress) → IsOn (is_directory f) (number_of f) h → found_of h ≡ f
+on_found (FoundObject n) h is = ap (λ b. cond b (FoundDirectory h.target) (FoundObject h.target)) is.flag ∙ ap FoundObject is.on
+on_found (FoundDirectory n) h is = ap (λ b. cond b (FoundDirectory h.target) (FoundObject h.target)) is.flag ∙ ap FoundDirectory is.on
 
-abbrev row_of : Open Seen → Numbering Found
+abbrev row_of : OpenHandle Progress → Numbering Found
 row_of h = record { number = h.number; value = found_of h }
 
-module _ (on : Found → List (Open Seen)) (seated : (f : Found) → AreSeated (is_directory f) (number_of f) (on f)) where
-  row_is : (e : Numbering Found) (h : Open Seen) → row_handle on e ≡ Some h → row_of h ≡ e
+module _ (on : Found → List (OpenHandle Progress)) (on_topic : (f : Found) → AreOn (is_directory f) (number_of f) (on f)) where
+  row_is : (e : Numbering Found) (h : OpenHandle Progress) → row_handle on e ≡ Some h → row_of h ≡ e
   row_is e h at =
       let number : h.number ≡ e.number = at_number e.number (on e.value) h at in
-      let value : found_of h ≡ e.value = seated_found e.value h (all-find (IsSeated (is_directory e.value) (number_of e.value)) (λ h. eqb h.number e.number) (on e.value) h (seated e.value).each at) in
+      let value : found_of h ≡ e.value = on_found e.value h (all-find (IsOn (is_directory e.value) (number_of e.value)) (λ h. eqb h.number e.number) (on e.value) h (on_topic e.value).each at) in
       λ i. record { number = number i; value = value i }
 
   pub rows_of : (es : List (Numbering Found)) → AllByRecursion (λ (e : Numbering Found). is_some (row_handle on e) ≡ true) es → map row_of (filter_map (row_handle on) es) ≡ es
   rows_of [] all = refl
   rows_of (e ∷ es) all = by (row_handle on e) refl all.0 (rows_of es all.1)
     where
-      by : (o : Option (Open Seen)) → row_handle on e ≡ o → is_some o ≡ true → map row_of (filter_map (row_handle on) es) ≡ es → map row_of (cons_option o (filter_map (row_handle on) es)) ≡ e ∷ es
+      by : (o : Option (OpenHandle Progress)) → row_handle on e ≡ o → is_some o ≡ true → map row_of (filter_map (row_handle on) es) ≡ es → map row_of (cons_option o (filter_map (row_handle on) es)) ≡ e ∷ es
       by None at some rest = absurd (let bad = some in cc)
       by (Some h) at some rest = λ i. row_is e h at i ∷ rest i
 
@@ -148,9 +148,9 @@ module _ (rows more : Numbered Found) (p q : Places) (whole : IsWhole (whole_of 
   module _ (same : handles_in (whole_of rows p) ≡ handles_in (whole_of more q)) where
     pub same_entries : rows.entries ≡ more.entries
     same_entries =
-        sym (rows_of (handles_on p) whole.rowed.seated rows.entries whole.rowed.each)
+        sym (rows_of (handles_on p) whole.rowed.on_topic rows.entries whole.rowed.each)
         ∙ ap (map row_of) same
-        ∙ rows_of (handles_on q) other.rowed.seated more.entries other.rowed.each
+        ∙ rows_of (handles_on q) other.rowed.on_topic more.entries other.rowed.each
 
     same_on : (f : Found) → handles_on q f ≡ handles_on p f
     same_on f = sym (on_it more q other f) ∙ ap (filter (is_on f)) (sym same) ∙ on_it rows p whole f

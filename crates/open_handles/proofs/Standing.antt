@@ -3,12 +3,12 @@ use Rattle.std.proofs.Common.{◌≡◌, ℕ, Bool, true, false, cond, eqb, eqb-
 use Rattle.std.specs.Prelude.{find, option_map}
 use Rattle.pps_types.specs.declared.found.Found.{Found}
 use Rattle.pps_types.specs.declared.found.Found.TheVariants.{Object as FoundObject, Directory as FoundDirectory}
-use Rattle.pps_types.specs.WellFormed.{AreRising}
+use Rattle.pps_types.specs.WellFormed.{RiseBetween}
 use Rattle.number_table.specs.Numbered.{Entry as Numbering, has_number, on_first, value_under}
 use Rattle.sub_reader.specs.Opened.{is_directory, number_of}
-use Rattle.sub_reader.specs.Seated.{AreSeated}
+use Rattle.sub_reader.specs.HandlesOf.{AreOn}
 use Rattle.topics.specs.declared.topic.Topic.{Topic}
-use Rattle.topics.specs.Seated.{target_of, handles_of}
+use Rattle.topics.specs.HandlesOf.{target_of, handles_of}
 use Rattle.open_handles.specs.declared.places.Places.{Places}
 use Rattle.open_handles.specs.Whole.{place_at, with_place, handles_on, handles_in_place, ArePlaced, HoldsWhatIsOwed, IsRight}
 use Rattle.open_handles.proofs.Finds.{some_is, found_cases}
@@ -63,13 +63,13 @@ with_other p (FoundObject m) (FoundDirectory n) t other = refl
 with_other p (FoundDirectory m) (FoundObject n) t other = refl
 with_other p (FoundDirectory m) (FoundDirectory n) t other = set_other m n t p.directories.entries (λ same. other (ap FoundDirectory same))
 
-with_objects_rise : (p : Places) (f : Found) (t : Topic) → AreRising 0 (map (λ (e : Numbering Topic). e.number) p.objects.entries) p.objects.next → AreRising 0 (map (λ (e : Numbering Topic). e.number) (with_place p f t).objects.entries) (with_place p f t).objects.next
-with_objects_rise p (FoundObject n) t r = subst (λ ns. AreRising 0 ns p.objects.next) (sym (set_numbers n t p.objects.entries)) r
+with_objects_rise : (p : Places) (f : Found) (t : Topic) → RiseBetween 0 (map (λ (e : Numbering Topic). e.number) p.objects.entries) p.objects.next → RiseBetween 0 (map (λ (e : Numbering Topic). e.number) (with_place p f t).objects.entries) (with_place p f t).objects.next
+with_objects_rise p (FoundObject n) t r = subst (λ ns. RiseBetween 0 ns p.objects.next) (sym (set_numbers n t p.objects.entries)) r
 with_objects_rise p (FoundDirectory n) t r = r
 
-with_directories_rise : (p : Places) (f : Found) (t : Topic) → AreRising 0 (map (λ (e : Numbering Topic). e.number) p.directories.entries) p.directories.next → AreRising 0 (map (λ (e : Numbering Topic). e.number) (with_place p f t).directories.entries) (with_place p f t).directories.next
+with_directories_rise : (p : Places) (f : Found) (t : Topic) → RiseBetween 0 (map (λ (e : Numbering Topic). e.number) p.directories.entries) p.directories.next → RiseBetween 0 (map (λ (e : Numbering Topic). e.number) (with_place p f t).directories.entries) (with_place p f t).directories.next
 with_directories_rise p (FoundObject n) t r = r
-with_directories_rise p (FoundDirectory n) t r = subst (λ ns. AreRising 0 ns p.directories.next) (sym (set_numbers n t p.directories.entries)) r
+with_directories_rise p (FoundDirectory n) t r = subst (λ ns. RiseBetween 0 ns p.directories.next) (sym (set_numbers n t p.directories.entries)) r
 
 module _ (p : Places) (f : Found) (s t : Topic) (placed : ArePlaced p) (found : place_at f p ≡ Some s) (target : target_of t ≡ target_of s) where
   pub with_on : target_of t ≡ f
@@ -100,11 +100,11 @@ module _ (p : Places) (f : Found) (s t : Topic) (placed : ArePlaced p) (found : 
   pub with_elsewhere : (g : Found) → (g ≡ f → ⊥) → handles_on (with_place p f t) g ≡ handles_on p g
   with_elsewhere g other = ap handles_in_place (with_other p g f t other)
 
-  module _ (right : IsRight t) (old : (g : Found) → AreSeated (is_directory g) (number_of g) (handles_on p g)) where
-    pub with_seated : (g : Found) → AreSeated (is_directory g) (number_of g) (handles_on (with_place p f t) g)
-    with_seated g = by (found_cases g f)
+  module _ (right : IsRight t) (old : (g : Found) → AreOn (is_directory g) (number_of g) (handles_on p g)) where
+    pub with_handles_on : (g : Found) → AreOn (is_directory g) (number_of g) (handles_on (with_place p f t) g)
+    with_handles_on g = by (found_cases g f)
       where
-        by : (g ≡ f) ⊎ (g ≡ f → ⊥) → AreSeated (is_directory g) (number_of g) (handles_on (with_place p f t) g)
-        by (inl here) = subst (λ g. AreSeated (is_directory g) (number_of g) (handles_on (with_place p f t) g)) (sym here)
-            (subst (AreSeated (is_directory f) (number_of f)) (sym with_handles) (subst (λ f. AreSeated (is_directory f) (number_of f) (handles_of t)) with_on right.seated))
-        by (inr other) = subst (AreSeated (is_directory g) (number_of g)) (sym (with_elsewhere g other)) (old g)
+        by : (g ≡ f) ⊎ (g ≡ f → ⊥) → AreOn (is_directory g) (number_of g) (handles_on (with_place p f t) g)
+        by (inl here) = subst (λ g. AreOn (is_directory g) (number_of g) (handles_on (with_place p f t) g)) (sym here)
+            (subst (AreOn (is_directory f) (number_of f)) (sym with_handles) (subst (λ f. AreOn (is_directory f) (number_of f) (handles_of t)) with_on right.on_topic))
+        by (inr other) = subst (AreOn (is_directory g) (number_of g)) (sym (with_elsewhere g other)) (old g)

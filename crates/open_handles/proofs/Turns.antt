@@ -6,16 +6,16 @@ use Rattle.std.specs.List.{AllByRecursion, filter_map}
 use Rattle.pps_types.specs.declared.found.Found.{Found}
 use Rattle.pps_types.specs.declared.found.Found.TheVariants.{Object as FoundObject, Directory as FoundDirectory}
 use Rattle.pps_types.specs.declared.handle_kind.HandleKind.{HandleKind}
-use Rattle.pps_types.specs.Reading.{Open, reseen, style}
-use Rattle.pps_types.specs.Rests.{Seen}
+use Rattle.pps_types.specs.Reading.{OpenHandle, reseen, style}
+use Rattle.pps_types.specs.Rests.{Progress}
 use Rattle.pps_types.specs.Plan.{on_numbered, without_number, first_seen}
 use Rattle.pps_types.specs.Owed.{longest_rest}
 use Rattle.number_table.specs.Numbered.{Entry as Numbering, Numbered, has_number, value_under, without_first}
 use Rattle.sub_reader.specs.Opened.{handle_at, is_directory, number_of, as_opened, suits, opened as opened_as}
 use Rattle.sub_reader.specs.declared.opening.Opening.{Opening}
-use Rattle.sub_reader.specs.Seated.{AreSeated}
+use Rattle.sub_reader.specs.HandlesOf.{AreOn}
 use Rattle.topics.specs.declared.topic.Topic.{Topic}
-use Rattle.topics.specs.Seated.{target_of, handles_of, places_of as places_for, name_of, kept_of, is_service, Suits, IsSameTarget, KeepsRoom}
+use Rattle.topics.specs.HandlesOf.{target_of, handles_of, places_of as places_for, name_of, kept_of, is_service, Suits, IsSameTarget, KeepsRoom}
 use Rattle.open_handles.specs.declared.change.Change.{Change}
 use Rattle.open_handles.specs.declared.change.Change.TheVariants.{CatchUp, Pass, Park, Arm}
 use Rattle.open_handles.specs.declared.places.Places.{Places}
@@ -24,7 +24,7 @@ use Rattle.open_handles.proofs.Finds.{some_is, found_cases, NoneNumbered, none_f
 use Rattle.open_handles.proofs.Rows.{found_in, changed, changed_rowed, closed, closed_rowed}
 use Rattle.open_handles.proofs.Comes.{opened, opened_rowed, below_at}
 use Rattle.open_handles.proofs.Meets.{those_on, longest_on}
-use Rattle.open_handles.proofs.Standing.{with_found, with_other, with_placed, with_handles, old_handles, with_elsewhere, with_seated}
+use Rattle.open_handles.proofs.Standing.{with_found, with_other, with_placed, with_handles, old_handles, with_elsewhere, with_handles_on}
 use Rattle.open_handles.proofs.Wholes.{bare_handles, bare_whole}
 
 abbrev pub whole_of : Numbered Found → Places → Whole
@@ -32,7 +32,7 @@ whole_of rows p = record { rows = rows; objects = p.objects; directories = p.dir
 
 -- ---- where a row is, its handle is
 
-row_found : (on : Found → List (Open Seen)) (n : ℕ) (f : Found) (es : List (Numbering Found)) → AllByRecursion (λ (e : Numbering Found). is_some (row_handle on e) ≡ true) es → value_under n es ≡ Some f → is_some (handle_at n (on f)) ≡ true
+row_found : (on : Found → List (OpenHandle Progress)) (n : ℕ) (f : Found) (es : List (Numbering Found)) → AllByRecursion (λ (e : Numbering Found). is_some (row_handle on e) ≡ true) es → value_under n es ≡ Some f → is_some (handle_at n (on f)) ≡ true
 row_found on n f [] each under = absurd (let bad = under in cc)
 row_found on n f (e ∷ es) each under = by (eqb e.number n) refl under (row_found on n f es each.1)
   where
@@ -63,7 +63,7 @@ module _ (rows : Numbered Found) (p : Places) (whole : IsWhole (whole_of rows p)
   no_handle : (n : ℕ) → value_under n rows.entries ≡ None → NoneNumbered n (handles_in (whole_of rows p))
   no_handle n none = none_found n (handles_in (whole_of rows p)) (at_row n ∙ ap (option_and_then (λ f. handle_at n (handles_on p f))) none)
 
-  pub change_absent : (n : ℕ) (change : Open Seen → Open Seen) → value_under n rows.entries ≡ None → handles_in (whole_of rows p) ≡ on_numbered n change (handles_in (whole_of rows p))
+  pub change_absent : (n : ℕ) (change : OpenHandle Progress → OpenHandle Progress) → value_under n rows.entries ≡ None → handles_in (whole_of rows p) ≡ on_numbered n change (handles_in (whole_of rows p))
   change_absent n change none = sym (change_none n change (handles_in (whole_of rows p)) (no_handle n none))
 
   pub close_absent : (n : ℕ) → value_under n rows.entries ≡ None → handles_in (whole_of rows p) ≡ without_number n (handles_in (whole_of rows p))
@@ -108,8 +108,8 @@ module _ (p : Places) (f : Found) (s t : Topic) (found : place_at f p ≡ Some s
 
 module _ (rows : Numbered Found) (p : Places) (whole : IsWhole (whole_of rows p)) (f : Found) (s t : Topic) (found : place_at f p ≡ Some s) (same : IsSameTarget s t)
     (right : IsRight t) where
-  then_seated : (g : Found) → AreSeated (is_directory g) (number_of g) (handles_on (with_place p f t) g)
-  then_seated = with_seated p f s t whole.placed found same.target right whole.rowed.seated
+  then_on : (g : Found) → AreOn (is_directory g) (number_of g) (handles_on (with_place p f t) g)
+  then_on = with_handles_on p f s t whole.placed found same.target right whole.rowed.on_topic
 
   elsewhere : (g : Found) → (g ≡ f → ⊥) → handles_on (with_place p f t) g ≡ handles_on p g
   elsewhere = with_elsewhere p f s t whole.placed found same.target
@@ -136,7 +136,7 @@ module _ (rows : Numbered Found) (p : Places) (whole : IsWhole (whole_of rows p)
   -- ---- one handle changes
 
   module _ (n : ℕ) (under : value_under n rows.entries ≡ Some f) where
-    module _ (change : Open Seen → Open Seen) (keeps : (h : Open Seen) → (change h).number ≡ h.number) (is : handles_of t ≡ on_numbered n change (handles_of s)) where
+    module _ (change : OpenHandle Progress → OpenHandle Progress) (keeps : (h : OpenHandle Progress) → (change h).number ≡ h.number) (is : handles_of t ≡ on_numbered n change (handles_of s)) where
       is_changed : handles_on (with_place p f t) f ≡ on_numbered n change (handles_on p f)
       is_changed = here ∙ is ∙ ap (on_numbered n change) (sym before)
 
@@ -145,7 +145,7 @@ module _ (rows : Numbered Found) (p : Places) (whole : IsWhole (whole_of rows p)
 
       pub turned_whole : IsWhole (whole_of rows (with_place p f t))
       turned_whole = record {
-        rowed = changed_rowed (handles_on p) (handles_on (with_place p f t)) rows.entries rows.next whole.rowed n f under elsewhere change keeps is_changed then_seated;
+        rowed = changed_rowed (handles_on p) (handles_on (with_place p f t)) rows.entries rows.next whole.rowed n f under elsewhere change keeps is_changed then_on;
         placed = with_placed p f s t whole.placed found same.target right.exact;
       }
 
@@ -161,13 +161,13 @@ module _ (rows : Numbered Found) (p : Places) (whole : IsWhole (whole_of rows p)
       pub left_whole : IsWhole (whole_of more (with_place p f t))
       left_whole = record {
         rowed = subst (λ m. AreRowed (handles_on (with_place p f t)) more.entries m) (sym next) (subst (λ es. AreRowed (handles_on (with_place p f t)) es rows.next) (sym entries)
-            (closed_rowed (handles_on p) (handles_on (with_place p f t)) rows.entries rows.next whole.rowed n f under elsewhere is_closed then_seated));
+            (closed_rowed (handles_on p) (handles_on (with_place p f t)) rows.entries rows.next whole.rowed n f under elsewhere is_closed then_on));
         placed = with_placed p f s t whole.placed found same.target right.exact;
       }
 
   -- ---- one handle comes
 
-  module _ (n m : ℕ) (is_n : m ≡ n) (above : rows.next ≤ n) (h : Open Seen) (numbered : h.number ≡ n) (is : handles_of t ≡ handles_of s ++ h ∷ []) (more : Numbered Found) (entries : more.entries ≡ rows.entries ++ record { number = m; value = f } ∷ []) (next : more.next ≡ m + 1) where
+  module _ (n m : ℕ) (is_n : m ≡ n) (above : rows.next ≤ n) (h : OpenHandle Progress) (numbered : h.number ≡ n) (is : handles_of t ≡ handles_of s ++ h ∷ []) (more : Numbered Found) (entries : more.entries ≡ rows.entries ++ record { number = m; value = f } ∷ []) (next : more.next ≡ m + 1) where
     is_opened : handles_on (with_place p f t) f ≡ handles_on p f ++ h ∷ []
     is_opened = here ∙ is ∙ ap (λ hs. hs ++ h ∷ []) (sym before)
 
@@ -180,17 +180,17 @@ module _ (rows : Numbered Found) (p : Places) (whole : IsWhole (whole_of rows p)
     pub come_whole : IsWhole (whole_of more (with_place p f t))
     come_whole = record {
       rowed = subst (λ k. AreRowed (handles_on (with_place p f t)) more.entries k) (sym (next ∙ ap (λ k. k + 1) is_n)) (subst (λ es. AreRowed (handles_on (with_place p f t)) es (n + 1)) (sym are)
-          (opened_rowed (handles_on p) (handles_on (with_place p f t)) rows.entries rows.next whole.rowed n f above elsewhere h numbered is_opened then_seated));
+          (opened_rowed (handles_on p) (handles_on (with_place p f t)) rows.entries rows.next whole.rowed n f above elsewhere h numbered is_opened then_on));
       placed = with_placed p f s t whole.placed found same.target right.exact;
     }
 
 -- all in a place are lower than a number that comes
-pub below_new : (rows : Numbered Found) (p : Places) (whole : IsWhole (whole_of rows p)) (f : Found) (s : Topic) → place_at f p ≡ Some s → (n : ℕ) → rows.next ≤ n → AllByRecursion (λ (h : Open Seen). h.number < n) (handles_of s)
-below_new rows p whole f s found n above = subst (AllByRecursion (λ (h : Open Seen). h.number < n)) (ap handles_in_place found) (below_at (handles_on p) rows.entries rows.next whole.rowed n above f)
+pub below_new : (rows : Numbered Found) (p : Places) (whole : IsWhole (whole_of rows p)) (f : Found) (s : Topic) → place_at f p ≡ Some s → (n : ℕ) → rows.next ≤ n → AllByRecursion (λ (h : OpenHandle Progress). h.number < n) (handles_of s)
+below_new rows p whole f s found n above = subst (AllByRecursion (λ (h : OpenHandle Progress). h.number < n)) (ap handles_in_place found) (below_at (handles_on p) rows.entries rows.next whole.rowed n above f)
 
 -- ---- what changes of a handle
 
-pub keeps_number : (x : Change) (h : Open Seen) → (changed_by x h).number ≡ h.number
+pub keeps_number : (x : Change) (h : OpenHandle Progress) → (changed_by x h).number ≡ h.number
 keeps_number CatchUp h = refl
 keeps_number (Pass count) h = refl
 keeps_number (Park size) h = refl
@@ -211,7 +211,7 @@ suits_there p f s kind found target is =
     subst (λ g. suits kind (is_directory g) (is_service s) ≡ true) (sym target)
     (subst (λ o. IfSome (option_map site_of o) (λ (x : Site). suits kind (is_directory f) x.service ≡ true)) found is)
 
-abbrev pub first_handle : ℕ → List ℕ → Opening → Open Seen
+abbrev pub first_handle : ℕ → List ℕ → Opening → OpenHandle Progress
 first_handle target name o = reseen (λ h. first_seen h (style h.kind)) (opened_as target name o)
 
 pub same_first : (rows : Numbered Found) (p : Places) (f : Found) (s : Topic) (o : Opening) → place_at f p ≡ Some s → target_of s ≡ f → first_handle (number_of (target_of s)) (name_of s) o ≡ first_handle (number_of f) (name_at f (whole_of rows p)) o

@@ -6,8 +6,8 @@ use Rattle.std.proofs.lemmas.Bool.Decides.{nat_tests}
 use Rattle.std.proofs.lemmas.List.Folds.{list_any-append}
 use Rattle.pps_types.specs.declared.found.Found.TheVariants.{Object as FoundObject, Directory as FoundDirectory}
 use Rattle.pps_types.specs.History.{Entry}
-use Rattle.pps_types.specs.Reading.{Open, visible, concerns, is_directory_kind}
-use Rattle.pps_types.specs.Rests.{Seen}
+use Rattle.pps_types.specs.Reading.{OpenHandle, visible, concerns, is_directory_kind}
+use Rattle.pps_types.specs.Rests.{Progress}
 use Rattle.pps_types.specs.Content.{news, is_waiting, learns}
 use Rattle.service_laws.proofs.Finds.{and-both}
 use Rattle.pps_types.specs.Rising.{AllAbove, IsRising}
@@ -15,7 +15,7 @@ use Rattle.sub_reader.specs.Woken.{woken_by}
 use Rattle.open_handles.specs.Whole.{is_on}
 use Rattle.open_handles.specs.United.{united_from, united}
 
-abbrev number : Open Seen → ℕ
+abbrev number : OpenHandle Progress → ℕ
 number h = h.number
 
 -- ---- numbers of handles that pass one of two tests
@@ -29,16 +29,16 @@ higher m n lt = grind (arith, nat_tests, lt)
 equal : (n : ℕ) → nat_lt n n ≡ false
 equal n = grind (arith, nat_tests)
 
-above_filter : (test : Open Seen → Bool) (m : ℕ) (hs : List (Open Seen)) → AllAbove number m hs → AllAbove number m (filter test hs)
+above_filter : (test : OpenHandle Progress → Bool) (m : ℕ) (hs : List (OpenHandle Progress)) → AllAbove number m hs → AllAbove number m (filter test hs)
 above_filter test m [] above = tt
 above_filter test m (h ∷ hs) above = elim (test h) as (λ b. AllAbove number m (cond b (h ∷ filter test hs) (filter test hs))) [ true ↦ (above.0, above_filter test m hs above.1) | false ↦ above_filter test m hs above.1 ]
 
 -- a lower number is before
-one_first : (h : Open Seen) (xs : List ℕ) (ys : List (Open Seen)) → AllAbove number h.number ys → united (h.number ∷ xs) (map number ys) ≡ h.number ∷ united xs (map number ys)
+one_first : (h : OpenHandle Progress) (xs : List ℕ) (ys : List (OpenHandle Progress)) → AllAbove number h.number ys → united (h.number ∷ xs) (map number ys) ≡ h.number ∷ united xs (map number ys)
 one_first h xs [] above = refl
 one_first h xs (y ∷ ys) above = ap (λ b. cond b (h.number ∷ united xs (map number (y ∷ ys))) (cond (nat_lt y.number h.number) (y.number ∷ united_from h.number (united xs) (map number ys)) (y.number ∷ united xs (map number ys)))) (lower h.number y.number above.0)
 
-other_first : (h : Open Seen) (xs : List (Open Seen)) (ys : List ℕ) → AllAbove number h.number xs → united (map number xs) (h.number ∷ ys) ≡ h.number ∷ united (map number xs) ys
+other_first : (h : OpenHandle Progress) (xs : List (OpenHandle Progress)) (ys : List ℕ) → AllAbove number h.number xs → united (map number xs) (h.number ∷ ys) ≡ h.number ∷ united (map number xs) ys
 other_first h [] ys above = refl
 other_first h (x ∷ xs) ys above =
     (λ i. cond (higher h.number x.number above.0 i) (x.number ∷ united (map number xs) (h.number ∷ ys)) (cond (lower h.number x.number above.0 i) (h.number ∷ united (map number (x ∷ xs)) ys) (h.number ∷ united (map number xs) ys)))
@@ -46,7 +46,7 @@ other_first h (x ∷ xs) ys above =
 both_first : (n : ℕ) (xs ys : List ℕ) → united (n ∷ xs) (n ∷ ys) ≡ n ∷ united xs ys
 both_first n xs ys = λ i. cond (equal n i) (n ∷ united xs (n ∷ ys)) (cond (equal n i) (n ∷ united_from n (united xs) ys) (n ∷ united xs ys))
 
-pub united_filter : (p q : Open Seen → Bool) (hs : List (Open Seen)) → IsRising number hs → united (map number (filter p hs)) (map number (filter q hs)) ≡ map number (filter (λ h. p h || q h) hs)
+pub united_filter : (p q : OpenHandle Progress → Bool) (hs : List (OpenHandle Progress)) → IsRising number hs → united (map number (filter p hs)) (map number (filter q hs)) ≡ map number (filter (λ h. p h || q h) hs)
 united_filter p q [] rising = refl
 united_filter p q (h ∷ hs) rising = by (p h) (q h) (united_filter p q hs rising.1)
   where
@@ -59,11 +59,11 @@ united_filter p q (h ∷ hs) rising = by (p h) (q h) (united_filter p q hs risin
 
 -- ---- tests that agree
 
-same_tests : (p q : Open Seen → Bool) → ((h : Open Seen) → p h ≡ q h) → (hs : List (Open Seen)) → filter p hs ≡ filter q hs
+same_tests : (p q : OpenHandle Progress → Bool) → ((h : OpenHandle Progress) → p h ≡ q h) → (hs : List (OpenHandle Progress)) → filter p hs ≡ filter q hs
 same_tests p q same [] = refl
 same_tests p q same (h ∷ hs) = λ i. cond (same h i) (h ∷ same_tests p q same hs i) (same_tests p q same hs i)
 
-both_tests : (p q : Open Seen → Bool) (hs : List (Open Seen)) → filter p (filter q hs) ≡ filter (λ h. q h && p h) hs
+both_tests : (p q : OpenHandle Progress → Bool) (hs : List (OpenHandle Progress)) → filter p (filter q hs) ≡ filter (λ h. q h && p h) hs
 both_tests p q [] = refl
 both_tests p q (h ∷ hs) = by (q h) (both_tests p q hs)
   where
@@ -73,18 +73,18 @@ both_tests p q (h ∷ hs) = by (q h) (both_tests p q hs)
 
 -- ---- one record: those on its object, and those on its directory
 
-abbrev wakes : List Entry → Open Seen → Bool
+abbrev wakes : List Entry → OpenHandle Progress → Bool
 wakes es h = is_waiting h && learns es h
 
 -- a handle that sees a record is on its object or on its directory
-sees_on : (e : Entry) (h : Open Seen) → visible h e ≡ true → (is_on (FoundObject e.record_of.object) h || is_on (FoundDirectory e.directory) h) ≡ true
+sees_on : (e : Entry) (h : OpenHandle Progress) → visible h e ≡ true → (is_on (FoundObject e.record_of.object) h || is_on (FoundDirectory e.directory) h) ≡ true
 sees_on e h sees = by (is_directory_kind h.kind) ((and-both (concerns h e) _ sees).0)
   where
     by : (k : Bool) → cond k (e.directory == h.target) (e.record_of.object == h.target) ≡ true → ((not k && (e.record_of.object == h.target)) || (k && (e.directory == h.target))) ≡ true
     by true is = is
     by false is = ap (λ b. b || false) is
 
-one_place : (e : Entry) (h : Open Seen) → ((is_on (FoundObject e.record_of.object) h && wakes (e ∷ []) h) || (is_on (FoundDirectory e.directory) h && wakes (e ∷ []) h)) ≡ wakes (e ∷ []) h
+one_place : (e : Entry) (h : OpenHandle Progress) → ((is_on (FoundObject e.record_of.object) h && wakes (e ∷ []) h) || (is_on (FoundDirectory e.directory) h && wakes (e ∷ []) h)) ≡ wakes (e ∷ []) h
 one_place e h = by (is_on (FoundObject e.record_of.object) h) (is_on (FoundDirectory e.directory) h) (is_waiting h) (not (news h)) (visible h e) (sees_on e h)
   where
     by : (o d w n v : Bool) → (v ≡ true → (o || d) ≡ true) → ((o && (w && (n && (v || false)))) || (d && (w && (n && (v || false))))) ≡ (w && (n && (v || false)))
@@ -104,7 +104,7 @@ one_place e h = by (is_on (FoundObject e.record_of.object) h) (is_on (FoundDirec
     by false true false n v on = refl
     by false false false n v on = refl
 
-module _ (hs : List (Open Seen)) (rising : IsRising number hs) where
+module _ (hs : List (OpenHandle Progress)) (rising : IsRising number hs) where
   pub woken_one : (e : Entry) → united (woken_by (e ∷ []) (filter (is_on (FoundObject e.record_of.object)) hs)) (woken_by (e ∷ []) (filter (is_on (FoundDirectory e.directory)) hs)) ≡ woken_by (e ∷ []) hs
   woken_one e =
       (λ i. united (map number (both_tests (wakes (e ∷ [])) (is_on (FoundObject e.record_of.object)) hs i)) (map number (both_tests (wakes (e ∷ [])) (is_on (FoundDirectory e.directory)) hs i)))
@@ -122,7 +122,7 @@ module _ (hs : List (Open Seen)) (rising : IsRising number hs) where
       go true false a b = refl
       go false n a b = refl
 
-      more : (h : Open Seen) → (wakes es h || wakes (e ∷ []) h) ≡ wakes (es ++ e ∷ []) h
+      more : (h : OpenHandle Progress) → (wakes es h || wakes (e ∷ []) h) ≡ wakes (es ++ e ∷ []) h
       more h = go (is_waiting h) (not (news h)) (list_any (visible h) es) (list_any (visible h) (e ∷ [])) ∙ sym (ap (λ b. is_waiting h && (not (news h) && b)) (list_any-append (visible h) es (e ∷ [])))
 
 pub united_none : (xs : List ℕ) → united xs [] ≡ xs
@@ -134,7 +134,7 @@ nothing [] is = refl
 nothing (x ∷ xs) is = absurd (let bad = eqb-true (length (x ∷ xs)) 0 is in omega arith)
 
 -- no records wake nobody
-pub woken_none : (hs : List (Open Seen)) → woken_by [] hs ≡ []
+pub woken_none : (hs : List (OpenHandle Progress)) → woken_by [] hs ≡ []
 woken_none [] = refl
 woken_none (h ∷ hs) = ap (λ b. map number (cond b (h ∷ filter (wakes []) hs) (filter (wakes []) hs))) (none (is_waiting h) (not (news h))) ∙ woken_none hs
   where

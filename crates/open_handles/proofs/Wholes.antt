@@ -5,52 +5,52 @@ use Rattle.std.specs.Option.{option_map_or}
 use Rattle.std.specs.List.{AllByRecursion, filter_map, cons_option}
 use Rattle.pps_types.specs.declared.found.Found.{Found}
 use Rattle.pps_types.specs.declared.found.Found.TheVariants.{Object as FoundObject, Directory as FoundDirectory}
-use Rattle.pps_types.specs.Reading.{Open}
-use Rattle.pps_types.specs.Rests.{Seen}
-use Rattle.pps_types.specs.WellFormed.{AreRising}
+use Rattle.pps_types.specs.Reading.{OpenHandle}
+use Rattle.pps_types.specs.Rests.{Progress}
+use Rattle.pps_types.specs.WellFormed.{RiseBetween}
 use Rattle.number_table.specs.Numbered.{Entry as Numbering, Numbered, value_under}
 use Rattle.topics.specs.declared.topic.Topic.{Topic}
 use Rattle.pps_types.specs.Owed.{longest_rest}
 use Rattle.sub_reader.specs.Opened.{is_directory, number_of}
-use Rattle.topics.specs.Seated.{target_of, handles_of, kept_of, places_of as places_for}
-use Rattle.open_handles.specs.Whole.{Whole, IsWhole, HoldsWhatIsOwed, AreRowed, row_handle, handles_in, handles_at, seats_at, handles_in_place, handle_of_row, room_at, KeepsPlaces, KeepsRecords, HasRoomAt, Fresh, IsFresh, site_of}
+use Rattle.topics.specs.HandlesOf.{target_of, handles_of, kept_of, places_of as places_for}
+use Rattle.open_handles.specs.Whole.{Whole, IsWhole, HoldsWhatIsOwed, AreRowed, row_handle, handles_in, handles_at, topic_at, handles_in_place, handle_of_row, room_at, KeepsPlaces, KeepsRecords, HasRoomAt, Fresh, IsFresh, site_of}
 use Rattle.open_handles.proofs.Finds.{some_is, found_cases}
 use Rattle.open_handles.proofs.Comes.{under_push, under_new, under_none, rise_push}
 
 -- ---- the same
 
-pub same_rowed : (on then : Found → List (Open Seen)) (rows : List (Numbering Found)) (next : ℕ) → ((f : Found) → then f ≡ on f) → AreRowed on rows next → AreRowed then rows next
-same_rowed on then rows next are rowed = subst (λ (g : Found → List (Open Seen)). AreRowed g rows next) (λ i f. sym (are f) i) rowed
+pub same_rowed : (on then : Found → List (OpenHandle Progress)) (rows : List (Numbering Found)) (next : ℕ) → ((f : Found) → then f ≡ on f) → AreRowed on rows next → AreRowed then rows next
+same_rowed on then rows next are rowed = subst (λ (g : Found → List (OpenHandle Progress)). AreRowed g rows next) (λ i f. sym (are f) i) rowed
 
-pub same_filter : (on then : Found → List (Open Seen)) (rows : List (Numbering Found)) → ((f : Found) → then f ≡ on f) → filter_map (row_handle then) rows ≡ filter_map (row_handle on) rows
-same_filter on then rows are = ap (λ (g : Found → List (Open Seen)). filter_map (row_handle g) rows) (λ i f. are f i)
+pub same_filter : (on then : Found → List (OpenHandle Progress)) (rows : List (Numbering Found)) → ((f : Found) → then f ≡ on f) → filter_map (row_handle then) rows ≡ filter_map (row_handle on) rows
+same_filter on then rows are = ap (λ (g : Found → List (OpenHandle Progress)). filter_map (row_handle g) rows) (λ i f. are f i)
 
 module _ (old new : Whole) (rows : new.rows.entries ≡ old.rows.entries) (next : new.rows.next ≡ old.rows.next) (objects : new.objects.entries ≡ old.objects.entries) (next_object : new.objects.next ≡ old.objects.next)
     (directories : new.directories.entries ≡ old.directories.entries) (next_directory : new.directories.next ≡ old.directories.next) where
-  pub same_seats : (f : Found) → seats_at f new ≡ seats_at f old
-  same_seats (FoundObject n) = ap (value_under n) objects
-  same_seats (FoundDirectory n) = ap (value_under n) directories
+  pub same_topic : (f : Found) → topic_at f new ≡ topic_at f old
+  same_topic (FoundObject n) = ap (value_under n) objects
+  same_topic (FoundDirectory n) = ap (value_under n) directories
 
   pub same_whole : IsWhole old → IsWhole new
   same_whole w = record {
     rowed = subst (λ m. AreRowed (λ f. handles_at f new) new.rows.entries m) (sym next) (subst (λ es. AreRowed (λ f. handles_at f new) es old.rows.next) (sym rows)
-        (same_rowed (λ f. handles_at f old) (λ f. handles_at f new) old.rows.entries old.rows.next (λ f. ap handles_in_place (same_seats f)) w.rowed));
+        (same_rowed (λ f. handles_at f old) (λ f. handles_at f new) old.rows.entries old.rows.next (λ f. ap handles_in_place (same_topic f)) w.rowed));
     placed = record {
-      objects_rise = subst (λ m. AreRising 0 (map (λ (e : Numbering Topic). e.number) new.objects.entries) m) (sym next_object) (subst (λ es. AreRising 0 (map (λ (e : Numbering Topic). e.number) es) old.objects.next) (sym objects) w.placed.objects_rise);
-      directories_rise = subst (λ m. AreRising 0 (map (λ (e : Numbering Topic). e.number) new.directories.entries) m) (sym next_directory) (subst (λ es. AreRising 0 (map (λ (e : Numbering Topic). e.number) es) old.directories.next) (sym directories) w.placed.directories_rise);
-      on = λ f s at. w.placed.on f s (sym (same_seats f) ∙ at);
-      exact = λ f s at. w.placed.exact f s (sym (same_seats f) ∙ at);
+      objects_rise = subst (λ m. RiseBetween 0 (map (λ (e : Numbering Topic). e.number) new.objects.entries) m) (sym next_object) (subst (λ es. RiseBetween 0 (map (λ (e : Numbering Topic). e.number) es) old.objects.next) (sym objects) w.placed.objects_rise);
+      directories_rise = subst (λ m. RiseBetween 0 (map (λ (e : Numbering Topic). e.number) new.directories.entries) m) (sym next_directory) (subst (λ es. RiseBetween 0 (map (λ (e : Numbering Topic). e.number) es) old.directories.next) (sym directories) w.placed.directories_rise);
+      on = λ f s at. w.placed.on f s (sym (same_topic f) ∙ at);
+      exact = λ f s at. w.placed.exact f s (sym (same_topic f) ∙ at);
     };
   }
 
 -- ---- as many as rows
 
-module _ (on : Found → List (Open Seen)) where
+module _ (on : Found → List (OpenHandle Progress)) where
   pub as_many : (es : List (Numbering Found)) → AllByRecursion (λ (e : Numbering Found). is_some (row_handle on e) ≡ true) es → length es ≡ length (filter_map (row_handle on) es)
   as_many [] each = refl
   as_many (e ∷ es) each = by (row_handle on e) each.0 (as_many es each.1)
     where
-      by : (o : Option (Open Seen)) → is_some o ≡ true → length es ≡ length (filter_map (row_handle on) es) → length (e ∷ es) ≡ length (cons_option o (filter_map (row_handle on) es))
+      by : (o : Option (OpenHandle Progress)) → is_some o ≡ true → length es ≡ length (filter_map (row_handle on) es) → length (e ∷ es) ≡ length (cons_option o (filter_map (row_handle on) es))
       by None some rest = absurd (let bad = some in cc)
       by (Some h) some rest = omega arith
 
@@ -64,41 +64,41 @@ module _ (m n : ℕ) (s : Topic) (es : List (Numbering Topic)) where
   push_elsewhere other None is = under_new m n s es is ∙ ap (λ b. cond b (Some s) None) (ne_eqb n m (λ same. other (sym same)))
   push_elsewhere other (Some t) is = under_push m n s t es is
 
-push_here : (n high : ℕ) (s : Topic) (es : List (Numbering Topic)) → high ≤ n → AreRising 0 (map (λ (e : Numbering Topic). e.number) es) high → value_under n (es ++ record { number = n; value = s } ∷ []) ≡ Some s
+push_here : (n high : ℕ) (s : Topic) (es : List (Numbering Topic)) → high ≤ n → RiseBetween 0 (map (λ (e : Numbering Topic). e.number) es) high → value_under n (es ++ record { number = n; value = s } ∷ []) ≡ Some s
 push_here n high s es le r = under_new n n s es (under_none n 0 high es le r) ∙ ap (λ b. cond b (Some s) None) (eq-eqb n n refl)
 
 module _ (old new : Whole) (whole : IsWhole old) (n : ℕ) (s : Topic) where
   module _ (above : old.objects.next ≤ n) (objects : new.objects.entries ≡ old.objects.entries ++ record { number = n; value = s } ∷ []) (next : new.objects.next ≡ n + 1) where
-    pub object_rises : AreRising 0 (map (λ (e : Numbering Topic). e.number) new.objects.entries) new.objects.next
-    object_rises = subst (λ m. AreRising 0 (map (λ (e : Numbering Topic). e.number) new.objects.entries) m) (sym next) (subst (λ es. AreRising 0 (map (λ (e : Numbering Topic). e.number) es) (n + 1)) (sym objects) (rise_push 0 old.objects.next n s old.objects.entries above whole.placed.objects_rise))
+    pub object_rises : RiseBetween 0 (map (λ (e : Numbering Topic). e.number) new.objects.entries) new.objects.next
+    object_rises = subst (λ m. RiseBetween 0 (map (λ (e : Numbering Topic). e.number) new.objects.entries) m) (sym next) (subst (λ es. RiseBetween 0 (map (λ (e : Numbering Topic). e.number) es) (n + 1)) (sym objects) (rise_push 0 old.objects.next n s old.objects.entries above whole.placed.objects_rise))
 
-    pub object_here : seats_at (FoundObject n) new ≡ Some s
+    pub object_here : topic_at (FoundObject n) new ≡ Some s
     object_here = ap (value_under n) objects ∙ push_here n old.objects.next s old.objects.entries above whole.placed.objects_rise
 
-    pub object_fresh : seats_at (FoundObject n) old ≡ None
+    pub object_fresh : topic_at (FoundObject n) old ≡ None
     object_fresh = under_none n 0 old.objects.next old.objects.entries above whole.placed.objects_rise
 
-    pub object_elsewhere : new.directories.entries ≡ old.directories.entries → (f : Found) → (f ≡ FoundObject n → ⊥) → seats_at f new ≡ seats_at f old
+    pub object_elsewhere : new.directories.entries ≡ old.directories.entries → (f : Found) → (f ≡ FoundObject n → ⊥) → topic_at f new ≡ topic_at f old
     object_elsewhere same (FoundObject m) other = ap (value_under m) objects ∙ push_elsewhere m n s old.objects.entries (λ is. other (ap FoundObject is)) (value_under m old.objects.entries) refl
     object_elsewhere same (FoundDirectory m) other = ap (value_under m) same
 
   module _ (above : old.directories.next ≤ n) (directories : new.directories.entries ≡ old.directories.entries ++ record { number = n; value = s } ∷ []) (next : new.directories.next ≡ n + 1) where
-    pub directory_rises : AreRising 0 (map (λ (e : Numbering Topic). e.number) new.directories.entries) new.directories.next
-    directory_rises = subst (λ m. AreRising 0 (map (λ (e : Numbering Topic). e.number) new.directories.entries) m) (sym next) (subst (λ es. AreRising 0 (map (λ (e : Numbering Topic). e.number) es) (n + 1)) (sym directories) (rise_push 0 old.directories.next n s old.directories.entries above whole.placed.directories_rise))
+    pub directory_rises : RiseBetween 0 (map (λ (e : Numbering Topic). e.number) new.directories.entries) new.directories.next
+    directory_rises = subst (λ m. RiseBetween 0 (map (λ (e : Numbering Topic). e.number) new.directories.entries) m) (sym next) (subst (λ es. RiseBetween 0 (map (λ (e : Numbering Topic). e.number) es) (n + 1)) (sym directories) (rise_push 0 old.directories.next n s old.directories.entries above whole.placed.directories_rise))
 
-    pub directory_here : seats_at (FoundDirectory n) new ≡ Some s
+    pub directory_here : topic_at (FoundDirectory n) new ≡ Some s
     directory_here = ap (value_under n) directories ∙ push_here n old.directories.next s old.directories.entries above whole.placed.directories_rise
 
-    pub directory_fresh : seats_at (FoundDirectory n) old ≡ None
+    pub directory_fresh : topic_at (FoundDirectory n) old ≡ None
     directory_fresh = under_none n 0 old.directories.next old.directories.entries above whole.placed.directories_rise
 
-    pub directory_elsewhere : new.objects.entries ≡ old.objects.entries → (f : Found) → (f ≡ FoundDirectory n → ⊥) → seats_at f new ≡ seats_at f old
+    pub directory_elsewhere : new.objects.entries ≡ old.objects.entries → (f : Found) → (f ≡ FoundDirectory n → ⊥) → topic_at f new ≡ topic_at f old
     directory_elsewhere same (FoundDirectory m) other = ap (value_under m) directories ∙ push_elsewhere m n s old.directories.entries (λ is. other (ap FoundDirectory is)) (value_under m old.directories.entries) refl
     directory_elsewhere same (FoundObject m) other = ap (value_under m) same
 
 -- whichever it is
-module _ (old new : Whole) (whole : IsWhole old) (f : Found) (rows : new.rows.entries ≡ old.rows.entries) (next : new.rows.next ≡ old.rows.next) (elsewhere : (g : Found) → (g ≡ f → ⊥) → seats_at g new ≡ seats_at g old) (bare : handles_at f new ≡ handles_at f old)
-    (objects_rise : AreRising 0 (map (λ (e : Numbering Topic). e.number) new.objects.entries) new.objects.next) (directories_rise : AreRising 0 (map (λ (e : Numbering Topic). e.number) new.directories.entries) new.directories.next) where
+module _ (old new : Whole) (whole : IsWhole old) (f : Found) (rows : new.rows.entries ≡ old.rows.entries) (next : new.rows.next ≡ old.rows.next) (elsewhere : (g : Found) → (g ≡ f → ⊥) → topic_at g new ≡ topic_at g old) (bare : handles_at f new ≡ handles_at f old)
+    (objects_rise : RiseBetween 0 (map (λ (e : Numbering Topic). e.number) new.objects.entries) new.objects.next) (directories_rise : RiseBetween 0 (map (λ (e : Numbering Topic). e.number) new.directories.entries) new.directories.next) where
   bare_at : (g : Found) → handles_at g new ≡ handles_at g old
   bare_at g = by (found_cases g f)
     where
@@ -109,7 +109,7 @@ module _ (old new : Whole) (whole : IsWhole old) (f : Found) (rows : new.rows.en
   pub bare_handles : handles_in new ≡ handles_in old
   bare_handles = ap (λ es. filter_map (handle_of_row new) es) rows ∙ same_filter (λ f. handles_at f old) (λ f. handles_at f new) old.rows.entries bare_at
 
-  pub bare_whole : ((s : Topic) → seats_at f new ≡ Some s → target_of s ≡ f) → ((s : Topic) → seats_at f new ≡ Some s → HoldsWhatIsOwed s) → IsWhole new
+  pub bare_whole : ((s : Topic) → topic_at f new ≡ Some s → target_of s ≡ f) → ((s : Topic) → topic_at f new ≡ Some s → HoldsWhatIsOwed s) → IsWhole new
   bare_whole on exact = record {
     rowed = subst (λ m. AreRowed (λ f. handles_at f new) new.rows.entries m) (sym next) (subst (λ es. AreRowed (λ f. handles_at f new) es old.rows.next) (sym rows)
         (same_rowed (λ f. handles_at f old) (λ f. handles_at f new) old.rows.entries old.rows.next bare_at whole.rowed));
@@ -121,16 +121,16 @@ module _ (old new : Whole) (whole : IsWhole old) (f : Found) (rows : new.rows.en
     };
   }
     where
-      held : (g : Found) (s : Topic) → seats_at g new ≡ Some s → (g ≡ f) ⊎ (g ≡ f → ⊥) → HoldsWhatIsOwed s
-      held g s at (inl here) = exact s (subst (λ g. seats_at g new ≡ Some s) here at)
+      held : (g : Found) (s : Topic) → topic_at g new ≡ Some s → (g ≡ f) ⊎ (g ≡ f → ⊥) → HoldsWhatIsOwed s
+      held g s at (inl here) = exact s (subst (λ g. topic_at g new ≡ Some s) here at)
       held g s at (inr other) = whole.placed.exact g s (sym (elsewhere g other) ∙ at)
 
-      by : (g : Found) (s : Topic) → seats_at g new ≡ Some s → (g ≡ f) ⊎ (g ≡ f → ⊥) → target_of s ≡ g
-      by g s at (inl here) = on s (subst (λ g. seats_at g new ≡ Some s) here at) ∙ sym here
+      by : (g : Found) (s : Topic) → topic_at g new ≡ Some s → (g ≡ f) ⊎ (g ≡ f → ⊥) → target_of s ≡ g
+      by g s at (inl here) = on s (subst (λ g. topic_at g new ≡ Some s) here at) ∙ sym here
       by g s at (inr other) = whole.placed.on g s (sym (elsewhere g other) ∙ at)
 
   -- a place that came
-  pub come_places : seats_at f old ≡ None → KeepsPlaces old new
+  pub come_places : topic_at f old ≡ None → KeepsPlaces old new
   come_places none g = by (found_cases g f)
     where
       by : (g ≡ f) ⊎ (g ≡ f → ⊥) → room_at g old ≤ room_at g new
@@ -154,13 +154,13 @@ bare_exact s bare empty = empty ∙ sym (ap (longest_rest (is_directory (target_
 pub record IsAdded (f : Found) (s : Topic) (old new : Whole) : Type 0 where
   pub whole : IsWhole new
   pub handles : handles_in new ≡ handles_in old
-  pub here : seats_at f new ≡ Some s
-  pub others : (g : Found) → (g ≡ f → ⊥) → seats_at g new ≡ seats_at g old
+  pub here : topic_at f new ≡ Some s
+  pub others : (g : Found) → (g ≡ f → ⊥) → topic_at g new ≡ topic_at g old
   pub places : KeepsPlaces old new
   pub records : KeepsRecords old new
 
-added : (old new : Whole) (whole : IsWhole old) (f : Found) (s : Topic) → handles_of s ≡ [] → kept_of s ≡ [] → target_of s ≡ f → new.rows ≡ old.rows → seats_at f old ≡ None → seats_at f new ≡ Some s
-    → ((g : Found) → (g ≡ f → ⊥) → seats_at g new ≡ seats_at g old) → AreRising 0 (map (λ (e : Numbering Topic). e.number) new.objects.entries) new.objects.next → AreRising 0 (map (λ (e : Numbering Topic). e.number) new.directories.entries) new.directories.next → IsAdded f s old new
+added : (old new : Whole) (whole : IsWhole old) (f : Found) (s : Topic) → handles_of s ≡ [] → kept_of s ≡ [] → target_of s ≡ f → new.rows ≡ old.rows → topic_at f old ≡ None → topic_at f new ≡ Some s
+    → ((g : Found) → (g ≡ f → ⊥) → topic_at g new ≡ topic_at g old) → RiseBetween 0 (map (λ (e : Numbering Topic). e.number) new.objects.entries) new.objects.next → RiseBetween 0 (map (λ (e : Numbering Topic). e.number) new.directories.entries) new.directories.next → IsAdded f s old new
 added old new whole f s bare empty target rows fresh here elsewhere objects_rise directories_rise =
     let next : new.rows.next ≡ old.rows.next = ap (λ (t : Numbered Found). t.next) rows in
     let entries : new.rows.entries ≡ old.rows.entries = ap (λ (t : Numbered Found). t.entries) rows in

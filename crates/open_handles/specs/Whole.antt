@@ -6,19 +6,19 @@ use Rattle.pps_types.specs.declared.found.Found.{Found}
 use Rattle.pps_types.specs.declared.found.Found.TheVariants.{Object as FoundObject, Directory as FoundDirectory}
 use Rattle.pps_types.specs.declared.handle_kind.HandleKind.{HandleKind}
 use Rattle.pps_types.specs.History.{Entry}
-use Rattle.pps_types.specs.Reading.{Open, reseen, visible}
+use Rattle.pps_types.specs.Reading.{OpenHandle, reseen, visible}
 use Rattle.pps_types.specs.Plan.{caught_up, left, on_numbered}
-use Rattle.pps_types.specs.Rests.{Seen}
+use Rattle.pps_types.specs.Rests.{Progress}
 use Rattle.pps_types.specs.Owed.{longest_rest}
-use Rattle.pps_types.specs.WellFormed.{AreRising}
+use Rattle.pps_types.specs.WellFormed.{RiseBetween}
 use Rattle.service_laws.specs.Concerned.{is_on_object, is_on_directory}
 use Rattle.number_table.specs.Numbered.{Entry as Numbering, Numbered, has_number, value_under, value_at, with_value}
 use Rattle.sub_reader.specs.declared.opening.Opening.{Opening}
 use Rattle.sub_reader.specs.HandleAt.{with_opened}
 use Rattle.sub_reader.specs.Opened.{handle_at, is_directory, number_of, armed_pulse, suits}
-use Rattle.sub_reader.specs.Seated.{AreSeated}
+use Rattle.sub_reader.specs.HandlesOf.{AreOn}
 use Rattle.topics.specs.declared.topic.Topic.{Topic}
-use Rattle.topics.specs.Seated.{target_of, handles_of, name_of, kept_of, is_service, places_of as places_for, IsReady}
+use Rattle.topics.specs.HandlesOf.{target_of, handles_of, name_of, kept_of, is_service, places_of as places_for, IsReady}
 use Rattle.open_handles.specs.declared.change.Change.{Change}
 use Rattle.open_handles.specs.declared.change.Change.TheVariants.{CatchUp, Pass, Park, Arm}
 use Rattle.open_handles.specs.declared.places.Places.{Places}
@@ -32,13 +32,13 @@ pub record Whole : Type 0 where
 -- ---- the handles of rows, where each object and each directory has its own
 
 -- the handle under a number
-abbrev pub row_handle : (Found → List (Open Seen)) → Numbering Found → Option (Open Seen)
+abbrev pub row_handle : (Found → List (OpenHandle Progress)) → Numbering Found → Option (OpenHandle Progress)
 row_handle on e = handle_at e.number (on e.value)
 
 -- The numbers rise; what is on each object and directory is its own, with rising numbers; each row has its handle, and each handle its row.
-pub record AreRowed (on : Found → List (Open Seen)) (rows : List (Numbering Found)) (next : ℕ) : Type 0 where
-  pub rise : AreRising 0 (map (λ e. e.number) rows) next
-  pub seated : (f : Found) → AreSeated (is_directory f) (number_of f) (on f)
+pub record AreRowed (on : Found → List (OpenHandle Progress)) (rows : List (Numbering Found)) (next : ℕ) : Type 0 where
+  pub rise : RiseBetween 0 (map (λ e. e.number) rows) next
+  pub on_topic : (f : Found) → AreOn (is_directory f) (number_of f) (on f)
   pub each : AllByRecursion (λ e. is_some (row_handle on e) ≡ true) rows
   pub own : (f : Found) → AllByRecursion (λ h. value_under h.number rows ≡ Some f) (on f)
 
@@ -58,21 +58,21 @@ abbrev pub places_of : Whole → Places
 places_of w = record { objects = w.objects; directories = w.directories }
 
 -- none but the handles of such a place
-abbrev pub handles_in_place : Option Topic → List (Open Seen)
+abbrev pub handles_in_place : Option Topic → List (OpenHandle Progress)
 handles_in_place s = option_map_or handles_of s []
 
-abbrev pub handles_on : Places → Found → List (Open Seen)
+abbrev pub handles_on : Places → Found → List (OpenHandle Progress)
 handles_on p f = handles_in_place (place_at f p)
 
-abbrev pub seats_at : Found → Whole → Option Topic
-seats_at f w = place_at f (places_of w)
+abbrev pub topic_at : Found → Whole → Option Topic
+topic_at f w = place_at f (places_of w)
 
-abbrev pub handles_at : Found → Whole → List (Open Seen)
+abbrev pub handles_at : Found → Whole → List (OpenHandle Progress)
 handles_at f w = handles_on (places_of w) f
 
 -- an object or a directory goes where no handle is on it
 abbrev pub GoesIfUnused : Found → Whole → Whole → Type 0
-GoesIfUnused f old new = handles_at f old ≡ [] → seats_at f new ≡ None
+GoesIfUnused f old new = handles_at f old ≡ [] → topic_at f new ≡ None
 
 -- and else nothing changes
 abbrev pub StaysIfUsed : Found → Whole → Whole → Type 0
@@ -80,15 +80,15 @@ StaysIfUsed f old new = (handles_at f old ≡ [] → ⊥) → new ≡ old
 
 -- what is on any other object or directory stays, with its room
 abbrev pub KeepsOthers : Found → Whole → Whole → Type 0
-KeepsOthers found old new = (f : Found) → (f ≡ found → ⊥) → seats_at f new ≡ seats_at f old
+KeepsOthers found old new = (f : Found) → (f ≡ found → ⊥) → topic_at f new ≡ topic_at f old
 
 -- others have the same handles on what these are on
 abbrev pub HasSame : Places → Topic → Type 0
 HasSame p s = handles_on p (target_of s) ≡ handles_of s
 
 -- the handle of a number in a place, where there is one
-abbrev pub seated_at : ℕ → Option Topic → Option (Open Seen)
-seated_at number place = option_and_then (λ (s : Topic). handle_at number (handles_of s)) place
+abbrev pub handle_in_topic : ℕ → Option Topic → Option (OpenHandle Progress)
+handle_in_topic number place = option_and_then (λ (s : Topic). handle_at number (handles_of s)) place
 
 -- no handle is on the object or directory of that number in a table
 abbrev pub HasNoneAt : ℕ → Numbered Topic → Type 0
@@ -100,27 +100,27 @@ HoldsWhatIsOwed s = kept_of s ≡ longest_rest (is_directory (target_of s)) (num
 
 -- its handles are on it, and it holds what they are owed
 pub record IsRight (s : Topic) : Type 0 where
-  pub seated : AreSeated (is_directory (target_of s)) (number_of (target_of s)) (handles_of s)
+  pub on_topic : AreOn (is_directory (target_of s)) (number_of (target_of s)) (handles_of s)
   pub exact : HoldsWhatIsOwed s
 
 -- the numbers of a table rise, below the next one
 abbrev pub HasRisingNumbers : {T : Type 0} → Numbered T → Type 0
-HasRisingNumbers table = AreRising 0 (map (λ e. e.number) table.entries) table.next
+HasRisingNumbers table = RiseBetween 0 (map (λ e. e.number) table.entries) table.next
 
 -- each is where it says and holds what is owed, and no number of an object or a directory comes twice
 pub record ArePlaced (p : Places) : Type 0 where
-  pub objects_rise : AreRising 0 (map (λ e. e.number) p.objects.entries) p.objects.next
-  pub directories_rise : AreRising 0 (map (λ e. e.number) p.directories.entries) p.directories.next
+  pub objects_rise : RiseBetween 0 (map (λ e. e.number) p.objects.entries) p.objects.next
+  pub directories_rise : RiseBetween 0 (map (λ e. e.number) p.directories.entries) p.directories.next
   pub on : (f : Found) (s : Topic) → place_at f p ≡ Some s → target_of s ≡ f
   pub exact : (f : Found) (s : Topic) → place_at f p ≡ Some s → HoldsWhatIsOwed s
 
 -- ---- the whole
 
-abbrev pub handle_of_row : Whole → Numbering Found → Option (Open Seen)
+abbrev pub handle_of_row : Whole → Numbering Found → Option (OpenHandle Progress)
 handle_of_row w = row_handle (λ f. handles_at f w)
 
 -- all handles, in rising number
-abbrev pub handles_in : Whole → List (Open Seen)
+abbrev pub handles_in : Whole → List (OpenHandle Progress)
 handles_in w = filter_map (handle_of_row w) w.rows.entries
 
 -- this is the place of the handle of that number, if that is open
@@ -167,7 +167,7 @@ pub record IsFresh (object : ℕ) (s : Topic) : Type 0 where
 
 -- a place where handles can be opened, if there is one
 abbrev pub site_at : Found → Whole → Option Site
-site_at f w = option_map site_of (seats_at f w)
+site_at f w = option_map site_of (topic_at f w)
 
 -- handles can be opened on it
 abbrev pub HasSite : Found → Whole → Type 0
@@ -185,12 +185,12 @@ abbrev pub name_at : Found → Whole → List ℕ
 name_at f w = option_map_or (λ s. s.name) (site_at f w) []
 
 -- all handles after one was opened on an object or a directory
-abbrev pub with_opened_on : Found → Opening → Whole → List (Open Seen)
+abbrev pub with_opened_on : Found → Opening → Whole → List (OpenHandle Progress)
 with_opened_on f opening w = with_opened (number_of f) (name_at f w) opening (handles_in w)
 
 -- for how many more handles there is memory in a place
 abbrev pub room_at : Found → Whole → ℕ
-room_at f w = option_map_or places_for (seats_at f w) 0
+room_at f w = option_map_or places_for (topic_at f w) 0
 
 -- a handle of that kind may be opened there
 abbrev pub SuitsAt : HandleKind → Found → Whole → Type 0
@@ -212,7 +212,7 @@ abbrev pub KeepsPlaces : Whole → Whole → Type 0
 KeepsPlaces old new = (f : Found) → room_at f old ≤ room_at f new
 
 -- it is on that object or directory
-abbrev pub is_on : Found → Open Seen → Bool
+abbrev pub is_on : Found → OpenHandle Progress → Bool
 is_on (FoundObject n) = is_on_object n
 is_on (FoundDirectory n) = is_on_directory n
 
@@ -221,24 +221,24 @@ abbrev pub HasEachInPlace : Whole → Type 0
 HasEachInPlace w = (f : Found) → handles_at f w ≡ filter (is_on f) (handles_in w)
 
 -- the handles on an object or a directory, under its number
-abbrev pub Seating : Type 0
-Seating = Numbering Topic
+abbrev pub HandlesOf : Type 0
+HandlesOf = Numbering Topic
 
 -- the records that are held for them
-abbrev pub kept_for : Seating → List Entry
+abbrev pub kept_for : HandlesOf → List Entry
 kept_for x = kept_of x.value
 
 -- the same, if some were found
-abbrev pub kept_if : Option Seating → List Entry
-kept_if found = option_map_or kept_of (option_map (λ (x : Seating). x.value) found) []
+abbrev pub kept_if : Option HandlesOf → List Entry
+kept_if found = option_map_or kept_of (option_map (λ (x : HandlesOf). x.value) found) []
 
 -- those that are held for the handles under a number
-abbrev pub kept_under : ℕ → List Seating → List Entry
+abbrev pub kept_under : ℕ → List HandlesOf → List Entry
 kept_under number xs = kept_if (find (has_number number) xs)
 
 -- the records that are held in a place
 abbrev pub kept_at : Found → Whole → List Entry
-kept_at f w = option_map_or kept_of (seats_at f w) []
+kept_at f w = option_map_or kept_of (topic_at f w) []
 
 -- in each place are just the records that have to be kept for the readers of its object or directory
 abbrev pub HoldsJustWhatIsOwed : Whole → Type 0
@@ -256,7 +256,7 @@ abbrev pub HasRoomAt : List Entry → Found → Topic → Type 0
 HasRoomAt entries f s = 0 < length (handles_of s) → 0 < length (filter (is_told f) entries) → IsReady (filter (is_told f) entries) s
 
 abbrev pub HasRoom : List Entry → Whole → Type 0
-HasRoom entries w = (f : Found) (s : Topic) → seats_at f w ≡ Some s → HasRoomAt entries f s
+HasRoom entries w = (f : Found) (s : Topic) → topic_at f w ≡ Some s → HasRoomAt entries f s
 
 abbrev pub KeepsRecords : Whole → Whole → Type 0
 KeepsRecords old new = (entries : List Entry) → HasRoom entries old → HasRoom entries new
@@ -271,28 +271,28 @@ UsesRoom e old new = (entries : List Entry) → HasRoom (e ∷ entries) old → 
 
 -- ---- one handle changes
 
-abbrev pub changed : Change → Open Seen → Open Seen
+abbrev pub changed : Change → OpenHandle Progress → OpenHandle Progress
 changed CatchUp h = reseen caught_up h
 changed (Pass count) h = reseen (λ h. left h count h.seen) h
 changed (Park size) h = record h { parked = size }
 changed (Arm pulse) h = record h { armed = armed_pulse pulse }
 
 -- handles after the one of a number changed so
-abbrev pub with_changed : ℕ → Change → List (Open Seen) → List (Open Seen)
+abbrev pub with_changed : ℕ → Change → List (OpenHandle Progress) → List (OpenHandle Progress)
 with_changed number change handles = on_numbered number (changed change) handles
 
 -- ---- a record that is told
 
 -- The shares of a record are enough: where its object is a server's, one for each handle that is given it.
 abbrev pub IsSharedAt : ℕ → Entry → Found → Whole → Type 0
-IsSharedAt count e f w = IfSome (site_at f w) (λ s. s.service ≡ true → length (filter (λ (h : Open Seen). visible h e) (handles_at f w)) ≤ count)
+IsSharedAt count e f w = IfSome (site_at f w) (λ s. s.service ≡ true → length (filter (λ (h : OpenHandle Progress). visible h e) (handles_at f w)) ≤ count)
 
 abbrev pub IsShared : ℕ → Entry → Whole → Type 0
 IsShared count e w = IsSharedAt count e (FoundObject e.record_of.object) w
 
 -- there is room for records in one place
 abbrev pub HasRoomIn : List Entry → Found → Whole → Type 0
-HasRoomIn entries f w = IfSome (seats_at f w) (HasRoomAt entries f)
+HasRoomIn entries f w = IfSome (topic_at f w) (HasRoomAt entries f)
 
 -- where there was room for a record and others in one place, there is room for the others
 abbrev pub UsesRoomIn : Entry → Found → Whole → Whole → Type 0
@@ -302,7 +302,7 @@ UsesRoomIn e f old new = (entries : List Entry) → HasRoomIn (e ∷ entries) f 
 
 -- there is room for all of these in one place
 abbrev pub IsReadyAt : List Entry → Found → Whole → Type 0
-IsReadyAt entries f w = IfSome (seats_at f w) (IsReady entries)
+IsReadyAt entries f w = IfSome (topic_at f w) (IsReady entries)
 
 -- and wherever a record is told
 pub record IsReadyFor (entries : List Entry) (w : Whole) (e : Entry) : Type 0 where

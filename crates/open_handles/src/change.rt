@@ -3,7 +3,7 @@ ghost use Rattle.std.specs.Prelude.{◌≡◌, ◌<◌, ◌≤◌, ◌∷◌, �
 ghost use Rattle.std.specs.Prelude.{OnOk, OnErr};
 ghost use Rattle.pps_types.specs.Plan.{offer, without_number};
 ghost use Rattle.sub_reader.specs.HandleAt.{AreBelow};
-ghost use Rattle.topics.specs.Seated.{handles_of, handles_with, places_of, IsSameTarget, IsReady, IsEnough, KeepsRoom, Suits};
+ghost use Rattle.topics.specs.HandlesOf.{handles_of, handles_with, places_of, IsSameTarget, IsReady, IsEnough, KeepsRoom, Suits};
 ghost use Rattle.open_handles.specs.Whole.{with_changed, IsRight, UsesRoomAt};
 
 use pps_types::Handle;
@@ -26,97 +26,97 @@ pub(crate) enum Change {
 }
 
 /// Changes one handle in its place.
-pub(crate) fn change_in(seats: &mut Topic, number: Handle, change: Change)
-    ensures same { IsSameTarget seats.old seats.new }
-    ensures handles { handles_of seats.new ≡ with_changed number change (handles_of seats.old) }
-    ensures places { places_of seats.new ≡ places_of seats.old }
-    ensures seated { IsRight seats.new }
+pub(crate) fn change_in(topic: &mut Topic, number: Handle, change: Change)
+    ensures same { IsSameTarget topic.old topic.new }
+    ensures handles { handles_of topic.new ≡ with_changed number change (handles_of topic.old) }
+    ensures places { places_of topic.new ≡ places_of topic.old }
+    ensures on_topic { IsRight topic.new }
 {
     match change {
-        Change::CatchUp => seats.catch_up(number),
-        Change::Pass(count) => seats.pass(number, count),
-        Change::Park(size) => seats.park(number, size),
-        Change::Arm(pulse) => seats.arm(number, pulse),
+        Change::CatchUp => topic.catch_up(number),
+        Change::Pass(count) => topic.pass(number, count),
+        Change::Park(size) => topic.park(number, size),
+        Change::Arm(pulse) => topic.arm(number, pulse),
     }
-    seats.handles_are_seated();
-    seats.is_exact();
+    topic.handles_are_on_it();
+    topic.is_exact();
 }
 
 /// Closes a handle in its place.
-pub(crate) fn close_in(seats: &mut Topic, number: Handle)
-    ensures same { IsSameTarget seats.old seats.new }
-    ensures handles { handles_of seats.new ≡ without_number number (handles_of seats.old) }
-    ensures room { KeepsRoom seats.old seats.new }
-    ensures places { places_of seats.old ≤ places_of seats.new }
-    ensures seated { IsRight seats.new }
+pub(crate) fn close_in(topic: &mut Topic, number: Handle)
+    ensures same { IsSameTarget topic.old topic.new }
+    ensures handles { handles_of topic.new ≡ without_number number (handles_of topic.old) }
+    ensures room { KeepsRoom topic.old topic.new }
+    ensures places { places_of topic.old ≤ places_of topic.new }
+    ensures on_topic { IsRight topic.new }
 {
-    seats.close(number);
-    seats.handles_are_seated();
-    seats.is_exact();
+    topic.close(number);
+    topic.handles_are_on_it();
+    topic.is_exact();
 }
 
 /// Makes room for one more handle in a place.
-pub(crate) fn reserve_in(seats: &mut Topic) -> Result<(), AllocError>
-    ensures same { IsSameTarget seats.old seats.new }
-    ensures handles { handles_of seats.new ≡ handles_of seats.old }
-    ensures room { KeepsRoom seats.old seats.new }
-    ensures places { OnOk result (0 < places_of seats.new) }
-    ensures more { places_of seats.old ≤ places_of seats.new }
-    ensures lacking { OnErr result (places_of seats.old ≡ 0) }
-    ensures seated { IsRight seats.new }
+pub(crate) fn reserve_in(topic: &mut Topic) -> Result<(), AllocError>
+    ensures same { IsSameTarget topic.old topic.new }
+    ensures handles { handles_of topic.new ≡ handles_of topic.old }
+    ensures room { KeepsRoom topic.old topic.new }
+    ensures places { OnOk result (0 < places_of topic.new) }
+    ensures more { places_of topic.old ≤ places_of topic.new }
+    ensures lacking { OnErr result (places_of topic.old ≡ 0) }
+    ensures on_topic { IsRight topic.new }
 {
-    let made = seats.reserve_handle();
-    seats.handles_are_seated();
-    seats.is_exact();
+    let made = topic.reserve_handle();
+    topic.handles_are_on_it();
+    topic.is_exact();
     made
 }
 
 /// Opens a handle in its place.
-pub(crate) fn open_in(seats: &mut Topic, opening: Opening)
-    requires places { 0 < places_of seats.old }
-    requires suits { Suits opening.kind seats.old }
-    requires above { AreBelow opening.number (handles_of seats.old) }
-    ensures same { IsSameTarget seats.old seats.new }
-    ensures handles { handles_of seats.new ≡ handles_with opening seats.old }
-    ensures places { places_of seats.new + 1 ≡ places_of seats.old }
-    ensures seated { IsRight seats.new }
+pub(crate) fn open_in(topic: &mut Topic, opening: Opening)
+    requires places { 0 < places_of topic.old }
+    requires suits { Suits opening.kind topic.old }
+    requires above { AreBelow opening.number (handles_of topic.old) }
+    ensures same { IsSameTarget topic.old topic.new }
+    ensures handles { handles_of topic.new ≡ handles_with opening topic.old }
+    ensures places { places_of topic.new + 1 ≡ places_of topic.old }
+    ensures on_topic { IsRight topic.new }
 {
-    seats.open_reserved(opening);
-    seats.handles_are_seated();
-    seats.is_exact();
+    topic.open_reserved(opening);
+    topic.handles_are_on_it();
+    topic.is_exact();
 }
 
 /// Offers a record in a place, where there is room for it if handles are there.
-pub(crate) fn offer_in(seats: &mut Topic, shares: Shares)
-    requires room { 0 < length (handles_of seats.old) → IsReady (shares.entry ∷ []) seats.old }
-    requires enough { IsEnough shares.count shares.entry seats.old }
-    ensures same { IsSameTarget seats.old seats.new }
-    ensures handles { handles_of seats.new ≡ map (offer shares.entry) (handles_of seats.old) }
-    ensures room { UsesRoomAt shares.entry seats.old seats.new }
-    ensures places { places_of seats.new ≡ places_of seats.old }
-    ensures seated { IsRight seats.new }
+pub(crate) fn offer_in(topic: &mut Topic, shares: Shares)
+    requires room { 0 < length (handles_of topic.old) → IsReady (shares.entry ∷ []) topic.old }
+    requires enough { IsEnough shares.count shares.entry topic.old }
+    ensures same { IsSameTarget topic.old topic.new }
+    ensures handles { handles_of topic.new ≡ map (offer shares.entry) (handles_of topic.old) }
+    ensures room { UsesRoomAt shares.entry topic.old topic.new }
+    ensures places { places_of topic.new ≡ places_of topic.old }
+    ensures on_topic { IsRight topic.new }
 {
-    if seats.is_empty() {
-        seats.handles_are_seated();
-        seats.is_exact();
+    if topic.is_empty() {
+        topic.handles_are_on_it();
+        topic.is_exact();
         return;
     }
-    seats.offer(shares);
-    seats.handles_are_seated();
-    seats.is_exact();
+    topic.offer(shares);
+    topic.handles_are_on_it();
+    topic.is_exact();
 }
 
 /// Makes room for records in a place.
-pub(crate) fn reserve_records_in(seats: &mut Topic, entries: &[Entry]) -> Result<(), AllocError>
-    ensures same { IsSameTarget seats.old seats.new }
-    ensures handles { handles_of seats.new ≡ handles_of seats.old }
-    ensures room { KeepsRoom seats.old seats.new }
-    ensures places { places_of seats.new ≡ places_of seats.old }
-    ensures ready { OnOk result (IsReady entries.now seats.new) }
-    ensures seated { IsRight seats.new }
+pub(crate) fn reserve_records_in(topic: &mut Topic, entries: &[Entry]) -> Result<(), AllocError>
+    ensures same { IsSameTarget topic.old topic.new }
+    ensures handles { handles_of topic.new ≡ handles_of topic.old }
+    ensures room { KeepsRoom topic.old topic.new }
+    ensures places { places_of topic.new ≡ places_of topic.old }
+    ensures ready { OnOk result (IsReady entries.now topic.new) }
+    ensures on_topic { IsRight topic.new }
 {
-    let made = seats.reserve(entries);
-    seats.handles_are_seated();
-    seats.is_exact();
+    let made = topic.reserve(entries);
+    topic.handles_are_on_it();
+    topic.is_exact();
     made
 }

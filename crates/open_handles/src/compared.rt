@@ -10,20 +10,20 @@ use topics::Topic;
 
 impl Places {
     // Whether the same handles are on what these are on.
-    fn has_same(&self, seats: &Topic) -> bool
-        ensures { IsTrue result ↔ HasSame self.now seats.now }
+    fn has_same(&self, topic: &Topic) -> bool
+        ensures { IsTrue result ↔ HasSame self.now topic.now }
     {
-        match self.get(seats.target()) {
-            None => seats.is_empty(),
-            Some(other) => other.same_handles(seats),
+        match self.get(topic.target()) {
+            None => topic.is_empty(),
+            Some(other) => other.same_handles(topic),
         }
     }
 
     // Whether the same handles are on what each of these are on.
-    fn has_all(&self, seats: Iter<'_, Topic>) -> bool
-        ensures { IsTrue result ↔ AllByRecursion (HasSame self.now) seats.entry }
+    fn has_all(&self, topic: Iter<'_, Topic>) -> bool
+        ensures { IsTrue result ↔ AllByRecursion (HasSame self.now) topic.entry }
     {
-        let mut rest = seats;
+        let mut rest = topic;
         while let Some(each) = rest.next() {
             if !self.has_same(each) {
                 return false;

@@ -2,7 +2,7 @@
 ghost use Rattle.std.specs.Prelude.{◌≡◌, IfOk};
 ghost use Rattle.pps_types.specs.declared.found.Found.{Found as FoundAt};
 ghost use Rattle.number_table.specs.Numbered.{HasClones};
-ghost use Rattle.topics.specs.Seated.{IsCopy};
+ghost use Rattle.topics.specs.HandlesOf.{IsCopy};
 ghost use Rattle.open_handles.specs.Whole.{handles_in, kept_at, site_at};
 
 use crate::handles::Handles;

@@ -4,15 +4,15 @@ ghost use Rattle.std.specs.Option.{option_copied};
 ghost use Rattle.pps_types.specs.declared.found.Found.{Found as FoundAt};
 ghost use Rattle.pps_types.specs.declared.found.Found.TheVariants.{Object as FoundObject, Directory as FoundDirectory};
 ghost use Rattle.number_table.specs.Numbered.{value_at};
-ghost use Rattle.topics.specs.Seated.{name_of};
+ghost use Rattle.topics.specs.HandlesOf.{name_of};
 ghost use Rattle.topics.specs.Backlogs.{is_server_full_at, is_client_full_at, full_client_in};
 ghost use Rattle.sub_reader.specs.Opened.{armed_pulse, handle_at};
 ghost use Rattle.sub_reader.specs.HandleAt.{parked_at, armed_at, owed_at, with_caught_up, with_passed, with_parked, with_armed};
 ghost use Rattle.sub_reader.specs.Woken.{woken_by};
 ghost use Rattle.pps_types.specs.Plan.{offer, without_number};
-ghost use Rattle.pps_types.specs.WellFormed.{AreRising};
+ghost use Rattle.pps_types.specs.WellFormed.{RiseBetween};
 ghost use Rattle.open_handles.specs.Lookups.{ShowsOpening, ShowsGlance};
-ghost use Rattle.open_handles.specs.Whole.{Whole, handles_in, handles_at, seated_at, site_at, directory_site, plain_site, name_at, room_at, kept_at, is_on, is_told, with_opened_on, with_changed, HasSite, IfServed, IsObject, IsPlaceOf, IsShared, IsSharedAt, HasRoom, HasRoomIn, HasEachInPlace, HasRisingNumbers, HoldsJustWhatIsOwed, UsesRoom, UsesRoomIn, IsReadyAt, IsReadyFor, IsReserved, AreOfSame, SuitsAt, GoesIfUnused, StaysIfUsed, KeepsOthers, KeepsSites, KeepsPlaces, KeepsRecords, KeepsTable};
+ghost use Rattle.open_handles.specs.Whole.{Whole, handles_in, handles_at, handle_in_topic, site_at, directory_site, plain_site, name_at, room_at, kept_at, is_on, is_told, with_opened_on, with_changed, HasSite, IfServed, IsObject, IsPlaceOf, IsShared, IsSharedAt, HasRoom, HasRoomIn, HasEachInPlace, HasRisingNumbers, HoldsJustWhatIsOwed, UsesRoom, UsesRoomIn, IsReadyAt, IsReadyFor, IsReserved, AreOfSame, SuitsAt, GoesIfUnused, StaysIfUsed, KeepsOthers, KeepsSites, KeepsPlaces, KeepsRecords, KeepsTable};
 
 use crate::change::{
     Change, change_in, close_in, offer_in, open_in, reserve_in, reserve_records_in,
@@ -41,7 +41,7 @@ pub struct Opened<'a> {
 #[derive(Drop)]
 pub struct Looked<'a> {
     pub found: Found,
-    pub seats: &'a Topic,
+    pub topic: &'a Topic,
     pub glance: Glance<'a>,
 }
 
@@ -185,8 +185,8 @@ impl Handles {
         ensures places { KeepsPlaces self.old self.new }
         ensures records { KeepsRecords self.old self.new }
     {
-        let NewSite { object, seats } = fresh;
-        self.places.objects.push_reserved(object.number(), seats);
+        let NewSite { object, topic } = fresh;
+        self.places.objects.push_reserved(object.number(), topic);
     }
 
     /// Adds a plain object that handles can be opened on, into room that was made before. Its number is above all so far. Room
@@ -204,8 +204,8 @@ impl Handles {
         ensures places { KeepsPlaces self.old self.new }
         ensures records { KeepsRecords self.old self.new }
     {
-        let seats = Topic::of_object(alloc, object, name);
-        self.places.objects.push_reserved(object.number(), seats);
+        let topic = Topic::of_object(alloc, object, name);
+        self.places.objects.push_reserved(object.number(), topic);
     }
 
     /// Adds a directory that handles can be opened on, into room that was made before. Its number is above all so far. It
@@ -223,10 +223,10 @@ impl Handles {
         ensures places { KeepsPlaces self.old self.new }
         ensures records { KeepsRecords self.old self.new }
     {
-        let seats = Topic::of_directory(alloc, directory);
+        let topic = Topic::of_directory(alloc, directory);
         self.places
             .directories
-            .push_reserved(directory.number(), seats);
+            .push_reserved(directory.number(), topic);
     }
 
     /// Makes room for one more handle on an object or a directory. Where nothing is there to open on, no room is wanted. What
@@ -243,10 +243,10 @@ impl Handles {
         ensures place { OnOk result (HasSite found self.old → 0 < room_at found self.new) }
         ensures lacking { OnErr result (0 < self.old.rows.room → room_at found self.old ≡ 0) }
     {
-        let Some(seats) = self.places.get_mut(found) else {
+        let Some(topic) = self.places.get_mut(found) else {
             return Ok(());
         };
-        reserve_in(seats)?;
+        reserve_in(topic)?;
         self.rows.reserve(1)
     }
 
@@ -278,8 +278,8 @@ impl Handles {
         ensures next { self.new.rows.next ≡ opening.number + 1 }
     {
         let row = row_of(&found);
-        let seats = self.places.known_mut(found);
-        open_in(seats, opening);
+        let topic = self.places.known_mut(found);
+        open_in(topic, opening);
         self.rows.push_reserved(number, row);
     }
 
@@ -294,10 +294,10 @@ impl Handles {
         let Some(found) = self.target_of(handle) else {
             return;
         };
-        let Some(seats) = self.places.get_mut(found) else {
+        let Some(topic) = self.places.get_mut(found) else {
             return;
         };
-        close_in(seats, handle);
+        close_in(topic, handle);
         let _row = self.rows.remove(u64::from(handle.number()));
     }
 
@@ -311,10 +311,10 @@ impl Handles {
         let Some(found) = self.target_of(handle) else {
             return;
         };
-        let Some(seats) = self.places.get_mut(found) else {
+        let Some(topic) = self.places.get_mut(found) else {
             return;
         };
-        change_in(seats, handle, change);
+        change_in(topic, handle, change);
     }
 
     /// A handle, if it is open, has read everything. It takes no memory.
@@ -359,7 +359,7 @@ impl Handles {
 
     // The handles of the place where a handle is, if it is open.
     fn place_of(&self, handle: Handle) -> Option<&Topic>
-        ensures { handle_at handle (handles_in self.now) ≡ seated_at handle (option_copied result) }
+        ensures { handle_at handle (handles_in self.now) ≡ handle_in_topic handle (option_copied result) }
     {
         let Some(found) = self.rows.get(u64::from(handle.number())) else {
             return None;
@@ -373,7 +373,7 @@ impl Handles {
     {
         match self.place_of(handle) {
             None => None,
-            Some(seats) => seats.parked(handle),
+            Some(topic) => topic.parked(handle),
         }
     }
 
@@ -383,7 +383,7 @@ impl Handles {
     {
         match self.place_of(handle) {
             None => None,
-            Some(seats) => seats.armed(handle),
+            Some(topic) => topic.armed(handle),
         }
     }
 
@@ -393,7 +393,7 @@ impl Handles {
     {
         match self.places.get(found) {
             None => &[],
-            Some(seats) => seats.name(),
+            Some(topic) => topic.name(),
         }
     }
 
@@ -404,7 +404,7 @@ impl Handles {
     {
         match self.place_of(handle) {
             None => None,
-            Some(seats) => seats.owed(handle),
+            Some(topic) => topic.owed(handle),
         }
     }
 
@@ -415,7 +415,7 @@ impl Handles {
     {
         match self.places.get(Found::Object(object)) {
             None => false,
-            Some(seats) => seats.is_server_full(server, client),
+            Some(topic) => topic.is_server_full(server, client),
         }
     }
 
@@ -426,7 +426,7 @@ impl Handles {
     {
         match self.places.get(Found::Object(object)) {
             None => false,
-            Some(seats) => seats.is_client_full(client),
+            Some(topic) => topic.is_client_full(client),
         }
     }
 
@@ -438,7 +438,7 @@ impl Handles {
     {
         match self.places.get(Found::Object(object)) {
             None => None,
-            Some(seats) => seats.full_client(),
+            Some(topic) => topic.full_client(),
         }
     }
 
@@ -453,7 +453,7 @@ impl Handles {
     {
         match self.places.get(found) {
             None => Ok(Vec::new(alloc)),
-            Some(seats) => seats.woken_by(alloc, entries),
+            Some(topic) => topic.woken_by(alloc, entries),
         }
     }
 
@@ -492,7 +492,7 @@ impl Handles {
     {
         match self.places.get(found) {
             None => true,
-            Some(seats) => seats.is_empty(),
+            Some(topic) => topic.is_empty(),
         }
     }
 
@@ -507,7 +507,7 @@ impl Handles {
     /// numbers of all handles rise, below the next one.
     pub fn handles_are_placed(&self)
         ensures placed { HasEachInPlace self.now }
-        ensures rise { AreRising 0 (map (λ h. h.number) (handles_in self.now)) self.now.rows.next }
+        ensures rise { RiseBetween 0 (map (λ h. h.number) (handles_in self.now)) self.now.rows.next }
     {
         let _count = self.rows.len();
     }
@@ -534,7 +534,7 @@ impl Handles {
     {
         match self.places.get(found) {
             None => 0,
-            Some(seats) => seats.kept(),
+            Some(topic) => topic.kept(),
         }
     }
 
@@ -573,10 +573,10 @@ impl Handles {
         let Some(found) = self.rows.get(u64::from(handle.number())) else {
             return None;
         };
-        let Some(seats) = self.places.get(*found) else {
+        let Some(topic) = self.places.get(*found) else {
             return None;
         };
-        let Some(opening) = seats.opening(handle) else {
+        let Some(opening) = topic.opening(handle) else {
             return None;
         };
         Some(Opened {
@@ -588,21 +588,21 @@ impl Handles {
     /// What is seen of a handle at one look, if it is open. What a read gives of what it is owed is asked of the handles there.
     pub fn look(&self, handle: Handle) -> Option<Looked<'_>>
         ensures glance { ShowsGlance handle self.now result }
-        ensures seats { IfSome result (λ o. IsPlaceOf handle self.now o.seats.now) }
-        ensures name { IfSome result (λ o. name_of o.seats.now ≡ name_at o.found self.now) }
+        ensures topic { IfSome result (λ o. IsPlaceOf handle self.now o.topic.now) }
+        ensures name { IfSome result (λ o. name_of o.topic.now ≡ name_at o.found self.now) }
     {
         let Some(found) = self.rows.get(u64::from(handle.number())) else {
             return None;
         };
-        let Some(seats) = self.places.get(*found) else {
+        let Some(topic) = self.places.get(*found) else {
             return None;
         };
-        let Some(glance) = seats.glance(handle) else {
+        let Some(glance) = topic.glance(handle) else {
             return None;
         };
         Some(Looked {
             found: *found,
-            seats,
+            topic,
             glance,
         })
     }
@@ -630,7 +630,7 @@ impl Handles {
         let object = entry.record().object;
         match self.places.get(Found::Object(object)) {
             None => Shares::new(alloc, entry, 0),
-            Some(seats) => seats.shares(alloc, entry),
+            Some(topic) => topic.shares(alloc, entry),
         }
     }
 
@@ -647,10 +647,10 @@ impl Handles {
         ensures places { KeepsPlaces self.old self.new }
         ensures records { UsesRoomIn shares.entry found self.old self.new }
     {
-        let Some(seats) = self.places.get_mut(found) else {
+        let Some(topic) = self.places.get_mut(found) else {
             return;
         };
-        offer_in(seats, shares);
+        offer_in(topic, shares);
     }
 
     /// Offers all handles a record, for which there is room, and of which there are shares enough: each that sees it is owed it
@@ -681,10 +681,10 @@ impl Handles {
         ensures reserved { IsReserved self.old self.new }
         ensures ready { OnOk result (IsReadyAt entries.now found self.new) }
     {
-        let Some(seats) = self.places.get_mut(found) else {
+        let Some(topic) = self.places.get_mut(found) else {
             return Ok(());
         };
-        reserve_records_in(seats, entries)
+        reserve_records_in(topic, entries)
     }
 
     // Makes room for records wherever one of them is told.

@@ -1,7 +1,7 @@
 //! An object that is to be added.
 ghost use Rattle.std.specs.Prelude.{◌≡◌, [], IfOk};
 ghost use Rattle.pps_types.specs.declared.found.Found.TheVariants.{Object as FoundObject};
-ghost use Rattle.topics.specs.Seated.{target_of, name_of, handles_of, kept_of, is_service};
+ghost use Rattle.topics.specs.HandlesOf.{target_of, name_of, handles_of, kept_of, is_service};
 
 use pps_types::{Bytes, ObjId};
 use std::alloc::{AllocError, Global};
@@ -9,7 +9,7 @@ use std::marker::Model;
 use topics::Topic;
 
 /// An object without handles, a server's or a plain one.
-fn seats_of(alloc: Global, object: ObjId, name: Bytes, is_served: bool) -> Topic
+fn topic_of(alloc: Global, object: ObjId, name: Bytes, is_served: bool) -> Topic
     ensures target { target_of result ≡ FoundObject object }
     ensures name { name_of result ≡ name }
     ensures handles { handles_of result ≡ [] }
@@ -27,7 +27,7 @@ fn seats_of(alloc: Global, object: ObjId, name: Bytes, is_served: bool) -> Topic
 #[derive(Drop)]
 pub struct NewSite {
     pub(crate) object: ObjId,
-    pub(crate) seats: Topic,
+    pub(crate) topic: Topic,
 }
 
 impl Model for NewSite {
@@ -35,9 +35,9 @@ impl Model for NewSite {
 
     ghost Value = { Fresh };
 
-    ghost view = { λ x. record { object = x.object; site = site_of x.seats } };
+    ghost view = { λ x. record { object = x.object; site = site_of x.topic } };
 
-    ghost invariant = { λ x. IsFresh x.object x.seats };
+    ghost invariant = { λ x. IsFresh x.object x.topic };
 }
 
 impl NewSite {
@@ -53,8 +53,8 @@ impl NewSite {
         ensures object { IfOk result (λ fresh. fresh.object ≡ object) }
         ensures site { IfOk result (λ x. x.site ≡ record { name = name; service = is_served }) }
     {
-        let mut seats = seats_of(alloc, object, name, is_served);
-        seats.reserve_handle()?;
-        Ok(NewSite { object, seats })
+        let mut topic = topic_of(alloc, object, name, is_served);
+        topic.reserve_handle()?;
+        Ok(NewSite { object, topic })
     }
 }

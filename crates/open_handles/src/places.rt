@@ -21,7 +21,7 @@ pub(crate) struct Places {
 
 impl Places {
     ghost use Rattle.open_handles.specs.contracts.places.Places.{the_row};
-    ghost use Rattle.topics.specs.contracts.topic.Topic.{the_row as seats_row};
+    ghost use Rattle.topics.specs.contracts.topic.Topic.{the_row as topic_row};
 
     /// The handles on an object or a directory.
     pub(crate) fn get(&self, found: Found) -> Option<&Topic>
@@ -35,7 +35,7 @@ impl Places {
 
     /// The handles on an object or a directory, to be changed in place.
     pub(crate) fn get_mut(&mut self, found: Found) -> Option<&mut Topic>
-        ensures* writes_back { sem 𝓛 (LendsIf the_row seats_row self.entry result
+        ensures* writes_back { sem 𝓛 (LendsIf the_row topic_row self.entry result
             (with_place self.old found) self.old) }
         ensures value { option_copied_mut result ≡ place_at found self.old }
     {
@@ -48,7 +48,7 @@ impl Places {
     /// The handles on an object or a directory, which is there, to be changed in place.
     pub(crate) fn known_mut(&mut self, found: Found) -> &mut Topic
         requires { IsSome (place_at found self.old) }
-        ensures* writes_back { sem 𝓛 (Lends the_row seats_row self.entry result
+        ensures* writes_back { sem 𝓛 (Lends the_row topic_row self.entry result
             (with_place self.old found)) }
         ensures value { place_at found self.old ≡ Some result.now }
     {
@@ -65,10 +65,10 @@ pub(crate) fn drop_unused(table: &mut Table<Topic>, number: u64)
     ensures used { (HasNoneAt number table.old → ⊥) → table.new ≡ table.old }
     ensures kept { KeepsTable table.old table.new }
 {
-    let Some(seats) = table.get(number) else {
+    let Some(topic) = table.get(number) else {
         return;
     };
-    if seats.is_empty() {
-        let _seats = table.remove(number);
+    if topic.is_empty() {
+        let _topic = table.remove(number);
     }
 }

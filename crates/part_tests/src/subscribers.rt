@@ -1,7 +1,7 @@
 ghost use Rattle.std.specs.Prelude.{◌≡◌, true, OnOk};
 ghost use Rattle.sub_reader.specs.Opened.{is_reader};
 ghost use Rattle.sub_reader.specs.HandleAt.{AreBelow};
-ghost use Rattle.sub_reader.specs.Seated.{SuitsTarget};
+ghost use Rattle.sub_reader.specs.HandlesOf.{SuitsTarget};
 ghost use Rattle.sub_reader.specs.Standing.{handles_with};
 
 use crate::steps::{assert_met, is_alone, limit_of, lines, opening};

@@ -1,6 +1,6 @@
 ghost use Rattle.std.specs.Prelude.{◌≡◌, OnOk};
 ghost use Rattle.sub_reader.specs.HandleAt.{AreBelow};
-ghost use Rattle.topics.specs.Seated.{IsSameTarget, Suits, handles_of, handles_with};
+ghost use Rattle.topics.specs.HandlesOf.{IsSameTarget, Suits, handles_of, handles_with};
 
 use crate::steps::{assert_met, is_alone, opening};
 use pps_types::{Bytes, DirId, Handle, HandleKind, Kind, ObjId, Record, Refusal};
@@ -12,46 +12,46 @@ use sub_reader::{Opening, Pulse};
 use topics::Topic;
 
 /// Opens a handle.
-fn open(seats: &mut Topic, opening: Opening) -> Result<(), AllocError>
-    requires suits { Suits opening.kind seats.old }
-    requires above { AreBelow opening.number (handles_of seats.old) }
-    ensures same { IsSameTarget seats.old seats.new }
-    ensures handles { OnOk result (handles_of seats.new ≡ handles_with opening seats.old) }
+fn open(topic: &mut Topic, opening: Opening) -> Result<(), AllocError>
+    requires suits { Suits opening.kind topic.old }
+    requires above { AreBelow opening.number (handles_of topic.old) }
+    ensures same { IsSameTarget topic.old topic.new }
+    ensures handles { OnOk result (handles_of topic.new ≡ handles_with opening topic.old) }
 {
-    seats.reserve_handle()?;
-    seats.open_reserved(opening);
+    topic.reserve_handle()?;
+    topic.open_reserved(opening);
     Ok(())
 }
 
 /// The handle 3 in delta mode and the handle 5 in full mode, on a plain object.
 fn readers(alloc: Global) -> Result<Topic, AllocError> {
     let name = Bytes::from_slice(alloc, b"gps")?;
-    let mut seats = Topic::of_object(alloc, ObjId::new(1), name);
+    let mut topic = Topic::of_object(alloc, ObjId::new(1), name);
     open(
-        &mut seats,
+        &mut topic,
         opening(3, HandleKind::Object { delta: true }, 2),
     )?;
     open(
-        &mut seats,
+        &mut topic,
         opening(5, HandleKind::Object { delta: false }, 2),
     )?;
-    Ok(seats)
+    Ok(topic)
 }
 
 /// The server's handle 3 and the client's handle 4, on a server object.
 fn served(alloc: Global) -> Result<Topic, AllocError> {
     let name = Bytes::from_slice(alloc, b"srv")?;
-    let mut seats = Topic::of_service(alloc, ObjId::new(1), name);
-    open(&mut seats, opening(3, HandleKind::Server, 2))?;
-    open(&mut seats, opening(4, HandleKind::Client, 2))?;
-    Ok(seats)
+    let mut topic = Topic::of_service(alloc, ObjId::new(1), name);
+    open(&mut topic, opening(3, HandleKind::Server, 2))?;
+    open(&mut topic, opening(4, HandleKind::Client, 2))?;
+    Ok(topic)
 }
 
 /// The handle 3 for the names alone, on a directory.
 fn listened(alloc: Global) -> Result<Topic, AllocError> {
-    let mut seats = Topic::of_directory(alloc, DirId::new(7));
-    open(&mut seats, opening(3, HandleKind::Names, 2))?;
-    Ok(seats)
+    let mut topic = Topic::of_directory(alloc, DirId::new(7));
+    open(&mut topic, opening(3, HandleKind::Names, 2))?;
+    Ok(topic)
 }
 
 /// A record of object 1, by that handle or by none.
@@ -65,34 +65,34 @@ fn entry(alloc: Global, kind: Kind, writer: Option<Handle>) -> Result<Entry, All
 }
 
 /// Offers a record by no handle.
-fn offer(alloc: Global, seats: &mut Topic, kind: Kind) -> Result<(), AllocError> {
+fn offer(alloc: Global, topic: &mut Topic, kind: Kind) -> Result<(), AllocError> {
     let made = entry(alloc, kind, None)?;
-    seats.reserve(std::slice::from_ref(&made))?;
-    let shares = seats.shares(alloc, made)?;
-    seats.offer(shares);
+    topic.reserve(std::slice::from_ref(&made))?;
+    let shares = topic.shares(alloc, made)?;
+    topic.offer(shares);
     Ok(())
 }
 
 /// Whether a truncation by the handle 5 wakes that handle alone.
-fn wakes(alloc: Global, seats: &Topic, handle: u32) -> Result<bool, AllocError> {
+fn wakes(alloc: Global, topic: &Topic, handle: u32) -> Result<bool, AllocError> {
     let made = entry(alloc, Kind::Truncated, Some(Handle::new(5)))?;
-    let woken = seats.woken_by(alloc, std::slice::from_ref(&made))?;
+    let woken = topic.woken_by(alloc, std::slice::from_ref(&made))?;
     Ok(is_alone(woken.as_slice(), Some(handle)))
 }
 
 /// Whether a read of 100 bytes gives this text, of so many records.
 fn gives(
     alloc: Global,
-    seats: &Topic,
+    topic: &Topic,
     handle: u32,
     count: usize,
     text: &[u8],
 ) -> Result<bool, Refusal> {
-    let given = seats.read_owed(alloc, Handle::new(handle), 100)?;
+    let given = topic.read_owed(alloc, Handle::new(handle), 100)?;
     Ok(given.count == count && given.text.as_slice() == text)
 }
 
-/// A call of seats, or what they have to answer.
+/// A call of a topic, or what it has to answer.
 #[derive(Clone, Copy)]
 enum Step {
     OfferTruncation,
@@ -105,9 +105,9 @@ enum Step {
     Close(u32),
     Park(u32, Option<u32>),
     Arm(u32, Option<Pulse>),
-    /// The other seats are a copy of these from here on.
+    /// The other topic is a copy of this one from here on.
     Copy,
-    /// The steps after this one are of the other seats.
+    /// The steps after this one are of the other topic.
     Swap,
     IsService(bool),
     IsEmpty(bool),
@@ -122,7 +122,7 @@ enum Step {
     Gives(u32, usize, &'static [u8]),
     /// A truncation by the handle 5 wakes that handle alone.
     Wakes(u32),
-    /// Whether both seats hold the same.
+    /// Whether both topics hold the same.
     Same(bool),
 }
 
@@ -136,55 +136,55 @@ struct Steps {
 /// Topic and others.
 #[derive(Drop)]
 struct Pair {
-    seats: Topic,
+    topic: Topic,
     other: Topic,
 }
 
 /// Carries out a call. Whether the step is one.
 fn is_carried_out(alloc: Global, pair: &mut Pair, step: Step) -> Result<bool, Refusal> {
-    let seats = &mut pair.seats;
+    let topic = &mut pair.topic;
     match step {
-        Step::OfferTruncation => offer(alloc, seats, Kind::Truncated)?,
-        Step::OfferClosing(handle) => offer(alloc, seats, Kind::Closed(Handle::new(handle)))?,
-        Step::Pass(handle, count) => seats.pass(Handle::new(handle), count),
-        Step::CatchUp(handle) => seats.catch_up(Handle::new(handle)),
-        Step::Close(handle) => seats.close(Handle::new(handle)),
-        Step::Park(handle, max) => seats.park(Handle::new(handle), max),
-        Step::Arm(handle, pulse) => seats.arm(Handle::new(handle), pulse),
-        Step::Copy => pair.other = seats.copy()?,
-        Step::Swap => std::mem::swap(&mut pair.seats, &mut pair.other),
+        Step::OfferTruncation => offer(alloc, topic, Kind::Truncated)?,
+        Step::OfferClosing(handle) => offer(alloc, topic, Kind::Closed(Handle::new(handle)))?,
+        Step::Pass(handle, count) => topic.pass(Handle::new(handle), count),
+        Step::CatchUp(handle) => topic.catch_up(Handle::new(handle)),
+        Step::Close(handle) => topic.close(Handle::new(handle)),
+        Step::Park(handle, max) => topic.park(Handle::new(handle), max),
+        Step::Arm(handle, pulse) => topic.arm(Handle::new(handle), pulse),
+        Step::Copy => pair.other = topic.copy()?,
+        Step::Swap => std::mem::swap(&mut pair.topic, &mut pair.other),
         _ => return Ok(false),
     }
     Ok(true)
 }
 
-/// Whether the seats answer as the step says.
+/// Whether the topic answers as the step says.
 fn is_answered(alloc: Global, pair: &Pair, step: Step) -> Result<bool, Refusal> {
-    let seats = &pair.seats;
+    let topic = &pair.topic;
     Ok(match step {
-        Step::IsService(is) => seats.is_service() == is,
-        Step::IsEmpty(is) => seats.is_empty() == is,
-        Step::IsThere(handle, is) => seats.opening(Handle::new(handle)).is_some() == is,
-        Step::Owed(handle, count) => seats.owed(Handle::new(handle)) == count,
-        Step::HasNews(handle, has) => seats.has_news(Handle::new(handle)) == has,
-        Step::Parked(handle, max) => seats.parked(Handle::new(handle)) == max,
-        Step::Armed(handle, pulse) => seats.armed(Handle::new(handle)) == pulse,
-        Step::Gives(handle, count, text) => gives(alloc, seats, handle, count, text)?,
-        Step::Wakes(handle) => wakes(alloc, seats, handle)?,
-        Step::Same(is) => pair.other.same(seats) == is,
+        Step::IsService(is) => topic.is_service() == is,
+        Step::IsEmpty(is) => topic.is_empty() == is,
+        Step::IsThere(handle, is) => topic.opening(Handle::new(handle)).is_some() == is,
+        Step::Owed(handle, count) => topic.owed(Handle::new(handle)) == count,
+        Step::HasNews(handle, has) => topic.has_news(Handle::new(handle)) == has,
+        Step::Parked(handle, max) => topic.parked(Handle::new(handle)) == max,
+        Step::Armed(handle, pulse) => topic.armed(Handle::new(handle)) == pulse,
+        Step::Gives(handle, count, text) => gives(alloc, topic, handle, count, text)?,
+        Step::Wakes(handle) => wakes(alloc, topic, handle)?,
+        Step::Same(is) => pair.other.same(topic) == is,
         _ => false,
     })
 }
 
-/// Plays the steps in turn, of these seats and the others.
+/// Plays the steps in turn, of this topic and the other.
 fn play(
     rt: &impl Abort,
     alloc: Global,
-    seats: Topic,
+    topic: Topic,
     other: Topic,
     steps: &Steps,
 ) -> Result<(), Refusal> {
-    let mut pair = Pair { seats, other };
+    let mut pair = Pair { topic, other };
     for (number, step) in steps.list.iter().enumerate() {
         let is_met = is_carried_out(alloc, &mut pair, *step)? || is_answered(alloc, &pair, *step)?;
         assert_met(rt, is_met, steps.name, number);
@@ -234,7 +234,7 @@ const OF_READERS: &[Steps] = &[
             Step::Wakes(3),
         ],
     },
-    // At first the other seats are those of the server object.
+    // At first the other topic is that of the server object.
     Steps {
         name: "a_copy_is_the_same",
         list: &[
@@ -274,7 +274,7 @@ const OF_A_DIRECTORY: Steps = Steps {
 };
 
 #[test]
-fn seats_answer_in_turn(rt: HostRuntime) -> Result<(), Fail> {
+fn topics_answer_in_turn(rt: HostRuntime) -> Result<(), Fail> {
     let alloc = rt.alloc();
     for steps in OF_READERS {
         play(&rt, alloc, readers(alloc)?, served(alloc)?, steps)?;

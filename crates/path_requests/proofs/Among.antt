@@ -2,8 +2,8 @@
 use Rattle.std.specs.Prelude.{◌≡◌, ◌≢◌, ◌↔◌, ◌&&◌, ◌==◌, ℕ, Bool, true, false, not, IsTrue, List, [], ◌∷◌, Option, Some, None, is_some, find, filter, length, option_map}
 use Rattle.std.specs.Option.{option_map_or}
 use Rattle.std.proofs.Common.{refl, sym, ◌∙◌, ap, cond, eqb, eqb-true, eq-eqb}
-use Rattle.pps_types.specs.Reading.{Open, is_directory_kind}
-use Rattle.pps_types.specs.Rests.{Seen}
+use Rattle.pps_types.specs.Reading.{OpenHandle, is_directory_kind}
+use Rattle.pps_types.specs.Rests.{Progress}
 use Rattle.pps_types.specs.Content.{Content, Directory, members}
 use Rattle.service_laws.specs.Concerned.{is_on_object}
 
@@ -42,8 +42,8 @@ module _ {X : Type 0} (p q : X → Bool) (same : (x : X) → p x ≡ q x) where
       by (y ∷ ys) e = absurd (let yes = told.1 (λ none. let no = sym e ∙ none in cc) in cc)
 
 -- a handle is on the object
-pub handles_told : (n : ℕ) (hs : List (Open Seen)) (b : Bool) → IsTrue b ↔ (filter (is_on_object n) hs ≢ []) → b ≡ is_some (find (λ (h : Open Seen). not (is_directory_kind h.kind) && (h.target == n)) hs)
-handles_told n hs b told = found-told (λ (h : Open Seen). not (is_directory_kind h.kind) && (h.target == n)) (is_on_object n) (λ h. ap (λ b. not (is_directory_kind h.kind) && b) (eqb-sym h.target n)) hs b told
+pub handles_told : (n : ℕ) (hs : List (OpenHandle Progress)) (b : Bool) → IsTrue b ↔ (filter (is_on_object n) hs ≢ []) → b ≡ is_some (find (λ (h : OpenHandle Progress). not (is_directory_kind h.kind) && (h.target == n)) hs)
+handles_told n hs b told = found-told (λ (h : OpenHandle Progress). not (is_directory_kind h.kind) && (h.target == n)) (is_on_object n) (λ h. ap (λ b. not (is_directory_kind h.kind) && b) (eqb-sym h.target n)) hs b told
 
 -- the objects beside a path
 pub beside_told : (c : Content) (d : Option Directory) → length (option_map_or (λ (d : Directory). members c d.number) d []) ≡ option_map_or (λ n. length (members c n)) (option_map (λ (d : Directory). d.number) d) 0

@@ -3,7 +3,7 @@ use Rattle.std.specs.Prelude.{◌≡◌, ◌<◌, ◌≤◌, ◌+◌, ◌-◌, �
 use Rattle.std.proofs.Common.{refl, ◌∙◌, ap, arith, lit≤}
 use Rattle.std.proofs.lemmas.Bool.Decides.{Decides-ltb}
 use Rattle.pps_types.specs.OpenText.{OpenSpec}
-use Rattle.pps_types.specs.Reading.{Open}
+use Rattle.pps_types.specs.Reading.{OpenHandle}
 use Rattle.pps_types.specs.Content.{Content, LiveObject, object_numbered}
 use Rattle.pps_types.specs.Plan.{Opens as OpensHandle, new_object}
 use Rattle.pps_types.specs.declared.handle_kind.HandleKind.{HandleKind}
@@ -14,7 +14,7 @@ use Rattle.path_requests.specs.declared.ways.Step.TheVariants.{Stays, Tells, Cre
 use Rattle.path_requests.specs.Ways.{CanStep, IsFollowedBy, step_moves, step_records, step_objects}
 
 -- the counts of a step are those of its moves
-pub step_counted : (t : Tabled) (spec : OpenSpec) (kind : HandleKind) (step : Step) (h : Open (Unit {0})) → CanStep t spec kind step
+pub step_counted : (t : Tabled) (spec : OpenSpec) (kind : HandleKind) (step : Step) (h : OpenHandle (Unit {0})) → CanStep t spec kind step
     → last_number_passed_after (content_in t) (step_moves (content_in t) spec step ++ OpensHandle h ∷ []) ≡ last_number_passed (content_in t) (step_records step) (step_objects step) 0
 step_counted t spec kind (Stays found) h able = refl
 step_counted t spec kind (Creates directory) h able = refl

@@ -16,8 +16,8 @@ use Rattle.pps_types.specs.declared.found.Found.TheVariants.{Object as FoundObje
 use Rattle.pps_types.specs.Bytes.{◌>>=◌, is_empty}
 use Rattle.pps_types.specs.Names.{Path, last_name, place, find_at, same_path}
 use Rattle.pps_types.specs.OpenText.{path_text}
-use Rattle.pps_types.specs.Reading.{Open, is_directory_kind}
-use Rattle.pps_types.specs.Rests.{Seen}
+use Rattle.pps_types.specs.Reading.{OpenHandle, is_directory_kind}
+use Rattle.pps_types.specs.Rests.{Progress}
 use Rattle.pps_types.specs.Content.{Content, LiveObject, Directory, at, object_at, object_in, directory_at, parent_number, object_numbered, members, subdirectories, has_directory_handle}
 use Rattle.pps_types.specs.Checks.{Check, Refuse, first_refusal, parsed, unlink_checks, unlink_found}
 use Rattle.pps_types.specs.Plan.{Move, AppendsRecord, RemovesDirectory, entry_of, effect, unlinking}
@@ -133,7 +133,7 @@ or_none false b e = (refl, (e, tt))
 pub used_by : (c : Content) (n : ℕ) (b : Bool) → (IsTrue b ↔ (filter (is_on_directory n) c.handles ≢ [])) → b ≡ has_directory_handle c n
 used_by c n b iff = by b iff
   where
-    flipped : (h : Open Seen) → is_on_directory n h ≡ (is_directory_kind h.kind && (h.target == n))
+    flipped : (h : OpenHandle Progress) → is_on_directory n h ≡ (is_directory_kind h.kind && (h.target == n))
     flipped h = ap (λ x. is_directory_kind h.kind && x) (turned (n == h.target) refl (h.target == n) refl)
       where
         turned : (a : Bool) → (n == h.target) ≡ a → (b : Bool) → (h.target == n) ≡ b → a ≡ b
@@ -142,22 +142,22 @@ used_by c n b iff = by b iff
         turned true p false q = let bad : false ≡ true = sym q ∙ eq-eqb h.target n (sym (eqb-true n h.target p)) in absurd (let b = bad in cc)
         turned false p true q = let bad : false ≡ true = sym p ∙ eq-eqb n h.target (sym (eqb-true h.target n q)) in absurd (let b = bad in cc)
 
-    found : (hs : List (Open Seen)) → is_some (find (λ (h : Open Seen). is_directory_kind h.kind && (h.target == n)) hs) ≡ not (is_empty (filter (is_on_directory n) hs))
+    found : (hs : List (OpenHandle Progress)) → is_some (find (λ (h : OpenHandle Progress). is_directory_kind h.kind && (h.target == n)) hs) ≡ not (is_empty (filter (is_on_directory n) hs))
     found [] = refl
     found (h ∷ hs) = one (is_directory_kind h.kind && (h.target == n)) (is_on_directory n h) (sym (flipped h)) (found hs)
       where
-        one : (a b : Bool) → a ≡ b → is_some (find (λ (h : Open Seen). is_directory_kind h.kind && (h.target == n)) hs) ≡ not (is_empty (filter (is_on_directory n) hs))
-            → is_some (cond a (Some h) (find (λ (h : Open Seen). is_directory_kind h.kind && (h.target == n)) hs)) ≡ not (is_empty (cond b (h ∷ filter (is_on_directory n) hs) (filter (is_on_directory n) hs)))
+        one : (a b : Bool) → a ≡ b → is_some (find (λ (h : OpenHandle Progress). is_directory_kind h.kind && (h.target == n)) hs) ≡ not (is_empty (filter (is_on_directory n) hs))
+            → is_some (cond a (Some h) (find (λ (h : OpenHandle Progress). is_directory_kind h.kind && (h.target == n)) hs)) ≡ not (is_empty (cond b (h ∷ filter (is_on_directory n) hs) (filter (is_on_directory n) hs)))
         one true true e rest = refl
         one false false e rest = rest
         one true false e rest = absurd (let bad = e in cc)
         one false true e rest = absurd (let bad = e in cc)
 
-    none : (xs : List (Open Seen)) → (xs ≢ [] → ⊥) → not (is_empty xs) ≡ false
+    none : (xs : List (OpenHandle Progress)) → (xs ≢ [] → ⊥) → not (is_empty xs) ≡ false
     none [] empty = refl
     none (x ∷ xs) empty = absurd (empty (λ bad. let b = bad in cc))
 
-    there : (xs : List (Open Seen)) → xs ≢ [] → not (is_empty xs) ≡ true
+    there : (xs : List (OpenHandle Progress)) → xs ≢ [] → not (is_empty xs) ≡ true
     there [] more = absurd (more refl)
     there (x ∷ xs) more = refl
 

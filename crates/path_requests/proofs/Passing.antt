@@ -8,7 +8,7 @@ use Rattle.pps_types.specs.declared.event.Request.TheVariants.{Open as OpenReque
 use Rattle.pps_types.specs.declared.outcome.Outcome.{Outcome}
 use Rattle.pps_types.specs.declared.outcome.Outcome.TheVariants.{Opened as OpenedHandle}
 use Rattle.pps_types.specs.OpenText.{OpenSpec, open_text}
-use Rattle.pps_types.specs.Reading.{Open}
+use Rattle.pps_types.specs.Reading.{OpenHandle}
 use Rattle.pps_types.specs.Content.{Content}
 use Rattle.pps_types.specs.Checks.{first_refusal, letters_fit, open_checks}
 use Rattle.pps_types.specs.Plan.{Move, Opens as OpensHandle, apply_all_seen, effect, opening, new_handle, found_object, passes_last_number}
@@ -34,7 +34,7 @@ module _ (t : Tabled) (mode : Mode) (spec : OpenSpec) (w : Way) (way : IsWay t m
   does text e ms is =
       effect-whole (content_in t) conn mode text spec e
       ∙ ap (λ (ms : List Move). let p : Outcome × List Move = (OpenedHandle (content_in t).next_handle, ms) in p)
-      (opening_is ∙ ap (λ (h : Open (Unit {0})). step_moves (content_in t) spec w.step ++ OpensHandle h ∷ []) (way.handle conn) ∙ sym is)
+      (opening_is ∙ ap (λ (h : OpenHandle (Unit {0})). step_moves (content_in t) spec w.step ++ OpensHandle h ∷ []) (way.handle conn) ∙ sym is)
 
   module _ (settled : EventsAreSettled) (text : List ℕ) (e : open_text text ≡ Ok spec) where
     numbers_told : passes_last_number (apply_all_seen (effect (content_in t) conn (OpenRequest mode text)).1 (content_in t)) ≡ last_number_passed (content_in t) (step_records w.step) (step_objects w.step) 0

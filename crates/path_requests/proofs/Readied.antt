@@ -11,7 +11,7 @@ use Rattle.pps_types.specs.declared.handle_kind.HandleKind.{HandleKind}
 use Rattle.pps_types.specs.History.{Entry}
 use Rattle.pps_types.specs.Names.{Path, parent, last_name, find_at}
 use Rattle.pps_types.specs.Content.{Content, LiveObject, at, object_numbered}
-use Rattle.pps_types.specs.WellFormed.{IsContent, AreRising}
+use Rattle.pps_types.specs.WellFormed.{IsContent, RiseBetween}
 use Rattle.pps_types.specs.Plan.{Move, Creates, AppendsRecord, Opens as OpensHandle, entry_of, creation}
 use Rattle.service_laws.proofs.Finds.{find-true}
 use Rattle.name_table.specs.Laws.{QuestionsAreTold}
@@ -118,7 +118,7 @@ created_ready t n o told same is ready above last place number site entry room s
     let next : (content_in n).next_object ≡ (content_in t).next_object = ap (λ (c : Content). c.next_object) same in
     let counted : n.records ≡ t.records = ap (λ (c : Content). c.records) same in
     record {
-      order = subst (λ (c : Content). AreRising 0 (map (λ (o : LiveObject). o.object.number) c.objects) c.next_object) (sym same) is.order.objects_rise;
+      order = subst (λ (c : Content). RiseBetween 0 (map (λ (o : LiveObject). o.object.number) c.objects) c.next_object) (sym same) is.order.objects_rise;
       ready = ready;
       above = ap (λ (a : Path → Option Found). find_at a (parent o.path.items)) (told.at (content_in n) ∙ ap at same) ∙ above;
       last = rw next last;
@@ -139,7 +139,7 @@ unheard_ready t n path directory name told same is ready above last place named 
     let next : (content_in n).next_object ≡ (content_in t).next_object = ap (λ (c : Content). c.next_object) same in
     let counted : n.records ≡ t.records = ap (λ (c : Content). c.records) same in
     record {
-      order = subst (λ (c : Content). AreRising 0 (map (λ (o : LiveObject). o.object.number) c.objects) c.next_object) (sym same) is.order.objects_rise;
+      order = subst (λ (c : Content). RiseBetween 0 (map (λ (o : LiveObject). o.object.number) c.objects) c.next_object) (sym same) is.order.objects_rise;
       ready = ready;
       above = ap (λ (a : Path → Option Found). find_at a (parent path)) (told.at (content_in n) ∙ ap at same) ∙ above;
       last = rw next last;
@@ -204,7 +204,7 @@ module _ (t n : Tabled) (r : Replacement) (same : content_in n ≡ content_in t)
       let its : r.deletion.entry ≡ entry_of gone.object Deleted None = subst (λ (x : Option LiveObject). IfSome x (λ o. r.deletion.entry ≡ entry_of o.object Deleted None)) there.2 deletion in
       let own : gone.object.number ≡ r.object = eqb-true gone.object.number r.object (find-true (λ (o : LiveObject). eqb o.object.number r.object) (content_in t).objects (known_of gone) there.2) in
       subst (λ (x : Option Placed). IsSomeAnd x (CanReplace r n)) (sym there.1) (record {
-        order = subst (λ (c : Content). AreRising 0 (map (λ (o : LiveObject). o.object.number) c.objects) c.next_object) (sym same) is.order.objects_rise;
+        order = subst (λ (c : Content). RiseBetween 0 (map (λ (o : LiveObject). o.object.number) c.objects) c.next_object) (sym same) is.order.objects_rise;
         object_room = object_room;
         last = rw next last;
         place = place;

@@ -11,7 +11,7 @@ use Rattle.pps_types.specs.declared.record.Kind.{Kind}
 use Rattle.pps_types.specs.declared.record.Kind.TheVariants.{Deleted}
 use Rattle.pps_types.specs.Names.{Path, last_name}
 use Rattle.pps_types.specs.OpenText.{OpenSpec}
-use Rattle.pps_types.specs.Reading.{Open}
+use Rattle.pps_types.specs.Reading.{OpenHandle}
 use Rattle.pps_types.specs.Content.{LiveObject, object_numbered}
 use Rattle.pps_types.specs.Plan.{Move, Creates as CreatesObject, AppendsRecord, Opens as OpensHandle, entry_of, new_object}
 use Rattle.sub_reader.specs.declared.opening.Opening.{Opening}
@@ -43,7 +43,7 @@ module _ (t n : Tabled) (conn : ℕ) (mode : Mode) (spec : OpenSpec) (kind : Han
   stays_by found s r is moved =
       subst (λ (s : Step). IfOk r (GoesBy s)) (sym is)
       (ok_to r (λ o. moves_of o n ≡ OpensHandle (opened (number_of found) (name_at found t.handles) opening) ∷ []) (GoesBy (Stays found))
-      (λ o e. e ∙ ap (λ (h : Open (Unit {0})). OpensHandle h ∷ []) (fixed (number_of found) (name_at found t.handles))) moved)
+      (λ o e. e ∙ ap (λ (h : OpenHandle (Unit {0})). OpensHandle h ∷ []) (fixed (number_of found) (name_at found t.handles))) moved)
 
   -- where an object is known
   known_by : (x : Option LiveObject) (o : Opens) (P : LiveObject → List Move) (ms : List Move) → IsSome x → ((k : LiveObject) → x ≡ Some k → P k ≡ ms) → IfSome x (λ k. moves_of o n ≡ P k) → moves_of o n ≡ ms
@@ -57,7 +57,7 @@ module _ (t n : Tabled) (conn : ℕ) (mode : Mode) (spec : OpenSpec) (kind : Han
       (ok_to r (λ o. IfSome (object_numbered (content_in t) object) (λ known. moves_of o n ≡ AppendsRecord (entry_of known.object told None) ∷ OpensHandle (opened object (name_at (FoundObject object) t.handles) opening) ∷ [])) (GoesBy (Tells object told))
       (λ o e. known_by (object_numbered (content_in t) object) o (λ known. AppendsRecord (entry_of known.object told None) ∷ OpensHandle (opened object (name_at (FoundObject object) t.handles) opening) ∷ []) _
       (subst (CanStep t spec kind) is able).alive
-      (λ k same. ap (λ (h : Open (Unit {0})). AppendsRecord (entry_of k.object told None) ∷ OpensHandle h ∷ []) (fixed object (name_at (FoundObject object) t.handles)) ∙ plain k same) e) moved)
+      (λ k same. ap (λ (h : OpenHandle (Unit {0})). AppendsRecord (entry_of k.object told None) ∷ OpensHandle h ∷ []) (fixed object (name_at (FoundObject object) t.handles)) ∙ plain k same) e) moved)
     where
       plain : (k : LiveObject) → object_numbered (content_in t) object ≡ Some k
           → AppendsRecord (entry_of k.object told None) ∷ OpensHandle (handle_by (content_in t) conn mode spec kind (object, name_at (FoundObject object) t.handles)) ∷ []
@@ -73,7 +73,7 @@ module _ (t n : Tabled) (conn : ℕ) (mode : Mode) (spec : OpenSpec) (kind : Han
       (λ o e. e
       ∙ (λ i. CreatesObject (record { number = (content_in t).next_object; directory = sym (subst (CanStep t spec kind) is able).within i; name = last_name (names i); nopersist = keeps i; server = cond (serves i) (Some (content_in t).next_handle) None })
       ∷ OpensHandle (opened (content_in t).next_object (last_name (names i)) opening) ∷ [])
-      ∙ ap (λ (h : Open (Unit {0})). CreatesObject (new_object (content_in t) spec) ∷ OpensHandle h ∷ []) (fixed (content_in t).next_object (last_name spec.names))) moved)
+      ∙ ap (λ (h : OpenHandle (Unit {0})). CreatesObject (new_object (content_in t) spec) ∷ OpensHandle h ∷ []) (fixed (content_in t).next_object (last_name spec.names))) moved)
 
   pub replaces_by : (object : ℕ) (nopersist : Bool) (s : Step) (r : Result Opens Refusal) → s ≡ Replaces object → CanStep t spec kind s → nopersist ≡ spec.options.nopersist
       → IfOk r (λ o. IfSome (object_numbered (content_in t) object) (λ known. moves_of o n ≡ AppendsRecord (entry_of known.object Deleted None)
@@ -95,5 +95,5 @@ module _ (t n : Tabled) (conn : ℕ) (mode : Mode) (spec : OpenSpec) (kind : Han
           ∙ (λ i. AppendsRecord (entry_of k.object Deleted None)
           ∷ CreatesObject (record { number = (content_in t).next_object; directory = sym followed.directory i; name = sym followed.name i; nopersist = keeps i; server = cond (sym server i) (Some (content_in t).next_handle) None })
           ∷ OpensHandle (opened (content_in t).next_object (sym followed.name i) opening) ∷ [])
-          ∙ ap (λ (h : Open (Unit {0})). AppendsRecord (entry_of k.object Deleted None) ∷ CreatesObject (new_object (content_in t) spec) ∷ OpensHandle h ∷ []) (fixed (content_in t).next_object (last_name spec.names))
+          ∙ ap (λ (h : OpenHandle (Unit {0})). AppendsRecord (entry_of k.object Deleted None) ∷ CreatesObject (new_object (content_in t) spec) ∷ OpensHandle h ∷ []) (fixed (content_in t).next_object (last_name spec.names))
           ∙ ap (λ (y : Option LiveObject). option_map_or (λ o. AppendsRecord (entry_of o.object Deleted None) ∷ CreatesObject (new_object (content_in t) spec) ∷ []) y [] ++ OpensHandle (handle_by (content_in t) conn mode spec kind ((content_in t).next_object, last_name spec.names)) ∷ []) (sym f)

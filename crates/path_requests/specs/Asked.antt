@@ -7,7 +7,7 @@ use Rattle.pps_types.specs.declared.handle_kind.HandleKind.{HandleKind}
 use Rattle.pps_types.specs.declared.handle_kind.HandleKind.TheVariants.{Object as ObjectHandle, Directory as DirectoryHandle, Names as NamesHandle, Server as ServerHandle, Client as ClientHandle}
 use Rattle.pps_types.specs.Names.{Name, place}
 use Rattle.pps_types.specs.OpenText.{OpenSpec}
-use Rattle.pps_types.specs.Reading.{Open}
+use Rattle.pps_types.specs.Reading.{OpenHandle}
 use Rattle.pps_types.specs.Content.{Content, at}
 use Rattle.pps_types.specs.Checks.{mode_fits}
 use Rattle.sub_reader.specs.declared.opening.Opening.{Opening}
@@ -43,7 +43,7 @@ kind_by spec served =
     if served then ClientHandle else ObjectHandle spec.options.delta
 
 -- the handle, of that kind and on the target of that number and name
-abbrev pub handle_by : Content → ℕ → Mode → OpenSpec → HandleKind → ℕ × Name → Open (Unit {0})
+abbrev pub handle_by : Content → ℕ → Mode → OpenSpec → HandleKind → ℕ × Name → OpenHandle (Unit {0})
 handle_by c conn mode spec kind target = record {
   number = c.next_handle;
   connection = conn;

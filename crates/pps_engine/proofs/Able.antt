@@ -6,9 +6,9 @@ use Rattle.std.specs.List.{flat_map, filter_map, cons_option, AllByRecursion}
 use Rattle.std.proofs.lemmas.Bool.{ne_eqb, eq-eqb, eqb-true}
 use Rattle.pps_types.specs.declared.outcome.Item.TheVariants.{Pulse as PulseItem, ReadDone}
 use Rattle.pps_types.specs.History.{Entry}
-use Rattle.pps_types.specs.Reading.{Open, Member, reseen, Answer, Everything, Blocks, Needs, TargetGone, Waits, Nothing}
-use Rattle.pps_types.specs.Rests.{Seen}
-use Rattle.pps_types.specs.WellFormed.{AreRising}
+use Rattle.pps_types.specs.Reading.{OpenHandle, Member, reseen, Answer, Everything, Blocks, Needs, TargetGone, Waits, Nothing}
+use Rattle.pps_types.specs.Rests.{Progress}
+use Rattle.pps_types.specs.WellFormed.{RiseBetween}
 use Rattle.pps_types.specs.Content.{Content, own_handle}
 use Rattle.pps_types.specs.Plan.{Move, Attaches, Leaves, Creates, AppendsRecord, Opens, Closes, CatchesUp, Advances, Parks, Arms, Queues, Takes, MakesDirectory, RemovesDirectory, on_first, on_numbered, caught_up, left, apply_seen, apply_all_seen, fired, late_reply}
 use Rattle.service_laws.proofs.Finds.{OfSome}
@@ -27,8 +27,8 @@ use Rattle.pps_engine.proofs.SettlingTells.{AreTelling, telling-only}
 
 -- a pulse that is queued is armed, and a read that is answered waits
 abbrev pub IsAble : Content → Move → List Move → Type 0
-IsAble c (Arms n p) (Queues conn (PulseItem code value) ∷ xs) = option_map (λ (h : Open Seen). h.armed) (own_handle c conn n) ≡ Some (Some (code, value))
-IsAble c (Parks n s) (Queues conn (ReadDone handle result) ∷ xs) = option_map (λ (h : Open Seen). is_some h.parked) (own_handle c conn n) ≡ Some true
+IsAble c (Arms n p) (Queues conn (PulseItem code value) ∷ xs) = option_map (λ (h : OpenHandle Progress). h.armed) (own_handle c conn n) ≡ Some (Some (code, value))
+IsAble c (Parks n s) (Queues conn (ReadDone handle result) ∷ xs) = option_map (λ (h : OpenHandle Progress). is_some h.parked) (own_handle c conn n) ≡ Some true
 IsAble c x xs = Unit {0}
 
 -- each where those before it took effect
@@ -38,12 +38,12 @@ AreAble c (x ∷ xs) = IsAble c x xs × AreAble (apply_seen x c) xs
 
 -- ---- what a change of one handle leaves
 
-abbrev owns : ℕ → ℕ → Open Seen → Bool
+abbrev owns : ℕ → ℕ → OpenHandle Progress → Bool
 owns conn n h = (h.number == n) && (h.connection == conn)
 
-module _ (conn n : ℕ) {Y : Type 0} (f : Open Seen → Y) (test : Open Seen → Bool) (change : Open Seen → Open Seen) where
+module _ (conn n : ℕ) {Y : Type 0} (f : OpenHandle Progress → Y) (test : OpenHandle Progress → Bool) (change : OpenHandle Progress → OpenHandle Progress) where
   -- where it keeps what is asked, of any handle
-  kept-by : ((h : Open Seen) → owns conn n (change h) ≡ owns conn n h) → ((h : Open Seen) → f (change h) ≡ f h) → (hs : List (Open Seen))
+  kept-by : ((h : OpenHandle Progress) → owns conn n (change h) ≡ owns conn n h) → ((h : OpenHandle Progress) → f (change h) ≡ f h) → (hs : List (OpenHandle Progress))
       → option_map f (find (owns conn n) (on_first test change hs)) ≡ option_map f (find (owns conn n) hs)
   kept-by keeps same [] = refl
   kept-by keeps same (h ∷ hs) = by (test h) (kept-by keeps same hs)
@@ -63,7 +63,7 @@ module _ (conn n : ℕ) {Y : Type 0} (f : Open Seen → Y) (test : Open Seen →
       by false rest = on (owns conn n h) rest
 
 -- where it is of another number
-other-by : (conn n m : ℕ) (change : Open Seen → Open Seen) → (m == n) ≡ false → ((h : Open Seen) → (change h).number ≡ h.number) → (hs : List (Open Seen))
+other-by : (conn n m : ℕ) (change : OpenHandle Progress → OpenHandle Progress) → (m == n) ≡ false → ((h : OpenHandle Progress) → (change h).number ≡ h.number) → (hs : List (OpenHandle Progress))
     → find (owns conn n) (on_numbered m change hs) ≡ find (owns conn n) hs
 other-by conn n m change other keeps [] = refl
 other-by conn n m change other keeps (h ∷ hs) = by (h.number == m) refl (other-by conn n m change other keeps hs)
@@ -114,7 +114,7 @@ all-stay conn n m other [] is c = refl
 all-stay conn n m other (x ∷ xs) is c = all-stay conn n m other xs is.1 (apply_seen x c) ∙ one-stays conn n m other x is.0 c
 
 -- what follows for a handle is of it alone
-reply-of : (h : Open Seen) (a : Answer) → AllByRecursion (IsOf h.number) (late_reply h a)
+reply-of : (h : OpenHandle Progress) (a : Answer) → AllByRecursion (IsOf h.number) (late_reply h a)
 reply-of h (Everything text) = (refl, (refl, (tt, tt)))
 reply-of h (Blocks count text) = (refl, (refl, (tt, tt)))
 reply-of h (Needs need) = (refl, (tt, tt))
@@ -122,7 +122,7 @@ reply-of h TargetGone = tt
 reply-of h Waits = tt
 reply-of h Nothing = tt
 
-follows-of : (h : Open Seen) (es : List Entry) (dead : Bool) (members : List Member) → AllByRecursion (IsOf h.number) (pulse_and_reply h es dead members)
+follows-of : (h : OpenHandle Progress) (es : List Entry) (dead : Bool) (members : List Member) → AllByRecursion (IsOf h.number) (pulse_and_reply h es dead members)
 follows-of h es dead members =
     all-append (IsOf h.number) (fired h) (option_map_or (λ size. late_reply h (late_answer h es dead members size)) h.parked [])
     (all-or (IsOf h.number) (λ pulse. Arms h.number None ∷ Queues h.connection (PulseItem pulse.0 pulse.1) ∷ []) (λ pulse. (refl, (tt, tt))) h.armed)
@@ -130,16 +130,16 @@ follows-of h es dead members =
 
 -- ---- a handle that stands as it was
 
-pub record Stands (c : Content) (h : Open Seen) : Type 0 where
-  pub armed : option_map (λ (g : Open Seen). g.armed) (own_handle c h.connection h.number) ≡ Some h.armed
-  pub parked : option_map (λ (g : Open Seen). g.parked) (own_handle c h.connection h.number) ≡ Some h.parked
+pub record Stands (c : Content) (h : OpenHandle Progress) : Type 0 where
+  pub armed : option_map (λ (g : OpenHandle Progress). g.armed) (own_handle c h.connection h.number) ≡ Some h.armed
+  pub parked : option_map (λ (g : OpenHandle Progress). g.parked) (own_handle c h.connection h.number) ≡ Some h.parked
 
-is_parked_by : (o : Option (Open Seen)) (p : Option ℕ) → option_map (λ (g : Open Seen). g.parked) o ≡ Some p → option_map (λ (g : Open Seen). is_some g.parked) o ≡ Some (is_some p)
+is_parked_by : (o : Option (OpenHandle Progress)) (p : Option ℕ) → option_map (λ (g : OpenHandle Progress). g.parked) o ≡ Some p → option_map (λ (g : OpenHandle Progress). is_some g.parked) o ≡ Some (is_some p)
 is_parked_by None p e = absurd (let bad = e in cc)
 is_parked_by (Some g) p e = let same : g.parked ≡ p = (let is = e in cc) in ap (λ p. Some (is_some p)) same
 
 -- its late reply
-able-reply : (c : Content) (h : Open Seen) (a : Answer) (rest : List Move) (size : ℕ) → option_map (λ (g : Open Seen). g.parked) (own_handle c h.connection h.number) ≡ Some (Some size)
+able-reply : (c : Content) (h : OpenHandle Progress) (a : Answer) (rest : List Move) (size : ℕ) → option_map (λ (g : OpenHandle Progress). g.parked) (own_handle c h.connection h.number) ≡ Some (Some size)
     → AreAble (apply_all_seen (late_reply h a) c) rest → AreAble c (late_reply h a ++ rest)
 able-reply c h (Everything text) rest size is able =
     (tt, (is_parked_by _ (Some size) (kept-by h.connection h.number (λ g. g.parked) (λ g. g.number == h.number) (reseen caught_up) (λ g. refl) (λ g. refl) c.handles ∙ is), (tt, able)))
@@ -150,14 +150,14 @@ able-reply c h TargetGone rest size is able = able
 able-reply c h Waits rest size is able = able
 able-reply c h Nothing rest size is able = able
 
-able-replies : (c : Content) (h : Open Seen) (f : ℕ → Answer) (rest : List Move) (p : Option ℕ) → option_map (λ (g : Open Seen). g.parked) (own_handle c h.connection h.number) ≡ Some p
+able-replies : (c : Content) (h : OpenHandle Progress) (f : ℕ → Answer) (rest : List Move) (p : Option ℕ) → option_map (λ (g : OpenHandle Progress). g.parked) (own_handle c h.connection h.number) ≡ Some p
     → AreAble (apply_all_seen (option_map_or (λ size. late_reply h (f size)) p []) c) rest → AreAble c (option_map_or (λ size. late_reply h (f size)) p [] ++ rest)
 able-replies c h f rest None is able = able
 able-replies c h f rest (Some size) is able = able-reply c h (f size) rest size is able
 
 -- its pulse, and then its late reply
-able-both : (c : Content) (h : Open Seen) (f : ℕ → Answer) (rest : List Move) (a : Option (ℕ × ℕ)) (p : Option ℕ)
-    → option_map (λ (g : Open Seen). g.armed) (own_handle c h.connection h.number) ≡ Some a → option_map (λ (g : Open Seen). g.parked) (own_handle c h.connection h.number) ≡ Some p
+able-both : (c : Content) (h : OpenHandle Progress) (f : ℕ → Answer) (rest : List Move) (a : Option (ℕ × ℕ)) (p : Option ℕ)
+    → option_map (λ (g : OpenHandle Progress). g.armed) (own_handle c h.connection h.number) ≡ Some a → option_map (λ (g : OpenHandle Progress). g.parked) (own_handle c h.connection h.number) ≡ Some p
     → let ms = option_map_or (λ pulse. Arms h.number None ∷ Queues h.connection (PulseItem pulse.0 pulse.1) ∷ []) a [] ++ option_map_or (λ size. late_reply h (f size)) p [] in
     AreAble (apply_all_seen ms c) rest → AreAble c (ms ++ rest)
 able-both c h f rest None p armed parked able = able-replies c h f rest p parked able
@@ -170,83 +170,83 @@ able-both c h f rest (Some pulse) p armed parked able = (
   ),
 )
 
-pub able-follows : (c : Content) (h : Open Seen) (es : List Entry) (dead : Bool) (members : List Member) (rest : List Move) → Stands c h
+pub able-follows : (c : Content) (h : OpenHandle Progress) (es : List Entry) (dead : Bool) (members : List Member) (rest : List Move) → Stands c h
     → AreAble (apply_all_seen (pulse_and_reply h es dead members) c) rest → AreAble c (pulse_and_reply h es dead members ++ rest)
 able-follows c h es dead members rest s able = able-both c h (late_answer h es dead members) rest h.armed h.parked s.armed s.parked able
 
 -- ---- one handle after the other
 
-module _ (es : List Entry) (dead : Open Seen → Bool) (members : Open Seen → List Member) where
-  abbrev given : Open Seen → List Move
+module _ (es : List Entry) (dead : OpenHandle Progress → Bool) (members : OpenHandle Progress → List Member) where
+  abbrev given : OpenHandle Progress → List Move
   given h = pulse_and_reply h es (dead h) (members h)
 
   -- those behind it stand as they were
-  still-stand : (c : Content) (h : Open Seen) (high : ℕ) (gs : List (Open Seen)) → AllByRecursion (λ (g : Open Seen). h.number + 1 ≤ g.number) gs → AllByRecursion (Stands c) gs → AllByRecursion (Stands (apply_all_seen (given h) c)) gs
+  still-stand : (c : Content) (h : OpenHandle Progress) (high : ℕ) (gs : List (OpenHandle Progress)) → AllByRecursion (λ (g : OpenHandle Progress). h.number + 1 ≤ g.number) gs → AllByRecursion (Stands c) gs → AllByRecursion (Stands (apply_all_seen (given h) c)) gs
   still-stand c h high [] above stand = tt
   still-stand c h high (g ∷ gs) above stand =
       let other : (h.number == g.number) ≡ false = ne_eqb h.number g.number (λ same. omega (arith, same, above.0)) in
       let same = all-stay g.connection g.number h.number other (given h) (follows-of h es (dead h) (members h)) c in (
         record {
-          armed = ap (option_map (λ (g : Open Seen). g.armed)) same ∙ stand.0.armed;
-          parked = ap (option_map (λ (g : Open Seen). g.parked)) same ∙ stand.0.parked;
+          armed = ap (option_map (λ (g : OpenHandle Progress). g.armed)) same ∙ stand.0.armed;
+          parked = ap (option_map (λ (g : OpenHandle Progress). g.parked)) same ∙ stand.0.parked;
         },
         still-stand c h high gs above.1 stand.1,
       )
 
-  pub able-all : (low high : ℕ) (hs : List (Open Seen)) → AreRising low (map (λ (h : Open Seen). h.number) hs) high → (c : Content) → AllByRecursion (Stands c) hs → AreAble c (flat_map given hs)
+  pub able-all : (low high : ℕ) (hs : List (OpenHandle Progress)) → RiseBetween low (map (λ (h : OpenHandle Progress). h.number) hs) high → (c : Content) → AllByRecursion (Stands c) hs → AreAble c (flat_map given hs)
   able-all low high [] r c stand = tt
   able-all low high (h ∷ hs) r c stand =
       able-follows c h es (dead h) (members h) (flat_map given hs) stand.0
-      (able-all (h.number + 1) high hs r.1 (apply_all_seen (given h) c) (still-stand c h high hs (rising-above (λ (h : Open Seen). h.number) (h.number + 1) high hs r.1) stand.1))
+      (able-all (h.number + 1) high hs r.1 (apply_all_seen (given h) c) (still-stand c h high hs (rising-above (λ (h : OpenHandle Progress). h.number) (h.number + 1) high hs r.1) stand.1))
 
 -- ---- the handles that an event wakes, behind its own moves
 
-rising-filter : (test : Open Seen → Bool) (low high : ℕ) (xs : List (Open Seen)) → AreRising low (map (λ (h : Open Seen). h.number) xs) high → AreRising low (map (λ (h : Open Seen). h.number) (filter test xs)) high
+rising-filter : (test : OpenHandle Progress → Bool) (low high : ℕ) (xs : List (OpenHandle Progress)) → RiseBetween low (map (λ (h : OpenHandle Progress). h.number) xs) high → RiseBetween low (map (λ (h : OpenHandle Progress). h.number) (filter test xs)) high
 rising-filter test low high [] r = r
 rising-filter test low high (x ∷ xs) r = by (test x) (rising-filter test (x.number + 1) high xs r.1)
   where
-    by : (b : Bool) → AreRising (x.number + 1) (map (λ (h : Open Seen). h.number) (filter test xs)) high → AreRising low (map (λ (h : Open Seen). h.number) (cond b (x ∷ filter test xs) (filter test xs))) high
+    by : (b : Bool) → RiseBetween (x.number + 1) (map (λ (h : OpenHandle Progress). h.number) (filter test xs)) high → RiseBetween low (map (λ (h : OpenHandle Progress). h.number) (cond b (x ∷ filter test xs) (filter test xs))) high
     by true rest = (r.0, rest)
-    by false rest = rising-lower (x.number + 1) low high (map (λ (h : Open Seen). h.number) (filter test xs)) (omega (arith, r.0)) rest
+    by false rest = rising-lower (x.number + 1) low high (map (λ (h : OpenHandle Progress). h.number) (filter test xs)) (omega (arith, r.0)) rest
 
-module _ (f : Open Seen → Option (Open Seen)) (keeps : (h : Open Seen) → OfSome (λ g. g.number ≡ h.number) (f h)) (later : List (Open Seen)) where
+module _ (f : OpenHandle Progress → Option (OpenHandle Progress)) (keeps : (h : OpenHandle Progress) → OfSome (λ g. g.number ≡ h.number) (f h)) (later : List (OpenHandle Progress)) where
   -- what becomes of others is not it
-  skip : (x z : Open Seen) → (z.number == x.number) ≡ false → (zs : List (Open Seen)) → find (owns x.connection x.number) (cons_option (f z) zs ++ later) ≡ find (owns x.connection x.number) (zs ++ later)
+  skip : (x z : OpenHandle Progress) → (z.number == x.number) ≡ false → (zs : List (OpenHandle Progress)) → find (owns x.connection x.number) (cons_option (f z) zs ++ later) ≡ find (owns x.connection x.number) (zs ++ later)
   skip x z other zs = by (f z) (keeps z)
     where
-      by : (o : Option (Open Seen)) → OfSome (λ g. g.number ≡ z.number) o → find (owns x.connection x.number) (cons_option o zs ++ later) ≡ find (owns x.connection x.number) (zs ++ later)
+      by : (o : Option (OpenHandle Progress)) → OfSome (λ g. g.number ≡ z.number) o → find (owns x.connection x.number) (cons_option o zs ++ later) ≡ find (owns x.connection x.number) (zs ++ later)
       by None k = refl
       by (Some g) k = ap (λ b. cond (b && (g.connection == x.connection)) (Some g) (find (owns x.connection x.number) (zs ++ later))) (ap (λ m. m == x.number) k ∙ other)
 
-  abbrev IsLeft : List (Open Seen) → Open Seen → Type 0
-  IsLeft zs x = (y : Open Seen) → f x ≡ Some y → y.connection ≡ x.connection → find (owns x.connection x.number) (filter_map f zs ++ later) ≡ Some y
+  abbrev IsLeft : List (OpenHandle Progress) → OpenHandle Progress → Type 0
+  IsLeft zs x = (y : OpenHandle Progress) → f x ≡ Some y → y.connection ≡ x.connection → find (owns x.connection x.number) (filter_map f zs ++ later) ≡ Some y
 
-  here : (x : Open Seen) (xs : List (Open Seen)) → IsLeft (x ∷ xs) x
+  here : (x : OpenHandle Progress) (xs : List (OpenHandle Progress)) → IsLeft (x ∷ xs) x
   here x xs y is same = by (f x) (keeps x) is
     where
-      by : (o : Option (Open Seen)) → OfSome (λ g. g.number ≡ x.number) o → o ≡ Some y → find (owns x.connection x.number) (cons_option o (filter_map f xs) ++ later) ≡ Some y
+      by : (o : Option (OpenHandle Progress)) → OfSome (λ g. g.number ≡ x.number) o → o ≡ Some y → find (owns x.connection x.number) (cons_option o (filter_map f xs) ++ later) ≡ Some y
       by None k e = absurd (let bad = e in cc)
       by (Some g) k e =
           let g-is : g ≡ y = (let i = e in cc) in
-          (λ i. cond (eq-eqb g.number x.number k i && eq-eqb g.connection x.connection (ap (λ (h : Open Seen). h.connection) g-is ∙ same) i) (Some g) (find (owns x.connection x.number) (filter_map f xs ++ later))) ∙ e
+          (λ i. cond (eq-eqb g.number x.number k i && eq-eqb g.connection x.connection (ap (λ (h : OpenHandle Progress). h.connection) g-is ∙ same) i) (Some g) (find (owns x.connection x.number) (filter_map f xs ++ later))) ∙ e
 
-  left-each : (low high : ℕ) (xs : List (Open Seen)) → AreRising low (map (λ (h : Open Seen). h.number) xs) high → AllByRecursion (IsLeft xs) xs
+  left-each : (low high : ℕ) (xs : List (OpenHandle Progress)) → RiseBetween low (map (λ (h : OpenHandle Progress). h.number) xs) high → AllByRecursion (IsLeft xs) xs
   left-each low high [] r = tt
-  left-each low high (x ∷ xs) r = (here x xs, more xs (rising-above (λ (h : Open Seen). h.number) (x.number + 1) high xs r.1) (left-each (x.number + 1) high xs r.1))
+  left-each low high (x ∷ xs) r = (here x xs, more xs (rising-above (λ (h : OpenHandle Progress). h.number) (x.number + 1) high xs r.1) (left-each (x.number + 1) high xs r.1))
     where
-      more : (ys : List (Open Seen)) → AllByRecursion (λ (y : Open Seen). x.number + 1 ≤ y.number) ys → AllByRecursion (IsLeft xs) ys → AllByRecursion (IsLeft (x ∷ xs)) ys
+      more : (ys : List (OpenHandle Progress)) → AllByRecursion (λ (y : OpenHandle Progress). x.number + 1 ≤ y.number) ys → AllByRecursion (IsLeft xs) ys → AllByRecursion (IsLeft (x ∷ xs)) ys
       more [] above all = tt
       more (y ∷ ys) above all = (λ z is same. skip y x (ne_eqb x.number y.number (λ n. omega (arith, n, above.0))) (filter_map f xs) ∙ all.0 z is same, more ys above.1 all.1)
 
 module _ (c : Content) (rise : HandlesRise c) (ms : List Move) (numbered : AreNumbered c.next_handle ms) (tells : AreTelling ms) where
   -- it stands as it was, but for what it has seen
-  woken-stands : (h : Open Seen) → is_woken ms h ≡ true → IsLeft (handle_after ms) (handle_after-number ms) (handles_opened ms) c.handles h → Stands (apply_all_seen ms c) h
+  woken-stands : (h : OpenHandle Progress) → is_woken ms h ≡ true → IsLeft (handle_after ms) (handle_after-number ms) (handles_opened ms) c.handles h → Stands (apply_all_seen ms c) h
   woken-stands h wakes left =
       let after : handle_after ms h ≡ Some (offer_all (entries_told ms) h) =
       handle_after-telling ms h (telling-only ms tells) ∙ ap (λ b. cond b None (Some (offer_all (entries_told ms) h))) (woken-parts ms h wakes).3 in
       let own : own_handle (apply_all_seen ms c) h.connection h.number ≡ Some (offer_all (entries_told ms) h) =
       ap (find (owns h.connection h.number)) (handles-after ms c rise numbered) ∙ left (offer_all (entries_told ms) h) after refl in
-      record { armed = ap (option_map (λ (g : Open Seen). g.armed)) own; parked = ap (option_map (λ (g : Open Seen). g.parked)) own }
+      record { armed = ap (option_map (λ (g : OpenHandle Progress). g.armed)) own; parked = ap (option_map (λ (g : OpenHandle Progress). g.parked)) own }
 
   all-woken : AllByRecursion (Stands (apply_all_seen ms c)) (filter (is_woken ms) c.handles)
   all-woken = all-weaken {P = λ h. (is_woken ms h ≡ true) × IsLeft (handle_after ms) (handle_after-number ms) (handles_opened ms) c.handles h} {Q = Stands (apply_all_seen ms c)} (λ h is. woken-stands h is.0 is.1)
@@ -254,5 +254,5 @@ module _ (c : Content) (rise : HandlesRise c) (ms : List Move) (numbered : AreNu
       (all-passing (IsLeft (handle_after ms) (handle_after-number ms) (handles_opened ms) c.handles) (is_woken ms) c.handles (left-each (handle_after ms) (handle_after-number ms) (handles_opened ms) 0 c.next_handle c.handles rise))
 
   -- what follows for them can be made behind the event
-  pub able-behind : (es : List Entry) (dead : Open Seen → Bool) (members : Open Seen → List Member) → AreAble (apply_all_seen ms c) (flat_map (λ h. pulse_and_reply h es (dead h) (members h)) (filter (is_woken ms) c.handles))
+  pub able-behind : (es : List Entry) (dead : OpenHandle Progress → Bool) (members : OpenHandle Progress → List Member) → AreAble (apply_all_seen ms c) (flat_map (λ h. pulse_and_reply h es (dead h) (members h)) (filter (is_woken ms) c.handles))
   able-behind es dead members = able-all es dead members 0 c.next_handle (filter (is_woken ms) c.handles) (rising-filter (is_woken ms) 0 c.next_handle c.handles rise) (apply_all_seen ms c) all-woken

@@ -9,15 +9,15 @@ use Rattle.pps_types.specs.declared.outcome.Outcome.{Outcome}
 use Rattle.pps_types.specs.declared.outcome.Item.{Item}
 use Rattle.pps_types.specs.Outcome.{has_bytes, item_has_bytes}
 use Rattle.pps_types.specs.Text.{WriteText, write_text}
-use Rattle.pps_types.specs.Reading.{Open, Answer, Everything, Blocks, Needs, TargetGone, Waits, Nothing}
-use Rattle.pps_types.specs.Rests.{Seen}
+use Rattle.pps_types.specs.Reading.{OpenHandle, Answer, Everything, Blocks, Needs, TargetGone, Waits, Nothing}
+use Rattle.pps_types.specs.Rests.{Progress}
 use Rattle.pps_types.specs.Outbox.{arms, first_of, park_refusal}
 use Rattle.pps_types.specs.Content.{Content, is_attached, own_handle, queue_of, outbox_of, read_answer, news}
 use Rattle.pps_types.specs.Checks.{Check, Refuse, Memory, first_refusal, reaches_memory, refused, on_handle, answer_checks, read_checks, checks}
 use Rattle.pps_types.specs.Plan.{Move, Arms, effect, writing, closing, received, with_result, apply_all_seen, passes_last_number, decided, all_checks_of, plan, step_seen, may_lack_memory}
 use Rattle.service_laws.proofs.Passes.{passes-both, all-pass, none-fails, behind}
 
-own-checks : (c : Content) (conn handle : ℕ) (h : Open Seen) (k : Open Seen → List Check) → own_handle c conn handle ≡ Some h → on_handle c conn handle k ≡ k h
+own-checks : (c : Content) (conn handle : ℕ) (h : OpenHandle Progress) (k : OpenHandle Progress → List Check) → own_handle c conn handle ≡ Some h → on_handle c conn handle k ≡ k h
 own-checks c conn handle h k e = rw e refl
 
 -- the mark is among the checks
@@ -37,7 +37,7 @@ mark-behind None cs m = m
 mark-behind (Some r) cs m = m
 
 -- a read that answers with bytes
-answer-mark : (c : Content) (h : Open Seen) (size : ℕ) (a : Answer) → first_refusal (answer_checks c h a) ≡ None → HasMark (answer_checks c h a)
+answer-mark : (c : Content) (h : OpenHandle Progress) (size : ℕ) (a : Answer) → first_refusal (answer_checks c h a) ≡ None → HasMark (answer_checks c h a)
 answer-mark c h size (Everything text) p = tt
 answer-mark c h size (Blocks count text) p = tt
 answer-mark c h size Nothing p = tt
@@ -55,22 +55,22 @@ bytes-mark c conn (Read handle size) p e = on (own_handle c conn handle) refl
     q : first_refusal (on_handle c conn handle (read_checks c size)) ≡ None
     q = (behind (not (is_attached c conn)) Refusal.NotAttached (on_handle c conn handle (read_checks c size)) p).1
 
-    on : (o : Option (Open Seen)) → own_handle c conn handle ≡ o → HasMark (on_handle c conn handle (read_checks c size))
+    on : (o : Option (OpenHandle Progress)) → own_handle c conn handle ≡ o → HasMark (on_handle c conn handle (read_checks c size))
     on None f = absurd (let h = rw f at q in cc)
     on (Some h) f = rw (own-checks c conn handle h (read_checks c size) f) (answer-mark c h size (read_answer c h size)
         (none-fails (answer_checks c h (read_answer c h size)) (all-pass (read_checks c size h) (rw (own-checks c conn handle h (read_checks c size) f) at q)).1.1.1))
 bytes-mark c conn (Write handle bytes) p e = absurd (on (own_handle c conn handle) e)
   where
-    go : (h : Open Seen) (r : Result WriteText Refusal) → has_bytes (with_result r (λ text. (Outcome.Wrote (length bytes), writing c h text))).0 ≡ true → ⊥
+    go : (h : OpenHandle Progress) (r : Result WriteText Refusal) → has_bytes (with_result r (λ text. (Outcome.Wrote (length bytes), writing c h text))).0 ≡ true → ⊥
     go h (Ok text) e = let f = e in cc
     go h (Err r) e = let f = e in cc
 
-    on : (o : Option (Open Seen)) → has_bytes (option_map_or {U = Outcome × List Move} (λ h. with_result (write_text bytes) (λ text. (Outcome.Wrote (length bytes), writing c h text))) o (Outcome.Done, [])).0 ≡ true → ⊥
+    on : (o : Option (OpenHandle Progress)) → has_bytes (option_map_or {U = Outcome × List Move} (λ h. with_result (write_text bytes) (λ text. (Outcome.Wrote (length bytes), writing c h text))) o (Outcome.Done, [])).0 ≡ true → ⊥
     on None e = let f = e in cc
     on (Some h) e = go h (write_text bytes) e
 bytes-mark c conn (Close handle) p e = absurd (go (own_handle c conn handle) e)
   where
-    go : (o : Option (Open Seen)) → has_bytes (option_map_or {U = Outcome × List Move} (λ h. (Outcome.Done, closing c h)) o (Outcome.Done, [])).0 ≡ true → ⊥
+    go : (o : Option (OpenHandle Progress)) → has_bytes (option_map_or {U = Outcome × List Move} (λ h. (Outcome.Done, closing c h)) o (Outcome.Done, [])).0 ≡ true → ⊥
     go None e = let f = e in cc
     go (Some h) e = let f = e in cc
 bytes-mark c conn (Unlink path) p e = tt
@@ -78,7 +78,7 @@ bytes-mark c conn (Mkdir path) p e = tt
 bytes-mark c conn (ListRequest path) p e = tt
 bytes-mark c conn (Notify handle action code value) p e = absurd (go (own_handle c conn handle) e)
   where
-    go : (o : Option (Open Seen)) → has_bytes (option_map_or {U = Outcome × List Move} (λ h. (Outcome.Input (news h), Arms h.number (if arms action (news h) then Some (code, value) else None) ∷ [])) o (Outcome.Done, [])).0 ≡ true → ⊥
+    go : (o : Option (OpenHandle Progress)) → has_bytes (option_map_or {U = Outcome × List Move} (λ h. (Outcome.Input (news h), Arms h.number (if arms action (news h) then Some (code, value) else None) ∷ [])) o (Outcome.Done, [])).0 ≡ true → ⊥
     go None e = let f = e in cc
     go (Some h) e = let f = e in cc
 bytes-mark c conn Receive p e = go (first_of (queue_of c conn)) e

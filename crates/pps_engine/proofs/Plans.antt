@@ -11,18 +11,18 @@ use Rattle.pps_types.specs.Outcome.{IsSendable}
 use Rattle.pps_types.specs.Owed.{longer, longest, kept_records_seen, kept_seen, kept_at as kept_number}
 use Rattle.pps_types.specs.Plan.{step_seen, apply_all_seen}
 use Rattle.pps_types.specs.Names.{Path}
-use Rattle.pps_types.specs.Reading.{Open}
-use Rattle.pps_types.specs.Rests.{Seen}
+use Rattle.pps_types.specs.Reading.{OpenHandle}
+use Rattle.pps_types.specs.Rests.{Progress}
 use Rattle.pps_types.specs.Content.{Content, at}
 use Rattle.pps_types.specs.Stands.{StepsSeen}
-use Rattle.pps_types.specs.WellFormed.{AreRising}
+use Rattle.pps_types.specs.WellFormed.{RiseBetween}
 use Rattle.pps_types.proofs.Chains.{longer-none, longest-length}
 use Rattle.service_laws.proofs.WellSteps.{step-content}
 use Rattle.service_laws.specs.Bounds.{IsBound}
 use Rattle.service_laws.proofs.BoundedEvents.{step-keeps, step-sends}
 use Rattle.image_laws.proofs.Proved.{saving-stays}
 use Rattle.sub_reader.specs.Opened.{is_directory, number_of}
-use Rattle.open_handles.specs.Whole.{Seating, kept_at, kept_for, kept_if, kept_under}
+use Rattle.open_handles.specs.Whole.{HandlesOf, kept_at, kept_for, kept_if, kept_under}
 use Rattle.service_state.specs.Tables.{Tabled, content_in}
 use Rattle.pps_engine.specs.declared.planned.Pending.{Pending}
 use Rattle.pps_engine.specs.Events.{moves_pending, CanCarry}
@@ -75,18 +75,18 @@ longer-nothing : (xs : List Entry) → longer xs [] ≡ xs
 longer-nothing xs = let e : nat_lt (length xs) 0 ≡ false = grind (arith, nat_tests) in ap (λ b. cond b [] xs) e
 
 -- the lists of another kind of target
-held-other : (d : Bool) (target : ℕ) (es : List Seating) (zs : List Chained) → held_records d target (map (chain_of (cond d false true)) es ++ zs) ≡ held_records d target zs
+held-other : (d : Bool) (target : ℕ) (es : List HandlesOf) (zs : List Chained) → held_records d target (map (chain_of (cond d false true)) es ++ zs) ≡ held_records d target zs
 held-other d target [] zs = refl
 held-other true target (e ∷ es) zs = longer-none (held_records true target (map (chain_of false) es ++ zs)) ∙ held-other true target es zs
 held-other false target (e ∷ es) zs = longer-none (held_records false target (map (chain_of true) es ++ zs)) ∙ held-other false target es zs
 
 -- a list of the target's own kind
-held-first : (d : Bool) (target : ℕ) (e : Seating) (zs : List Chained) → held_records d target (chain_of d e ∷ zs) ≡ longer (cond (eqb e.number target) (kept_for e) []) (held_records d target zs)
+held-first : (d : Bool) (target : ℕ) (e : HandlesOf) (zs : List Chained) → held_records d target (chain_of d e ∷ zs) ≡ longer (cond (eqb e.number target) (kept_for e) []) (held_records d target zs)
 held-first true target e zs = refl
 held-first false target e zs = refl
 
 module _ (d : Bool) (target : ℕ) (zs : List Chained) (none : held_records d target zs ≡ []) where
-  held-above : (low high : ℕ) (es : List Seating) → target < low → AreRising low (map (λ (e : Seating). e.number) es) high → held_records d target (map (chain_of d) es ++ zs) ≡ []
+  held-above : (low high : ℕ) (es : List HandlesOf) → target < low → RiseBetween low (map (λ (e : HandlesOf). e.number) es) high → held_records d target (map (chain_of d) es ++ zs) ≡ []
   held-above low high [] lt r = none
   held-above low high (e ∷ es) lt r =
       held-first d target e (map (chain_of d) es ++ zs)
@@ -94,18 +94,18 @@ module _ (d : Bool) (target : ℕ) (zs : List Chained) (none : held_records d ta
       ∙ longer-none (held_records d target (map (chain_of d) es ++ zs))
       ∙ held-above (e.number + 1) high es (let le = r.0 in omega arith) r.1
 
-  held-own : (low high : ℕ) (es : List Seating) → AreRising low (map (λ (e : Seating). e.number) es) high → held_records d target (map (chain_of d) es ++ zs) ≡ kept_under target es
+  held-own : (low high : ℕ) (es : List HandlesOf) → RiseBetween low (map (λ (e : HandlesOf). e.number) es) high → held_records d target (map (chain_of d) es ++ zs) ≡ kept_under target es
   held-own low high [] r = none
   held-own low high (e ∷ es) r = held-first d target e (map (chain_of d) es ++ zs) ∙ by (eqb e.number target) refl (held-own (e.number + 1) high es r.1)
     where
       by : (b : Bool) → eqb e.number target ≡ b → held_records d target (map (chain_of d) es ++ zs) ≡ kept_under target es
-          → longer (cond b (kept_for e) []) (held_records d target (map (chain_of d) es ++ zs)) ≡ kept_if (cond b (Some e) (find (λ (x : Seating). eqb x.number target) es))
+          → longer (cond b (kept_for e) []) (held_records d target (map (chain_of d) es ++ zs)) ≡ kept_if (cond b (Some e) (find (λ (x : HandlesOf). eqb x.number target) es))
       by true is rest = ap (longer (kept_for e)) (held-above (e.number + 1) high es (let same = eqb-true e.number target is in omega arith) r.1) ∙ longer-nothing (kept_for e)
       by false is rest = longer-none (held_records d target (map (chain_of d) es ++ zs)) ∙ rest
 
 pub holds-just : (t : Tabled) → ((f : Found) → kept_at f t.handles ≡ kept_records_seen (content_in t) (is_directory f) (number_of f))
-    → AreRising 0 (map (λ (e : Seating). e.number) t.handles.objects.entries) t.handles.objects.next
-    → AreRising 0 (map (λ (e : Seating). e.number) t.handles.directories.entries) t.handles.directories.next → HoldsJust t
+    → RiseBetween 0 (map (λ (e : HandlesOf). e.number) t.handles.objects.entries) t.handles.objects.next
+    → RiseBetween 0 (map (λ (e : HandlesOf). e.number) t.handles.directories.entries) t.handles.directories.next → HoldsJust t
 holds-just t owed objects directories true target =
     held-other true target t.handles.objects.entries (map (chain_of true) t.handles.directories.entries)
     ∙ ap (held_records true target) (sym (append-nil (map (chain_of true) t.handles.directories.entries)))
@@ -124,7 +124,7 @@ kept-told t path f n there owed is =
     ap Some (is ∙ ap length owed ∙ longest-length (is_directory f) (number_of f) hs ∙ by f)
     ∙ sym (ap (option_map (kept_number (λ directory target. longest directory target hs))) there)
   where
-    hs : List (Open Seen)
+    hs : List (OpenHandle Progress)
     hs = (content_in t).handles
 
     by : (f : Found) → longest (is_directory f) (number_of f) hs ≡ kept_number (λ directory target. longest directory target hs) f

@@ -15,8 +15,8 @@ use Rattle.pps_types.specs.declared.handle_kind.HandleKind.TheVariants.{Object a
 use Rattle.pps_types.specs.OpenText.{OpenSpec, open_text, path_text}
 use Rattle.pps_types.specs.Text.{WriteText, write_text}
 use Rattle.pps_types.specs.Outbox.{first_of}
-use Rattle.pps_types.specs.Reading.{Open}
-use Rattle.pps_types.specs.Rests.{Seen}
+use Rattle.pps_types.specs.Reading.{OpenHandle}
+use Rattle.pps_types.specs.Rests.{Progress}
 use Rattle.pps_types.specs.Checks.{Addressee, Everyone, OneClient, Nobody, addressee}
 use Rattle.pps_types.specs.Content.{Content, LiveObject, Directory, object_numbered, object_at, directory_at, own_handle, handles_of, queue_of, read_answer}
 use Rattle.pps_types.specs.Plan.{Move, AppendsRecord, apply_all_seen, effect, preparing, written_kind, sent, on_target, closing, closings, parting, unlinking, received, found_object}
@@ -49,27 +49,27 @@ sent-plain Everyone lines = refl
 sent-plain (OneClient id) lines = refl
 sent-plain Nobody lines = refl
 
-written-plain : (c : Content) (h : Open Seen) (k : HandleKind) (text : WriteText) → creates (written_kind c h k text) ≡ false
+written-plain : (c : Content) (h : OpenHandle Progress) (k : HandleKind) (text : WriteText) → creates (written_kind c h k text) ≡ false
 written-plain c h ServerHandle text = sent-plain (addressee h.name text.header) _
 written-plain c h ClientHandle text = refl
 written-plain c h NamesHandle text = refl
 written-plain c h (ObjectHandle delta) text = refl
 written-plain c h (DirectoryHandle delta) text = refl
 
-on_target-tells : (c : Content) (h : Open Seen) (kind : Kind) (writer : Option ℕ) → creates kind ≡ false → AreTelling (on_target c h kind writer)
+on_target-tells : (c : Content) (h : OpenHandle Progress) (kind : Kind) (writer : Option ℕ) → creates kind ≡ false → AreTelling (on_target c h kind writer)
 on_target-tells c h kind writer plain = of-option AreTelling tt _ (λ o. ((refl, plain), tt)) (object_numbered c h.target)
 
-parting-tells : (c : Content) (h : Open Seen) (k : HandleKind) → AreTelling (parting c h k)
+parting-tells : (c : Content) (h : OpenHandle Progress) (k : HandleKind) → AreTelling (parting c h k)
 parting-tells c h ServerHandle = on_target-tells c h Deleted None refl
 parting-tells c h ClientHandle = on_target-tells c h (Closed h.number) None refl
 parting-tells c h NamesHandle = tt
 parting-tells c h (ObjectHandle delta) = of-either AreTelling (h.options.critical && h.writes) _ [] (on_target-tells c h Dropped None refl) tt
 parting-tells c h (DirectoryHandle delta) = tt
 
-closing-tells : (c : Content) (h : Open Seen) → AreTelling (closing c h)
+closing-tells : (c : Content) (h : OpenHandle Progress) → AreTelling (closing c h)
 closing-tells c h = ((refl, tt), all-append IsTelling _ (parting c h h.kind) (of-either AreTelling (is_some h.parked) _ [] ((refl, tt), tt) tt) (parting-tells c h h.kind))
 
-closings-tells : (c : Content) (hs : List (Open Seen)) → AreTelling (closings c hs)
+closings-tells : (c : Content) (hs : List (OpenHandle Progress)) → AreTelling (closings c hs)
 closings-tells c [] = tt
 closings-tells c (h ∷ hs) = all-append IsTelling (closing c h) (closings (apply_all_seen (closing c h) c) hs) (closing-tells c h) (closings-tells (apply_all_seen (closing c h) c) hs)
 

@@ -9,8 +9,8 @@ use Rattle.pps_types.specs.declared.record.Kind.{Kind}
 use Rattle.pps_types.specs.declared.record.Kind.TheVariants.{Created, Change, Truncated, Dropped, Deleted, Opened, Closed, FromClient, ToClient, ToAll}
 use Rattle.pps_types.specs.Names.{name_cmp, insert_by}
 use Rattle.pps_types.specs.History.{Attribute, Entry, line_of}
-use Rattle.pps_types.specs.Reading.{Open, is_directory_kind}
-use Rattle.pps_types.specs.Rests.{Seen}
+use Rattle.pps_types.specs.Reading.{OpenHandle, is_directory_kind}
+use Rattle.pps_types.specs.Rests.{Progress}
 use Rattle.pps_types.specs.Content.{Content, LiveObject, member, members, object_numbered}
 use Rattle.pps_types.specs.Plan.{Move, Attaches, Leaves, Creates, AppendsRecord, Opens, Closes, CatchesUp, Advances, Parks, Arms, Queues, Takes, MakesDirectory, RemovesDirectory, still_known, touched}
 use Rattle.pps_types.proofs.Lists.{map-then, all-all}
@@ -173,7 +173,7 @@ lines-state None = refl
 lines-state (Some o) = refl
 
 -- what follows for a handle, by the records
-pub follows-told : (c : Content) (xs : List Move) → AllByRecursion IsPlain xs → (h : Open Seen) → follows c xs h ≡ follows_behind c (entries_told xs) h
+pub follows-told : (c : Content) (xs : List Move) → AllByRecursion IsPlain xs → (h : OpenHandle Progress) → follows c xs h ≡ follows_behind c (entries_told xs) h
 follows-told c xs p h = λ i. pulse_and_reply h (entries_told xs)
     (not (is_directory_kind h.kind) && dead i)
     (cond (is_directory_kind h.kind) (listed i) (record { name = h.name; lines = map line_of (lines i) } ∷ []))

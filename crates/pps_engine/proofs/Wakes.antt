@@ -5,8 +5,8 @@ use Rattle.std.specs.Option.{option_map_or}
 use Rattle.std.specs.List.{flat_map, list_any, AllByRecursion}
 use Rattle.std.proofs.lemmas.Bool.{eq-eqb, eqb-true}
 use Rattle.pps_types.specs.History.{Entry}
-use Rattle.pps_types.specs.Reading.{Open}
-use Rattle.pps_types.specs.Rests.{Seen}
+use Rattle.pps_types.specs.Reading.{OpenHandle}
+use Rattle.pps_types.specs.Rests.{Progress}
 use Rattle.pps_types.specs.Content.{Content, handle_numbered, news, is_waiting, learns}
 use Rattle.pps_types.specs.Plan.{Move, Attaches, Leaves, Creates, AppendsRecord, Opens, Closes, CatchesUp, Advances, Parks, Arms, Queues, Takes, MakesDirectory, RemovesDirectory}
 use Rattle.service_laws.proofs.Rising.{found-each}
@@ -41,22 +41,22 @@ closes-told n (Takes conn ∷ ms) = closes-told n ms
 closes-told n (MakesDirectory path ∷ ms) = closes-told n ms
 closes-told n (RemovesDirectory number ∷ ms) = closes-told n ms
 
-abbrev wakes : List Entry → Open Seen → Bool
+abbrev wakes : List Entry → OpenHandle Progress → Bool
 wakes es h = is_waiting h && learns es h
 
 -- what follows by the numbers of those that the records wake
 pub wakes-told : (c : Content) → HandlesRise c → (ms : List Move)
     → flat_map (follows_numbered c (entries_told ms) (handles_closed ms)) (map (λ h. h.number) (filter (wakes (entries_told ms)) c.handles))
     ≡ flat_map (follows_behind c (entries_told ms)) (filter (is_woken ms) c.handles)
-wakes-told c rise ms = all c.handles (found-each (λ (h : Open Seen). h.number) 0 c.next_handle c.handles rise)
+wakes-told c rise ms = all c.handles (found-each (λ (h : OpenHandle Progress). h.number) 0 c.next_handle c.handles rise)
   where
     es : List Entry
     es = entries_told ms
 
-    one : (h : Open Seen) → handle_numbered c h.number ≡ Some h → follows_numbered c es (handles_closed ms) h.number ≡ cond (list_any (closes_handle h.number) ms) [] (follows_behind c es h)
+    one : (h : OpenHandle Progress) → handle_numbered c h.number ≡ Some h → follows_numbered c es (handles_closed ms) h.number ≡ cond (list_any (closes_handle h.number) ms) [] (follows_behind c es h)
     one h found = λ i. cond (closes-told h.number ms i) [] (option_map_or (follows_behind c es) (found i) [])
 
-    all : (hs : List (Open Seen)) → AllByRecursion (λ h. handle_numbered c h.number ≡ Some h) hs
+    all : (hs : List (OpenHandle Progress)) → AllByRecursion (λ h. handle_numbered c h.number ≡ Some h) hs
         → flat_map (follows_numbered c es (handles_closed ms)) (map (λ h. h.number) (filter (wakes es) hs)) ≡ flat_map (follows_behind c es) (filter (is_woken ms) hs)
     all [] found = refl
     all (h ∷ hs) found = by (wakes es h) (list_any (closes_handle h.number) ms) (one h found.0) (all hs found.1)
@@ -70,11 +70,11 @@ wakes-told c rise ms = all c.handles (found-each (λ (h : Open Seen). h.number) 
         by false k is rest = rest
 
 -- and none where no record is told
-pub none-wakes : (hs : List (Open Seen)) → map (λ (h : Open Seen). h.number) (filter (wakes []) hs) ≡ []
+pub none-wakes : (hs : List (OpenHandle Progress)) → map (λ (h : OpenHandle Progress). h.number) (filter (wakes []) hs) ≡ []
 none-wakes [] = refl
 none-wakes (h ∷ hs) = by (is_waiting h) (not (news h)) (none-wakes hs)
   where
-    by : (a b : Bool) → map (λ (h : Open Seen). h.number) (filter (wakes []) hs) ≡ [] → map (λ (h : Open Seen). h.number) (cond (a && (b && false)) (h ∷ filter (wakes []) hs) (filter (wakes []) hs)) ≡ []
+    by : (a b : Bool) → map (λ (h : OpenHandle Progress). h.number) (filter (wakes []) hs) ≡ [] → map (λ (h : OpenHandle Progress). h.number) (cond (a && (b && false)) (h ∷ filter (wakes []) hs) (filter (wakes []) hs)) ≡ []
     by true true rest = rest
     by true false rest = rest
     by false b rest = rest

@@ -7,8 +7,8 @@ use Rattle.pps_types.specs.declared.record.Kind.{Kind}
 use Rattle.pps_types.specs.declared.record.Kind.TheVariants.{Created, Deleted}
 use Rattle.pps_types.specs.Names.{name_cmp, insert_by}
 use Rattle.pps_types.specs.History.{Attribute, Entry, after_kind, line_of}
-use Rattle.pps_types.specs.Reading.{Open, Member, is_directory_kind}
-use Rattle.pps_types.specs.Rests.{Seen}
+use Rattle.pps_types.specs.Reading.{OpenHandle, Member, is_directory_kind}
+use Rattle.pps_types.specs.Rests.{Progress}
 use Rattle.pps_types.specs.Content.{Content, LiveObject, object_numbered, members, handle_numbered}
 use Rattle.pps_types.specs.Plan.{Move}
 use Rattle.pps_types.specs.SettlingReplies.{pulse_and_reply}
@@ -106,17 +106,17 @@ rows_behind c es directory = fold (rows_by directory) (rows_of c directory) es
 -- ---- a handle
 
 -- its target behind records is a dead object
-abbrev pub is_dead_behind : Content → List Entry → Open Seen → Bool
+abbrev pub is_dead_behind : Content → List Entry → OpenHandle Progress → Bool
 is_dead_behind c es h = not (is_directory_kind h.kind) && is_none (state_behind c es h.target)
 
 -- the members of its target behind them: an object is its own one member, a dead one too
-abbrev pub members_behind : Content → List Entry → Open Seen → List Member
+abbrev pub members_behind : Content → List Entry → OpenHandle Progress → List Member
 members_behind c es h =
     if is_directory_kind h.kind then map row_member (rows_behind c es h.target)
     else record { name = h.name; lines = map line_of (unwrap_or (state_behind c es h.target) []) } ∷ []
 
 -- what follows for it, where the records wake it
-abbrev pub follows_behind : Content → List Entry → Open Seen → List Move
+abbrev pub follows_behind : Content → List Entry → OpenHandle Progress → List Move
 follows_behind c es h = pulse_and_reply h es (is_dead_behind c es h) (members_behind c es h)
 
 -- what follows for the handle of a number, unless it closes

@@ -2,10 +2,10 @@
 use Rattle.std.specs.Prelude.{◌≡◌, ◌+◌, ◌<◌, ◌≤◌, ◌^◌, ℕ, List, [], ◌∷◌, ◌++◌, true, false, Option, Some, None, IsSome, IfSome, is_some, map, option_map}
 use Rattle.std.specs.List.{flat_map}
 use Rattle.pps_types.specs.Outbox.{empty_outbox}
-use Rattle.pps_types.specs.Reading.{Open}
-use Rattle.pps_types.specs.Rests.{Seen}
+use Rattle.pps_types.specs.Reading.{OpenHandle}
+use Rattle.pps_types.specs.Rests.{Progress}
 use Rattle.pps_types.specs.Content.{Directory, is_attached, own_handle}
-use Rattle.pps_types.specs.WellFormed.{AreRising, directory_numbered}
+use Rattle.pps_types.specs.WellFormed.{RiseBetween, directory_numbered}
 use Rattle.pps_types.specs.Plan as planning
 use Rattle.pps_types.specs.Plan.{Move}
 use Rattle.notify_box.specs.declared.outbox.Outbox.{Outbox}
@@ -53,7 +53,7 @@ pub record CanAttach (conn : ℕ) (outbox : Outbox) (t : Tabled) : Type 0 where
 
 -- no read waits on the connection's own handle, and there is room for one
 pub record CanWait (conn handle : ℕ) (t : Tabled) : Type 0 where
-  pub free : option_map (λ (h : Open Seen). h.parked) (own_handle (content_in t) conn handle) ≡ Some None
+  pub free : option_map (λ (h : OpenHandle Progress). h.parked) (own_handle (content_in t) conn handle) ≡ Some None
   pub room : CanPark conn handle t.connections
 
 -- a read that leaves its handle so: it wants room where it waits
@@ -68,7 +68,7 @@ pub record CanNotice (conn handle : ℕ) (pulse : Option Pulse) (t : Tabled) : T
 
 -- the numbers of directories rise
 abbrev pub DirectoriesRise : Tabled → Type 0
-DirectoriesRise t = AreRising 0 (map (λ (d : Directory). d.number) (content_in t).directories) (content_in t).next_directory
+DirectoriesRise t = RiseBetween 0 (map (λ (d : Directory). d.number) (content_in t).directories) (content_in t).next_directory
 
 -- the path is ready, there is a place for the directory's handles, and its number is none past the last
 pub record CanMake (path : List (List ℕ)) (t : Tabled) : Type 0 where

@@ -6,7 +6,7 @@ use Rattle.pps_types.specs.Plan.{apply_all_seen}
 use Rattle.pps_types.specs.WellFormed.{IsContent}
 use Rattle.service_laws.specs.Bounds.{IsBound}
 use Rattle.image_laws.specs.Savable.{CanBeSaved}
-use Rattle.open_handles.specs.Whole.{Seating, kept_for}
+use Rattle.open_handles.specs.Whole.{HandlesOf, kept_for}
 use Rattle.service_state.specs.Tables.{Tabled, content_in}
 use Rattle.pps_engine.specs.declared.planned.Pending.{Pending}
 use Rattle.pps_engine.specs.Events.{moves_pending, CanCarry}
@@ -35,7 +35,7 @@ IsPending t (Some r) = CanCarry r.pending t × IsSound (after t r.pending)
 -- ---- what is held
 
 -- the list of records of an object or a directory
-abbrev pub chain_of : Bool → Seating → Chained
+abbrev pub chain_of : Bool → HandlesOf → Chained
 chain_of directory e = record { directory = directory; target = e.number; records = kept_for e }
 
 -- of all objects and of all directories

@@ -4,8 +4,8 @@ use Rattle.std.specs.Option.{option_map_or}
 use Rattle.std.specs.List.{flat_map}
 use Rattle.pps_types.specs.declared.refusal.Refusal.{Refusal}
 use Rattle.pps_types.specs.History.{Entry}
-use Rattle.pps_types.specs.Reading.{Open, Member, is_directory_kind}
-use Rattle.pps_types.specs.Rests.{Seen}
+use Rattle.pps_types.specs.Reading.{OpenHandle, Member, is_directory_kind}
+use Rattle.pps_types.specs.Rests.{Progress}
 use Rattle.pps_types.specs.Plan.{Move}
 use Rattle.pps_types.specs.SettlingReplies.{gives_everything, pulse_and_reply}
 use Rattle.name_table.specs.Standing.{Named, named_content}
@@ -18,26 +18,26 @@ use Rattle.service_state.specs.Tables.{Tabled, content_in}
 use Rattle.pps_engine.specs.Behind.{follows_behind, follows_numbered}
 
 -- a read waits on it, and the late reply is everything of its target
-abbrev pub needs_everything : Option ℕ → Open Seen → List Entry → Bool
+abbrev pub needs_everything : Option ℕ → OpenHandle Progress → List Entry → Bool
 needs_everything parked h es = is_some parked && gives_everything h es
 
 -- if it is done, what follows for a handle whose late reply is not everything comes to the end: the records are enough for it
 abbrev pub AddsByRecords : {A X : Type 0} → Waiting → List Entry → Vec Following A → Vec Following A → Result X Refusal → Type 0
 AddsByRecords woken es old new result =
-    (h : Open Seen) (dead : Bool) (members : List Member) → IsWoken woken h → (is_some h.parked && gives_everything h es) ≡ false
+    (h : OpenHandle Progress) (dead : Bool) (members : List Member) → IsWoken woken h → (is_some h.parked && gives_everything h es) ≡ false
     → OnOk result (Adds old new (pulse_and_reply h es dead members))
 
 -- for the handle, if it is on the object of that number and name
-abbrev pub ForWokenObject : Waiting → ℕ → List ℕ → (Open Seen → Type 0) → Type 0
+abbrev pub ForWokenObject : Waiting → ℕ → List ℕ → (OpenHandle Progress → Type 0) → Type 0
 ForWokenObject woken object name P =
-    (h : Open Seen) → IsWoken woken h → h.target ≡ object → h.name ≡ name → is_directory_kind h.kind ≡ false → P h
+    (h : OpenHandle Progress) → IsWoken woken h → h.target ≡ object → h.name ≡ name → is_directory_kind h.kind ≡ false → P h
 
 -- for the handle, if it is on the directory of that number
-abbrev pub ForWokenDirectory : Waiting → ℕ → (Open Seen → Type 0) → Type 0
-ForWokenDirectory woken directory P = (h : Open Seen) → IsWoken woken h → h.target ≡ directory → is_directory_kind h.kind ≡ true → P h
+abbrev pub ForWokenDirectory : Waiting → ℕ → (OpenHandle Progress → Type 0) → Type 0
+ForWokenDirectory woken directory P = (h : OpenHandle Progress) → IsWoken woken h → h.target ≡ directory → is_directory_kind h.kind ≡ true → P h
 
 -- what follows for a handle, by the names of the service
-abbrev pub follows_by : Named → List Entry → Open Seen → List Move
+abbrev pub follows_by : Named → List Entry → OpenHandle Progress → List Move
 follows_by names es h = follows_behind (named_content names) es h
 
 -- the same for the handle of that number, where it is open

@@ -9,13 +9,13 @@ use Rattle.pps_types.specs.Filter.{Part}
 use Rattle.pps_types.specs.History.{Entry}
 use Rattle.pps_types.specs.declared.handle_kind.HandleKind.{HandleKind}
 use Rattle.pps_types.specs.declared.handle_kind.HandleKind.TheVariants.{Object as ObjectHandle, Directory as DirectoryHandle, Names as NamesHandle, Server as ServerHandle, Client as ClientHandle}
-use Rattle.pps_types.specs.Reading.{is_delta_style, Open, style, visible, concerns, is_directory_kind, is_object_kind, is_writer, is_chained, shown as block_of}
-use Rattle.pps_types.specs.Rests.{Seen, keeps}
+use Rattle.pps_types.specs.Reading.{is_delta_style, OpenHandle, style, visible, concerns, is_directory_kind, is_object_kind, is_writer, is_chained, shown as block_of}
+use Rattle.pps_types.specs.Rests.{Progress, keeps}
 use Rattle.pps_types.specs.Owed.{in_chain, same_flag, is_of, rest_seen, longest, longer, longest_rest}
 
 -- ---- what is seen is in the chain
 
-pub visible-keeps : {S : Type 0} (h : Open S) (e : Entry) → visible h e ≡ true → keeps h e ≡ true
+pub visible-keeps : {S : Type 0} (h : OpenHandle S) (e : Entry) → visible h e ≡ true → keeps h e ≡ true
 visible-keeps h e v = ap (λ b. b || (concerns h e && is_chained h.kind e.record_of.kind)) v
 
 lines-chained : (parts : Option (List Part)) (k : HandleKind) → is_delta_style (style k) ≡ true → (number : ℕ) (kind : Kind) → is_some (block_of k number parts kind) ≡ true → is_chained k kind ≡ true
@@ -85,12 +85,12 @@ chain-by ServerHandle d t e delta flag = absurd cc
 chain-by ClientHandle d t e delta flag = absurd cc
 
 -- a delta or names handle of the target, taken apart
-pub record IsOf {S : Type 0} (d : Bool) (t : ℕ) (h : Open S) : Type 0 where
+pub record IsOf {S : Type 0} (d : Bool) (t : ℕ) (h : OpenHandle S) : Type 0 where
   pub delta : is_delta_style (style h.kind) ≡ true
   pub flag : same_flag (is_directory_kind h.kind) d ≡ true
   pub target : h.target ≡ t
 
-pub apart : {S : Type 0} (d : Bool) (t : ℕ) (h : Open S) → is_of d t h ≡ true → IsOf d t h
+pub apart : {S : Type 0} (d : Bool) (t : ℕ) (h : OpenHandle S) → is_of d t h ≡ true → IsOf d t h
 apart d t h e =
     let p = both (is_delta_style (style h.kind)) (same_flag (is_directory_kind h.kind) d) (eqb h.target t) e in
     record { delta = p.0; flag = p.1; target = eqb-true h.target t p.2 }
@@ -101,7 +101,7 @@ apart d t h e =
     both true false c e = absurd cc
     both false b c e = absurd cc
 
-pub keeps-chain : {S : Type 0} (d : Bool) (t : ℕ) (h : Open S) → IsOf d t h → (e : Entry) → keeps h e ≡ in_chain d t e
+pub keeps-chain : {S : Type 0} (d : Bool) (t : ℕ) (h : OpenHandle S) → IsOf d t h → (e : Entry) → keeps h e ≡ in_chain d t e
 keeps-chain d t h of e =
     absorb (concerns h e) h.reads (not (is_writer h.number e.record_of.writer) || (h.options.reflect && is_object_kind h.kind)) (is_some (block_of h.kind h.number h.options.filter e.record_of.kind)) (is_chained h.kind e.record_of.kind) (lines-chained h.options.filter h.kind of.delta h.number e.record_of.kind)
     ∙ ap (λ x. cond (is_directory_kind h.kind) (eqb e.directory x) (eqb e.record_of.object x) && is_chained h.kind e.record_of.kind) of.target
@@ -125,7 +125,7 @@ longer-length xs ys = ⊎_elim
     (λ le. ap length (longer-first xs ys le) ∙ omega arith)
     (cases_lt (length xs) (length ys))
 
-pub longest-length : (directory : Bool) (target : ℕ) (hs : List (Open Seen)) → length (longest_rest directory target hs) ≡ longest directory target hs
+pub longest-length : (directory : Bool) (target : ℕ) (hs : List (OpenHandle Progress)) → length (longest_rest directory target hs) ≡ longest directory target hs
 longest-length directory target [] = refl
 longest-length directory target (h ∷ hs) =
     longer-length (cond (is_of directory target h) (rest_seen h.seen) []) (longest_rest directory target hs)

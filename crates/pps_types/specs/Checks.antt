@@ -21,8 +21,8 @@ use Rattle.pps_types.specs.OpenText.{OpenSpec, open_text, path_text}
 use Rattle.pps_types.specs.History.{Attribute, apply_line, resolve, text_length, Entry}
 use Rattle.pps_types.specs.declared.handle_kind.HandleKind.{HandleKind}
 use Rattle.pps_types.specs.declared.handle_kind.HandleKind.TheVariants.{Object as ObjectHandle, Server as ServerHandle, Client as ClientHandle}
-use Rattle.pps_types.specs.Reading.{Open, Answer, Needs, TargetGone, Waits}
-use Rattle.pps_types.specs.Rests.{Seen, owed_in}
+use Rattle.pps_types.specs.Reading.{OpenHandle, Answer, Needs, TargetGone, Waits}
+use Rattle.pps_types.specs.Rests.{Progress, owed_in}
 use Rattle.pps_types.specs.Outbox.{arm_refusal, park_refusal, arms, first_of}
 use Rattle.pps_types.specs.Content.{Content, object_numbered, attributes_of, at, parent_number, members, subdirectories, handle_numbered, own_handle, news, has_object_handle, has_directory_handle, target_is_dead, read_answer, is_attached, queue_of, outbox_of}
 
@@ -98,16 +98,16 @@ open_checks c mode spec =
 -- ---- Read
 
 -- checks on a handle of this connection
-abbrev pub on_handle : Content → ℕ → ℕ → (Open Seen → List Check) → List Check
+abbrev pub on_handle : Content → ℕ → ℕ → (OpenHandle Progress → List Check) → List Check
 on_handle c conn number checks = option_map_or checks (own_handle c conn number) (Refuse true BadHandle ∷ [])
 
-abbrev pub answer_checks : Content → Open Seen → Answer → List Check
+abbrev pub answer_checks : Content → OpenHandle Progress → Answer → List Check
 answer_checks c h (Needs need) = Refuse true (TooSmall need) ∷ []
 answer_checks c h TargetGone = Refuse true Gone ∷ []
 answer_checks c h Waits = refused (park_refusal (outbox_of c h.connection) h.number) ++ Memory ∷ []
 answer_checks c h _ = Memory ∷ []
 
-abbrev pub read_checks : Content → ℕ → Open Seen → List Check
+abbrev pub read_checks : Content → ℕ → OpenHandle Progress → List Check
 read_checks c size h =
     Refuse (not h.reads) BadMode ∷ Refuse (not (nat_le 1 size && nat_le size 17000000)) BadArgument ∷ Refuse (is_some h.parked) ReadPending
     ∷ answer_checks c h (read_answer c h size)
@@ -138,11 +138,11 @@ is_server ServerHandle = true
 is_server _ = false
 
 -- the open clients of an object, in rising number
-abbrev pub clients : Content → ℕ → List (Open Seen)
+abbrev pub clients : Content → ℕ → List (OpenHandle Progress)
 clients c object = filter (λ h. is_client h.kind && (h.target == object)) c.handles
 
 -- the clients that a server's message is for
-abbrev pub meant : Content → ℕ → Addressee → List (Open Seen)
+abbrev pub meant : Content → ℕ → Addressee → List (OpenHandle Progress)
 meant c object (OneClient id) = filter (λ h. h.number == id) (clients c object)
 meant c object _ = clients c object
 
@@ -161,17 +161,17 @@ is_server_message e = sent e.record_of.kind
     sent (ToAll lines) = true
     sent _ = false
 
-abbrev pub count_owed : (Entry → Bool) → Open Seen → ℕ
+abbrev pub count_owed : (Entry → Bool) → OpenHandle Progress → ℕ
 count_owed test h = length (filter test (owed_in h h.seen))
 
 -- the server is owed as many messages of this client as the server's limit
-abbrev pub server_backlog : Content → Open Seen → List Check
+abbrev pub server_backlog : Content → OpenHandle Progress → List Check
 server_backlog c h =
     option_map_or (λ s. Refuse (nat_le s.limit (count_owed (is_message_of h.number) s)) (Backlogged s.number) ∷ [])
     (option_and_then (λ o. option_and_then (handle_numbered c) o.object.server) (object_numbered c h.target)) []
 
 -- one of these clients is owed as many messages as its limit
-abbrev pub client_backlog : List (Open Seen) → List Check
+abbrev pub client_backlog : List (OpenHandle Progress) → List Check
 client_backlog clients = map (λ h. Refuse (nat_le h.limit (count_owed is_server_message h)) (Backlogged h.number)) clients
 
 abbrev pub client_checks : Content → ℕ → Addressee → List Check
@@ -188,14 +188,14 @@ abbrev pub limit_checks : List Attribute → List Check
 limit_checks attributes = Refuse (nat_lt 1024 (length attributes) || nat_lt 65536 (text_length attributes)) TooLarge ∷ []
 
 -- the attributes after the whole write
-abbrev pub changed : Content → Open Seen → WriteText → List Attribute
+abbrev pub changed : Content → OpenHandle Progress → WriteText → List Attribute
 changed c h text = fold apply_line (attributes_of c h.target) (resolve (attributes_of c h.target) text.lines)
 
 -- a write without lines is in nobody's way
 abbrev pub where_lines : WriteText → List Check → List Check
 where_lines text checks = if is_empty text.lines then [] else checks
 
-abbrev pub text_checks : Content → Open Seen → HandleKind → WriteText → List Check
+abbrev pub text_checks : Content → OpenHandle Progress → HandleKind → WriteText → List Check
 text_checks c h (ObjectHandle delta) text = own_header h.name text.header ++ limit_checks (changed c h text)
 text_checks c h ServerHandle text =
     let to = addressee h.name text.header in
@@ -203,7 +203,7 @@ text_checks c h ServerHandle text =
 text_checks c h ClientHandle text = own_header h.name text.header ++ where_lines text (server_backlog c h)
 text_checks c h _ text = []
 
-abbrev pub write_checks : Content → List ℕ → Open Seen → List Check
+abbrev pub write_checks : Content → List ℕ → OpenHandle Progress → List Check
 write_checks c bytes h =
     Refuse (not h.writes) BadMode ∷ Refuse (nat_lt 65536 (length bytes)) TooLarge ∷ Refuse (target_is_dead c h) Gone ∷ Memory
     ∷ parsed (write_text bytes) (text_checks c h h.kind)
@@ -211,10 +211,10 @@ write_checks c bytes h =
 -- ---- Close
 
 -- a critical publisher of an alive object
-abbrev pub drops : Content → Open Seen → Bool
+abbrev pub drops : Content → OpenHandle Progress → Bool
 drops c h = h.options.critical && h.writes && not (target_is_dead c h)
 
-abbrev pub close_checks : Content → Open Seen → List Check
+abbrev pub close_checks : Content → OpenHandle Progress → List Check
 close_checks c h = wants h.kind
   where
     wants : HandleKind → List Check
@@ -247,7 +247,7 @@ list_checks c path = parsed (find_at (at c) path) (λ found. Refuse (is_object f
 
 -- ---- Notify and Receive
 
-abbrev pub notify_checks : Content → Action → ℕ → Open Seen → List Check
+abbrev pub notify_checks : Content → Action → ℕ → OpenHandle Progress → List Check
 notify_checks c action code h =
     Refuse (not h.reads) BadMode ∷ Refuse (nat_lt 127 code) BadArgument
     ∷ (if arms action (news h) then refused (arm_refusal (outbox_of c h.connection) h.number) ++ Memory ∷ [] else [])

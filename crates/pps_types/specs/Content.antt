@@ -9,8 +9,8 @@ use Rattle.pps_types.specs.declared.outcome.Item.{Item}
 use Rattle.pps_types.specs.Bytes.{same}
 use Rattle.pps_types.specs.Names.{Name, Path, same_path, parent, last_name, name_cmp, sorted_by}
 use Rattle.pps_types.specs.History.{Attribute, Entry, line_of}
-use Rattle.pps_types.specs.Reading.{Open, visible, is_directory_kind, Member, Answer, everything_of}
-use Rattle.pps_types.specs.Rests.{Seen, news_in, is_over, answer}
+use Rattle.pps_types.specs.Reading.{OpenHandle, visible, is_directory_kind, Member, Answer, everything_of}
+use Rattle.pps_types.specs.Rests.{Progress, news_in, is_over, answer}
 use Rattle.pps_types.specs.Outbox.{Outbox}
 
 -- What is fixed when an object is created. server: the handle that owns it, where it is a server object.
@@ -44,7 +44,7 @@ pub record Content : Type 0 where
   pub next_object : ℕ
   pub directories : List Directory
   pub next_directory : ℕ
-  pub handles : List (Open Seen)
+  pub handles : List (OpenHandle Progress)
   pub next_handle : ℕ
   pub connections : List Connection
 
@@ -82,22 +82,22 @@ subdirectories c path = filter (λ d. not (same_path d.path []) && same_path (pa
 
 -- ---- handles
 
-abbrev pub handle_numbered : Content → ℕ → Option (Open Seen)
+abbrev pub handle_numbered : Content → ℕ → Option (OpenHandle Progress)
 handle_numbered c number = find (λ h. h.number == number) c.handles
 
 -- the handle of that number, where it is the connection's own
-abbrev pub own_handle : Content → ℕ → ℕ → Option (Open Seen)
+abbrev pub own_handle : Content → ℕ → ℕ → Option (OpenHandle Progress)
 own_handle c conn number = find (λ h. (h.number == number) && (h.connection == conn)) c.handles
 
-abbrev pub news : Open Seen → Bool
+abbrev pub news : OpenHandle Progress → Bool
 news h = news_in h.reads h.seen
 
 -- it has a read parked or a pulse armed
-abbrev pub is_waiting : Open Seen → Bool
+abbrev pub is_waiting : OpenHandle Progress → Bool
 is_waiting h = is_some h.parked || is_some h.armed
 
 -- it had no news, and sees one of the records
-abbrev pub learns : List Entry → Open Seen → Bool
+abbrev pub learns : List Entry → OpenHandle Progress → Bool
 learns es h = not (news h) && list_any (visible h) es
 
 -- a handle on that object, as publisher, subscriber, server or client
@@ -115,17 +115,17 @@ abbrev pub member : LiveObject → Member
 member o = record { name = o.object.name; lines = map line_of o.attributes }
 
 -- an object is its own one member, a dead one too
-abbrev pub target_members : Content → Open Seen → List Member
+abbrev pub target_members : Content → OpenHandle Progress → List Member
 target_members c h =
     if is_directory_kind h.kind then map member (members c h.target) else record { name = h.name; lines = map line_of (attributes_of c h.target) } ∷ []
 
-abbrev pub target_is_dead : Content → Open Seen → Bool
+abbrev pub target_is_dead : Content → OpenHandle Progress → Bool
 target_is_dead c h = not (is_directory_kind h.kind) && is_none (object_numbered c h.target)
 
-abbrev pub everything : Content → Open Seen → List ℕ
+abbrev pub everything : Content → OpenHandle Progress → List ℕ
 everything c h = everything_of h.kind h.options.filter (is_over h.seen) (not (target_is_dead c h)) (target_members c h)
 
-abbrev pub read_answer : Content → Open Seen → ℕ → Answer
+abbrev pub read_answer : Content → OpenHandle Progress → ℕ → Answer
 read_answer c h max = answer h h.seen (everything c h) (target_is_dead c h) max
 
 -- ---- connections
@@ -139,7 +139,7 @@ is_attached c conn = is_some (connection_numbered c conn)
 abbrev pub queue_of : Content → ℕ → List Item
 queue_of c conn = option_map_or (λ x. x.queue) (connection_numbered c conn) []
 
-abbrev pub handles_of : Content → ℕ → List (Open Seen)
+abbrev pub handles_of : Content → ℕ → List (OpenHandle Progress)
 handles_of c conn = filter (λ h. h.connection == conn) c.handles
 
 -- what a connection has to come

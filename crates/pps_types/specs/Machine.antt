@@ -9,8 +9,8 @@ use Rattle.pps_types.specs.declared.handle_kind.HandleKind.TheVariants.{Object a
 use Rattle.pps_types.specs.declared.record.Kind.TheVariants.{Created}
 use Rattle.pps_types.specs.Outcome.{Reply}
 use Rattle.pps_types.specs.History.{Entry, state, is_alive}
-use Rattle.pps_types.specs.Reading.{Open, reseen, Style, Queue, style, visible}
-use Rattle.pps_types.specs.Rests.{Seen, Owed, seen_with, behind}
+use Rattle.pps_types.specs.Reading.{OpenHandle, reseen, Style, Queue, style, visible}
+use Rattle.pps_types.specs.Rests.{Progress, Owed, seen_with, behind}
 use Rattle.pps_types.specs.Outbox.{behind_first}
 use Rattle.pps_types.specs.Content.{Object, Directory, LiveObject, Connection, Content}
 use Rattle.pps_types.specs.Checks.{checks}
@@ -24,7 +24,7 @@ pub record Machine : Type 0 where
   pub objects : List Object
   pub directories : List Directory
   pub next_directory : ℕ
-  pub handles : List (Open (Option ℕ))
+  pub handles : List (OpenHandle (Option ℕ))
   pub next_handle : ℕ
   pub connections : List Connection
 
@@ -47,7 +47,7 @@ start first_handle default_limit = record {
 abbrev pub known : List Entry → Object → Option LiveObject
 known history o = if is_alive o.number history then Some (record { object = o; attributes = state o.number history }) else None
 
-abbrev pub shown_handle : List Entry → Open (Option ℕ) → Open Seen
+abbrev pub shown_handle : List Entry → OpenHandle (Option ℕ) → OpenHandle Progress
 shown_handle history = reseen (λ h. seen_with h history h.seen)
 
 abbrev pub content_of : Machine → Content
@@ -70,11 +70,11 @@ first_cursor Queue end = Some end
 first_cursor _ end = None
 
 -- the cursor behind the first records that it is owed, that many
-abbrev pub passed_with : Open (Option ℕ) → List Entry → ℕ → Seen → Option ℕ → Option ℕ
+abbrev pub passed_with : OpenHandle (Option ℕ) → List Entry → ℕ → Progress → Option ℕ → Option ℕ
 passed_with h history count (Owed rest) (Some cursor) = Some (cursor + behind (visible h) count (drop cursor history))
 passed_with h history count seen cursor = cursor
 
-abbrev pub passed : Open (Option ℕ) → List Entry → ℕ → Option ℕ → Option ℕ
+abbrev pub passed : OpenHandle (Option ℕ) → List Entry → ℕ → Option ℕ → Option ℕ
 passed h history count cursor = passed_with h history count (seen_with h history cursor) cursor
 
 -- a record goes to the end of the history, and a read moves a cursor

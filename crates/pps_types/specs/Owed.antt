@@ -9,24 +9,24 @@ use Rattle.pps_types.specs.Bytes.{is_empty}
 use Rattle.pps_types.specs.Names.{Path, name_cmp, sorted_by}
 use Rattle.pps_types.specs.History.{Entry, line_of}
 use Rattle.pps_types.specs.declared.handle_kind.HandleKind.TheVariants.{Object as ObjectHandle, Names as NamesHandle}
-use Rattle.pps_types.specs.Reading.{Open, style, is_full_style, is_delta_style, is_directory_kind, visible, is_chained, block, Member, everything_of, Answer, whole_answer, owed_answer}
-use Rattle.pps_types.specs.Rests.{Seen, Owed}
+use Rattle.pps_types.specs.Reading.{OpenHandle, style, is_full_style, is_delta_style, is_directory_kind, visible, is_chained, block, Member, everything_of, Answer, whole_answer, owed_answer}
+use Rattle.pps_types.specs.Rests.{Progress, Owed}
 use Rattle.pps_types.specs.Content.{LiveObject, Content, at, member, handle_numbered}
 use Rattle.pps_types.specs.Machine.{Machine, known, content_of}
 
 -- ---- owed, over, news
 
 -- the visible records from the cursor on; without a cursor none
-abbrev pub owed : {S : Type 0} → Open S → List Entry → Option ℕ → List Entry
+abbrev pub owed : {S : Type 0} → OpenHandle S → List Entry → Option ℕ → List Entry
 owed h history None = []
 owed h history (Some cursor) = filter (visible h) (drop cursor history)
 
 -- more of them than the limit of a handle in delta mode
-abbrev pub is_past_limit : {S : Type 0} → Open S → List Entry → Bool
+abbrev pub is_past_limit : {S : Type 0} → OpenHandle S → List Entry → Bool
 is_past_limit h debt = is_delta_style (style h.kind) && nat_lt h.limit (length debt)
 
 -- it reads, and it has not read yet or is owed something
-abbrev pub has_news : {S : Type 0} → Open S → List Entry → Option ℕ → Bool
+abbrev pub has_news : {S : Type 0} → OpenHandle S → List Entry → Option ℕ → Bool
 has_news h history cursor = h.reads && (is_none cursor || not (is_empty (owed h history cursor)))
 
 -- ---- everything
@@ -39,10 +39,10 @@ alive_members m directory = sorted_by name_cmp (λ o. o.object.name) (filter_map
 abbrev pub alive_object : Machine → ℕ → Option LiveObject
 alive_object m number = option_and_then (known m.history) (find (λ o. o.number == number) m.objects)
 
-abbrev pub is_dead : {S : Type 0} → Machine → Open S → Bool
+abbrev pub is_dead : {S : Type 0} → Machine → OpenHandle S → Bool
 is_dead m h = not (is_directory_kind h.kind) && is_none (alive_object m h.target)
 
-abbrev pub members_of_target : {S : Type 0} → Machine → Open S → List Member
+abbrev pub members_of_target : {S : Type 0} → Machine → OpenHandle S → List Member
 members_of_target m h =
     if is_directory_kind h.kind then map member (alive_members m h.target)
     else record { name = h.name; lines = map line_of (option_map_or (λ o. o.attributes) (alive_object m h.target) []) } ∷ []
@@ -50,16 +50,16 @@ members_of_target m h =
 -- ---- the answer
 
 -- at the first read, past the limit, and in full mode with news
-abbrev pub takes_everything : {S : Type 0} → Open S → List Entry → Option ℕ → Bool
+abbrev pub takes_everything : {S : Type 0} → OpenHandle S → List Entry → Option ℕ → Bool
 takes_everything h debt cursor = is_none cursor || is_past_limit h debt || (is_full_style (style h.kind) && not (is_empty debt))
 
 -- Everything; or else the longest run of whole owed blocks that fits; or else that the object is gone, that the read waits, or nothing.
-abbrev pub answer_with : {S : Type 0} → Open S → List Entry → Option ℕ → List ℕ → Bool → ℕ → Answer
+abbrev pub answer_with : {S : Type 0} → OpenHandle S → List Entry → Option ℕ → List ℕ → Bool → ℕ → Answer
 answer_with h history cursor everything dead max =
     if takes_everything h (owed h history cursor) cursor then whole_answer everything max
     else owed_answer h.options.wait (map (block h) (owed h history cursor)) dead max
 
-abbrev pub answer_of : Machine → Open (Option ℕ) → ℕ → Answer
+abbrev pub answer_of : Machine → OpenHandle (Option ℕ) → ℕ → Answer
 answer_of m h max =
     answer_with h m.history h.seen (everything_of h.kind h.options.filter (is_past_limit h (owed h m.history h.seen)) (not (is_dead m h)) (members_of_target m h)) (is_dead m h) max
 
@@ -69,10 +69,10 @@ answer_of m h max =
 abbrev pub owed_by : Machine → ℕ → Option ℕ
 owed_by m number = option_and_then (λ h. counted h (is_some h.seen && not (is_full_style (style h.kind)) && not (is_past_limit h (owed h m.history h.seen)))) (find (λ h. h.number == number) m.handles)
   where
-    counted : Open (Option ℕ) → Bool → Option ℕ
+    counted : OpenHandle (Option ℕ) → Bool → Option ℕ
     counted h counts = if counts then Some (length (owed h m.history h.seen)) else None
 
-abbrev pub owed_in_seen : Open Seen → Seen → Option ℕ
+abbrev pub owed_in_seen : OpenHandle Progress → Progress → Option ℕ
 owed_in_seen h (Owed rest) = Some (length (filter (visible h) rest))
 owed_in_seen h seen = None
 
@@ -93,7 +93,7 @@ first_place test n [] = None
 first_place test n (e ∷ es) = if test e then Some n else first_place test (n + 1) es
 
 -- the place of the first record that it is owed
-abbrev pub first_owed : {S : Type 0} → Open S → List Entry → Option ℕ → Option ℕ
+abbrev pub first_owed : {S : Type 0} → OpenHandle S → List Entry → Option ℕ → Option ℕ
 first_owed h history None = None
 first_owed h history (Some cursor) = first_place (visible h) cursor (drop cursor history)
 
@@ -107,11 +107,11 @@ same_flag true b = b
 same_flag false b = not b
 
 -- a handle in delta mode, or a names handle, of that directory or object
-abbrev pub is_of : {S : Type 0} → Bool → ℕ → Open S → Bool
+abbrev pub is_of : {S : Type 0} → Bool → ℕ → OpenHandle S → Bool
 is_of directory target h = is_delta_style (style h.kind) && same_flag (is_directory_kind h.kind) directory && (h.target == target)
 
 -- the place of the oldest record that is owed to one of them that is not past its limit
-abbrev pub oldest : Bool → ℕ → List Entry → List (Open (Option ℕ)) → Option ℕ
+abbrev pub oldest : Bool → ℕ → List Entry → List (OpenHandle (Option ℕ)) → Option ℕ
 oldest directory target history [] = None
 oldest directory target history (h ∷ hs) =
     older (if is_of directory target h && not (is_past_limit h (owed h history h.seen)) then first_owed h history h.seen else None) (oldest directory target history hs)
@@ -139,12 +139,12 @@ kept m path = option_map (kept_at (kept_of m)) (at (content_of m) path)
 
 -- ---- the same, of what stands
 
-abbrev pub rest_seen : Seen → List Entry
+abbrev pub rest_seen : Progress → List Entry
 rest_seen (Owed rest) = rest
 rest_seen _ = []
 
 -- the length of the longest rest
-abbrev pub longest : Bool → ℕ → List (Open Seen) → ℕ
+abbrev pub longest : Bool → ℕ → List (OpenHandle Progress) → ℕ
 longest directory target [] = 0
 longest directory target (h ∷ hs) = max (if is_of directory target h then length (rest_seen h.seen) else 0) (longest directory target hs)
 
@@ -156,7 +156,7 @@ abbrev pub longer : List Entry → List Entry → List Entry
 longer first second = if nat_lt (length first) (length second) then second else first
 
 -- the longest rest of the delta and names handles of that directory or object
-abbrev pub longest_rest : Bool → ℕ → List (Open Seen) → List Entry
+abbrev pub longest_rest : Bool → ℕ → List (OpenHandle Progress) → List Entry
 longest_rest directory target [] = []
 longest_rest directory target (h ∷ hs) = longer (if is_of directory target h then rest_seen h.seen else []) (longest_rest directory target hs)
 

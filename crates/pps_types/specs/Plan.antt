@@ -24,8 +24,8 @@ use Rattle.pps_types.specs.OpenText.{OpenSpec, open_text, path_text}
 use Rattle.pps_types.specs.History.{Entry, after_kind, resolve, message_line}
 use Rattle.pps_types.specs.declared.handle_kind.HandleKind.{HandleKind}
 use Rattle.pps_types.specs.declared.handle_kind.HandleKind.TheVariants.{Object as ObjectHandle, Directory as DirectoryHandle, Names as NamesHandle, Server as ServerHandle, Client as ClientHandle}
-use Rattle.pps_types.specs.Reading.{Open, reseen, style, Style, Queue, visible, Answer, Everything, Blocks, Needs, Waits}
-use Rattle.pps_types.specs.Rests.{Seen, News, Unread, Over, Owed, pushed, past, from_first, unread, seen_of, keeps}
+use Rattle.pps_types.specs.Reading.{OpenHandle, reseen, style, Style, Queue, visible, Answer, Everything, Blocks, Needs, Waits}
+use Rattle.pps_types.specs.Rests.{Progress, News, Unread, Over, Owed, pushed, past, from_first, unread, seen_of, keeps}
 use Rattle.pps_types.specs.Outbox.{arms, first_of, behind_first, put_rising}
 use Rattle.pps_types.specs.Content.{Object, Directory, LiveObject, Connection, Content, attributes_of, object_numbered, directory_at, object_at, parent_number, members, subdirectories, handle_numbered, own_handle, handles_of, news, read_answer, queue_of}
 use Rattle.pps_types.specs.Checks.{first_refusal, reaches_memory, Check, Refuse, checks, addressee, Addressee, OneClient}
@@ -40,7 +40,7 @@ pub data Move : Type 0 where
   Leaves : ℕ → Move
   Creates : Object → Move
   AppendsRecord : Entry → Move
-  Opens : Open (Unit {0}) → Move
+  Opens : OpenHandle (Unit {0}) → Move
   Closes : ℕ → Move
   CatchesUp : ℕ → Move
   Advances : ℕ → ℕ → Move
@@ -63,10 +63,10 @@ module _ {X : Type 0} where
   without_first test (x ∷ xs) = if test x then xs else x ∷ without_first test xs
 
 -- the handle of that number
-abbrev pub on_numbered : {S : Type 0} → ℕ → (Open S → Open S) → List (Open S) → List (Open S)
+abbrev pub on_numbered : {S : Type 0} → ℕ → (OpenHandle S → OpenHandle S) → List (OpenHandle S) → List (OpenHandle S)
 on_numbered number change handles = on_first (λ h. h.number == number) change handles
 
-abbrev pub without_number : {S : Type 0} → ℕ → List (Open S) → List (Open S)
+abbrev pub without_number : {S : Type 0} → ℕ → List (OpenHandle S) → List (OpenHandle S)
 without_number number handles = without_first (λ h. h.number == number) handles
 
 -- the connection of that number, and its queue
@@ -92,13 +92,13 @@ creation o = entry_of o Created None
 -- ---- what a move does to what stands
 
 -- a record is offered to a handle
-abbrev pub offered : {S : Type 0} → Open S → Entry → Seen → Seen
+abbrev pub offered : {S : Type 0} → OpenHandle S → Entry → Progress → Progress
 offered h e (News b) = News (b || visible h e)
 offered h e Unread = Unread
 offered h e Over = Over
 offered h e (Owed rest) = seen_of h (if keeps h e then pushed (visible h) e rest else rest)
 
-abbrev pub offer : Entry → Open Seen → Open Seen
+abbrev pub offer : Entry → OpenHandle Progress → OpenHandle Progress
 offer e = reseen (λ h. offered h e h.seen)
 
 abbrev pub still_known : LiveObject → Kind → Option LiveObject
@@ -109,15 +109,15 @@ still_known o kind = Some (record o { attributes = after_kind o.attributes kind 
 abbrev pub touched : Entry → LiveObject → Option LiveObject
 touched e o = if e.record_of.object == o.object.number then still_known o e.record_of.kind else Some o
 
-abbrev pub caught_up : {S : Type 0} → Open S → Seen
+abbrev pub caught_up : {S : Type 0} → OpenHandle S → Progress
 caught_up h = seen_of h []
 
-abbrev pub left : {S : Type 0} → Open S → ℕ → Seen → Seen
+abbrev pub left : {S : Type 0} → OpenHandle S → ℕ → Progress → Progress
 left h count (Owed rest) = seen_of h (from_first (visible h) (past (visible h) count rest))
 left h count seen = seen
 
 -- a server's or client's queue begins behind its own opening
-abbrev pub first_seen : {S : Type 0} → Open S → Style → Seen
+abbrev pub first_seen : {S : Type 0} → OpenHandle S → Style → Progress
 first_seen h Queue = seen_of h []
 first_seen h kind = unread kind h.reads
 
@@ -172,7 +172,7 @@ target_of c spec found =
     if spec.all then option_map_or (λ d. d.number) (directory_at c spec.names) 0 else
     if spec.options.server then c.next_object else option_map_or (λ o. o.object.number) found c.next_object
 
-abbrev pub new_handle : Content → ℕ → Mode → OpenSpec → Option LiveObject → Open (Unit {0})
+abbrev pub new_handle : Content → ℕ → Mode → OpenSpec → Option LiveObject → OpenHandle (Unit {0})
 new_handle c conn mode spec found = record {
   number = c.next_handle;
   connection = conn;
@@ -196,7 +196,7 @@ found_object c spec = if spec.all then None else object_at c spec.names
 
 -- ---- Read
 
-abbrev pub read_effect : Open Seen → ℕ → Answer → Outcome × List Move
+abbrev pub read_effect : OpenHandle Progress → ℕ → Answer → Outcome × List Move
 read_effect h size (Everything text) = (Data text, CatchesUp h.number ∷ [])
 read_effect h size (Blocks count text) = (Data text, Advances h.number count ∷ [])
 read_effect h size Waits = (Parked, Parks h.number (Some size) ∷ [])
@@ -208,32 +208,32 @@ abbrev pub sent : Addressee → List Line → Kind
 sent (OneClient id) lines = ToClient id lines
 sent _ lines = ToAll lines
 
-abbrev pub written_kind : Content → Open Seen → HandleKind → WriteText → Kind
+abbrev pub written_kind : Content → OpenHandle Progress → HandleKind → WriteText → Kind
 written_kind c h ServerHandle text = sent (addressee h.name text.header) (map message_line text.lines)
 written_kind c h ClientHandle text = FromClient h.number (map message_line text.lines)
 written_kind c h _ text = Change (resolve (attributes_of c h.target) text.lines)
 
 -- a record of the target, where it is alive
-abbrev pub on_target : Content → Open Seen → Kind → Option ℕ → List Move
+abbrev pub on_target : Content → OpenHandle Progress → Kind → Option ℕ → List Move
 on_target c h kind writer = option_map_or (λ o. AppendsRecord (entry_of o.object kind writer) ∷ []) (object_numbered c h.target) []
 
-abbrev pub writing : Content → Open Seen → WriteText → List Move
+abbrev pub writing : Content → OpenHandle Progress → WriteText → List Move
 writing c h text = if is_empty text.lines then [] else on_target c h (written_kind c h h.kind text) (Some h.number)
 
 -- ---- Close and Detach
 
-abbrev pub parting : Content → Open Seen → HandleKind → List Move
+abbrev pub parting : Content → OpenHandle Progress → HandleKind → List Move
 parting c h ServerHandle = on_target c h Deleted None
 parting c h ClientHandle = on_target c h (Closed h.number) None
 parting c h (ObjectHandle delta) = if h.options.critical && h.writes then on_target c h Dropped None else []
 parting c h _ = []
 
 -- a parked read ends with the handle, before anything that the close tells others
-abbrev pub closing : Content → Open Seen → List Move
+abbrev pub closing : Content → OpenHandle Progress → List Move
 closing c h = Closes h.number ∷ (if is_some h.parked then Queues h.connection (ReadDone h.number (Err BadHandle)) ∷ [] else []) ++ parting c h h.kind
 
 -- one after the other, each where those before it took effect
-abbrev pub closings : Content → List (Open Seen) → List Move
+abbrev pub closings : Content → List (OpenHandle Progress) → List Move
 closings c [] = []
 closings c (h ∷ hs) = closing c h ++ closings (apply_all_seen (closing c h) c) hs
 
@@ -258,7 +258,7 @@ received conn None = (Empty, [])
 received conn (Some item) = (ItemOutcome item, Takes conn ∷ [])
 
 -- An event that no check refuses is of a handle that is there, and its texts can be read: no other answer of these three is ever met.
-abbrev pub with_handle : Content → ℕ → ℕ → (Open Seen → Outcome × List Move) → Outcome × List Move
+abbrev pub with_handle : Content → ℕ → ℕ → (OpenHandle Progress → Outcome × List Move) → Outcome × List Move
 with_handle c conn number effect = option_map_or effect (own_handle c conn number) (Done, [])
 
 abbrev pub with_path : List ℕ → (Path → Outcome × List Move) → Outcome × List Move
@@ -285,27 +285,27 @@ effect c conn Receive = received conn (first_of (queue_of c conn))
 
 -- ---- what follows
 
-abbrev pub fired : {S : Type 0} → Open S → List Move
+abbrev pub fired : {S : Type 0} → OpenHandle S → List Move
 fired h = option_map_or (λ pulse. Arms h.number None ∷ Queues h.connection (Pulse pulse.0 pulse.1) ∷ []) h.armed []
 
-abbrev pub ended : {S : Type 0} → Open S → Result (List ℕ) Refusal → List Move
+abbrev pub ended : {S : Type 0} → OpenHandle S → Result (List ℕ) Refusal → List Move
 ended h result = Parks h.number None ∷ Queues h.connection (ReadDone h.number result) ∷ []
 
-abbrev pub late_reply : {S : Type 0} → Open S → Answer → List Move
+abbrev pub late_reply : {S : Type 0} → OpenHandle S → Answer → List Move
 late_reply h (Everything text) = CatchesUp h.number ∷ ended h (Ok text)
 late_reply h (Blocks count text) = Advances h.number count ∷ ended h (Ok text)
 late_reply h (Needs need) = ended h (Err (TooSmall need))
 late_reply h _ = []
 
 -- the parked read is answered by what stands after the event
-abbrev pub late_replies : Content → Open Seen → List Move
+abbrev pub late_replies : Content → OpenHandle Progress → List Move
 late_replies c h = option_map_or (λ size. late_reply h (read_answer c h size)) h.parked []
 
-abbrev pub had_news : Content → Open Seen → Bool
+abbrev pub had_news : Content → OpenHandle Progress → Bool
 had_news before h = option_map_or news (handle_numbered before h.number) false
 
 -- a handle's pulse comes before its late reply
-abbrev pub settling_handle : Content → Content → Open Seen → List Move
+abbrev pub settling_handle : Content → Content → OpenHandle Progress → List Move
 settling_handle before c h = if not (had_news before h) && news h then fired h ++ late_replies c h else []
 
 -- each handle, in rising number, that had no news before and has some now

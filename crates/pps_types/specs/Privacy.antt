@@ -9,8 +9,8 @@ use Rattle.pps_types.specs.declared.event.Request.TheVariants.{Read, Write, Noti
 use Rattle.pps_types.specs.Outcome.{Reply, is_marked}
 use Rattle.pps_types.specs.Text.{header_of, lines_of}
 use Rattle.pps_types.specs.declared.handle_kind.HandleKind.{HandleKind}
-use Rattle.pps_types.specs.Reading.{Open}
-use Rattle.pps_types.specs.Rests.{Seen}
+use Rattle.pps_types.specs.Reading.{OpenHandle}
+use Rattle.pps_types.specs.Rests.{Progress}
 use Rattle.pps_types.specs.Content.{Content, handle_numbered}
 use Rattle.pps_types.specs.Checks.{Addressee, OneClient, addressee, meant, is_client, is_server, first_refusal, checks}
 use Rattle.pps_types.specs.Plan.{apply_all_seen, effect}
@@ -28,7 +28,7 @@ is_elsewhere c conn object (OneClient id) = list_any (λ h. not (h.connection ==
 is_elsewhere c conn object _ = false
 
 -- a server's message to one client of another connection, by its first line alone, also where a later line is bad
-abbrev pub names_other : Content → ℕ → List ℕ → Open Seen → Bool
+abbrev pub names_other : Content → ℕ → List ℕ → OpenHandle Progress → Bool
 names_other c conn bytes h = is_server h.kind && is_elsewhere c conn h.target (addressee h.name (header_of (lines_of bytes)))
 
 -- what others do that isn't told to the connection

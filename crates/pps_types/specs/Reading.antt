@@ -20,7 +20,7 @@ use Rattle.pps_types.specs.OpenText.{HandleOptions}
 
 -- One open. S is what is known of what it has seen: a cursor, or what the cursor comes to.
 -- name: of its target, where that is an object. parked: the size of the parked read. armed: a code and a value.
-pub record Open (S : Type 0) : Type 0 where
+pub record OpenHandle (S : Type 0) : Type 0 where
   pub number : ℕ
   pub connection : ℕ
   pub target : ℕ
@@ -35,7 +35,7 @@ pub record Open (S : Type 0) : Type 0 where
   pub armed : Option (ℕ × ℕ)
 
 -- the same open, with another thing known of what it has seen
-abbrev pub reseen : {S T : Type 0} → (Open S → T) → Open S → Open T
+abbrev pub reseen : {S T : Type 0} → (OpenHandle S → T) → OpenHandle S → OpenHandle T
 reseen see h = record { number = h.number; connection = h.connection; target = h.target; name = h.name; kind = h.kind; reads = h.reads; writes = h.writes; options = h.options; limit = h.limit; seen = see h; parked = h.parked; armed = h.armed }
 
 abbrev pub is_object_kind : HandleKind → Bool
@@ -132,10 +132,10 @@ print_shown name None = []
 print_shown name (Some s) = print_header s.mark (name ++ s.suffix) ++ print_lines s.lines
 
 -- what a record of the object of that name looks like to a handle
-abbrev pub block_of : {S : Type 0} → Open S → List ℕ → Kind → List ℕ
+abbrev pub block_of : {S : Type 0} → OpenHandle S → List ℕ → Kind → List ℕ
 block_of h name kind = print_shown name (shown h.kind h.number h.options.filter kind)
 
-abbrev pub block : {S : Type 0} → Open S → Entry → List ℕ
+abbrev pub block : {S : Type 0} → OpenHandle S → Entry → List ℕ
 block h e = block_of h e.name e.record_of.kind
 
 -- ---- which records a handle is given
@@ -144,14 +144,14 @@ abbrev pub is_writer : ℕ → Option ℕ → Bool
 is_writer number writer = option_map_or (λ w. w == number) writer false
 
 -- of the records of its target: not its own, unless it is an object's handle that reflects, and none without a block
-abbrev pub sees : {S : Type 0} → Open S → Record → Bool
+abbrev pub sees : {S : Type 0} → OpenHandle S → Record → Bool
 sees h r = h.reads && (not (is_writer h.number r.writer) || (h.options.reflect && is_object_kind h.kind)) && is_some (shown h.kind h.number h.options.filter r.kind)
 
 -- a record of the target, or of an object directly in it
-abbrev pub concerns : {S : Type 0} → Open S → Entry → Bool
+abbrev pub concerns : {S : Type 0} → OpenHandle S → Entry → Bool
 concerns h e = if is_directory_kind h.kind then e.directory == h.target else e.record_of.object == h.target
 
-abbrev pub visible : {S : Type 0} → Open S → Entry → Bool
+abbrev pub visible : {S : Type 0} → OpenHandle S → Entry → Bool
 visible h e = concerns h e && sees h e.record_of
 
 -- the records of a directory or an object that are kept for those who subscribe to it in delta mode

@@ -3,19 +3,19 @@
 use Rattle.std.specs.Prelude.{ℕ, ◌+◌, List, [], ◌∷◌, ◌++◌, Bool, true, false, not, ◌&&◌, ◌||◌, nat_lt, if◌then◌else◌, Option, Some, None, filter, map, length, drop, zero, suc}
 use Rattle.pps_types.specs.Bytes.{is_empty}
 use Rattle.pps_types.specs.History.{Entry}
-use Rattle.pps_types.specs.Reading.{Open, Style, Full, Delta, Queue, style, block, concerns, visible, is_chained, Answer, whole_answer, idle_answer, owed_answer}
+use Rattle.pps_types.specs.Reading.{OpenHandle, Style, Full, Delta, Queue, style, block, concerns, visible, is_chained, Answer, whole_answer, idle_answer, owed_answer}
 
 -- What a handle has of the records: in full mode whether there is news; else nothing yet, more than its limit,
 -- or the records of its target from the first that it is owed on.
-pub data Seen : Type 0 where
-  News : Bool → Seen
-  Unread : Seen
-  Over : Seen
-  Owed : List Entry → Seen
+pub data Progress : Type 0 where
+  News : Bool → Progress
+  Unread : Progress
+  Over : Progress
+  Owed : List Entry → Progress
 
 -- What is owed, and what stands between in the target's kept records. A target has one list for all its handles in delta mode, so that
 -- their rests are ends of one list: this is why the rest of a names handle holds a Change, which it is never shown.
-abbrev pub keeps : {S : Type 0} → Open S → Entry → Bool
+abbrev pub keeps : {S : Type 0} → OpenHandle S → Entry → Bool
 keeps h e = visible h e || (concerns h e && is_chained h.kind e.record_of.kind)
 
 -- ---- lists that are read from the front
@@ -46,50 +46,50 @@ module _ {X : Type 0} where
 -- ---- what a handle has seen
 
 -- by the rest that begins with the first record that it is owed
-abbrev pub stand : Style → Bool → Bool → List Entry → Seen
+abbrev pub stand : Style → Bool → Bool → List Entry → Progress
 stand Full reads over rest = News (reads && not (is_empty rest))
 stand Delta reads over rest = if over then Over else Owed rest
 stand Queue reads over rest = Owed rest
 
-abbrev pub over_limit : {S : Type 0} → Open S → List Entry → Bool
+abbrev pub over_limit : {S : Type 0} → OpenHandle S → List Entry → Bool
 over_limit h rest = nat_lt h.limit (length (filter (visible h) rest))
 
-abbrev pub seen_of : {S : Type 0} → Open S → List Entry → Seen
+abbrev pub seen_of : {S : Type 0} → OpenHandle S → List Entry → Progress
 seen_of h rest = stand (style h.kind) h.reads (over_limit h rest) rest
 
 -- before the first read
-abbrev pub unread : Style → Bool → Seen
+abbrev pub unread : Style → Bool → Progress
 unread Full reads = News reads
 unread Delta reads = Unread
 unread Queue reads = Unread
 
 -- of the records from the cursor on: what is kept, from the first that is owed
-abbrev pub rest_of : {S : Type 0} → Open S → List Entry → List Entry
+abbrev pub rest_of : {S : Type 0} → OpenHandle S → List Entry → List Entry
 rest_of h entries = from_first (visible h) (filter (keeps h) entries)
 
 -- what a handle has seen that has this cursor in this history
-abbrev pub seen_with : {S : Type 0} → Open S → List Entry → Option ℕ → Seen
+abbrev pub seen_with : {S : Type 0} → OpenHandle S → List Entry → Option ℕ → Progress
 seen_with h history None = unread (style h.kind) h.reads
 seen_with h history (Some cursor) = seen_of h (rest_of h (drop cursor history))
 
-abbrev pub owed_in : {S : Type 0} → Open S → Seen → List Entry
+abbrev pub owed_in : {S : Type 0} → OpenHandle S → Progress → List Entry
 owed_in h (Owed rest) = filter (visible h) rest
 owed_in h _ = []
 
-abbrev pub news_in : Bool → Seen → Bool
+abbrev pub news_in : Bool → Progress → Bool
 news_in reads (News b) = b
 news_in reads Unread = reads
 news_in reads Over = true
 news_in reads (Owed rest) = not (is_empty rest)
 
-abbrev pub is_over : Seen → Bool
+abbrev pub is_over : Progress → Bool
 is_over Over = true
 is_over _ = false
 
 -- ---- what a read answers
 
 -- The answer to a read of max bytes, by what everything is, and whether the target is a dead object.
-abbrev pub answer : Open Seen → Seen → List ℕ → Bool → ℕ → Answer
+abbrev pub answer : OpenHandle Progress → Progress → List ℕ → Bool → ℕ → Answer
 answer h (News true) everything dead max = whole_answer everything max
 answer h (News false) everything dead max = idle_answer dead h.options.wait
 answer h Unread everything dead max = whole_answer everything max

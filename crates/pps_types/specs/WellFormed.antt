@@ -4,8 +4,8 @@ use Rattle.std.specs.Option.{option_map_or}
 use Rattle.std.specs.List.{AllByRecursion}
 use Rattle.pps_types.specs.declared.handle_kind.HandleKind.{HandleKind}
 use Rattle.pps_types.specs.declared.handle_kind.HandleKind.TheVariants.{Object as ObjectHandle, Server as ServerHandle, Client as ClientHandle}
-use Rattle.pps_types.specs.Reading.{Open, Style, Full, Delta, Queue, style, is_directory_kind, visible}
-use Rattle.pps_types.specs.Rests.{Seen, News, Over, Owed, seen_of}
+use Rattle.pps_types.specs.Reading.{OpenHandle, Style, Full, Delta, Queue, style, is_directory_kind, visible}
+use Rattle.pps_types.specs.Rests.{Progress, News, Over, Owed, seen_of}
 use Rattle.pps_types.specs.History.{Entry}
 use Rattle.pps_types.specs.Content.{Object, Directory, Content, directory_at, object_at, object_in, object_numbered, handle_numbered, is_attached, news}
 use Rattle.pps_types.specs.Names.{parent}
@@ -14,16 +14,16 @@ use Rattle.pps_types.specs.Checks.{is_server}
 -- ---- numbers
 
 -- from low on, each above the one before, all below high
-abbrev pub AreRising : ℕ → List ℕ → ℕ → Type 0
-AreRising low [] high = low ≤ high
-AreRising low (n ∷ ns) high = (low ≤ n) × AreRising (n + 1) ns high
+abbrev pub RiseBetween : ℕ → List ℕ → ℕ → Type 0
+RiseBetween low [] high = low ≤ high
+RiseBetween low (n ∷ ns) high = (low ≤ n) × RiseBetween (n + 1) ns high
 
 -- All stand in rising number, below the number of the next one. Connections have the numbers 1 to 1,024.
 pub record AreInOrder (c : Content) : Type 0 where
-  pub handles_rise : AreRising 0 (map (λ h. h.number) c.handles) c.next_handle
-  pub objects_rise : AreRising 0 (map (λ o. o.object.number) c.objects) c.next_object
-  pub directories_rise : AreRising 0 (map (λ d. d.number) c.directories) c.next_directory
-  pub connections_rise : AreRising 1 (map (λ x. x.number) c.connections) 1025
+  pub handles_rise : RiseBetween 0 (map (λ h. h.number) c.handles) c.next_handle
+  pub objects_rise : RiseBetween 0 (map (λ o. o.object.number) c.objects) c.next_object
+  pub directories_rise : RiseBetween 0 (map (λ d. d.number) c.directories) c.next_directory
+  pub connections_rise : RiseBetween 1 (map (λ x. x.number) c.connections) 1025
 
 -- ---- directories and objects
 
@@ -83,7 +83,7 @@ pub record AreServed (c : Content) : Type 0 where
 -- ---- what handles have seen
 
 -- in full mode it is told whether there is news, in the others what is owed; only in delta mode is there a limit to pass
-abbrev pub fits : Style → Seen → Bool
+abbrev pub fits : Style → Progress → Bool
 fits Full (News b) = true
 fits Full s = false
 fits Delta (News b) = false
@@ -93,7 +93,7 @@ fits Queue Over = false
 fits Queue s = true
 
 -- what it is owed is within its limit, where it has one
-abbrev pub IsWhole : {S : Type 0} → Open S → Seen → Type 0
+abbrev pub IsWhole : {S : Type 0} → OpenHandle S → Progress → Type 0
 IsWhole h (Owed rest) = seen_of h rest ≡ Owed rest
 IsWhole h s = Unit {0}
 
@@ -102,7 +102,7 @@ abbrev pub begins : (Entry → Bool) → List Entry → Bool
 begins test [] = true
 begins test (e ∷ es) = test e
 
-abbrev pub HasFirst : {S : Type 0} → Open S → Seen → Type 0
+abbrev pub HasFirst : {S : Type 0} → OpenHandle S → Progress → Type 0
 HasFirst h (Owed rest) = begins (visible h) rest ≡ true
 HasFirst h s = Unit {0}
 

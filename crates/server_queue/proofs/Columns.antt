@@ -9,8 +9,8 @@ use Rattle.pps_types.specs.declared.record.Kind.TheVariants.{Created, Change, Tr
 use Rattle.pps_types.specs.declared.record.Record.{Record}
 use Rattle.pps_types.specs.Filter.{Part}
 use Rattle.pps_types.specs.History.{Entry}
-use Rattle.pps_types.specs.Reading.{Open, Queue, style, concerns, sees, is_writer, is_object_kind, shown, with_lines, shown_to_server, shown_to_client, print_shown, block}
-use Rattle.pps_types.specs.Rests.{Seen}
+use Rattle.pps_types.specs.Reading.{OpenHandle, Queue, style, concerns, sees, is_writer, is_object_kind, shown, with_lines, shown_to_server, shown_to_client, print_shown, block}
+use Rattle.pps_types.specs.Rests.{Progress}
 use Rattle.pps_block.specs.Queue.{queue_shown}
 use Rattle.server_queue.specs.Blocks.{queue_blocks}
 use Rattle.server_queue.specs.OwedTo.{IsOwedTo}
@@ -61,14 +61,14 @@ column NamesHandle number parts k is h = absurd cc
 column ServerHandle number parts k is h = to_server k h
 column ClientHandle number parts k is h = to_client number k h
 
-sees_is : (h : Open Seen) (r : Record) → (h.reads && ((not (is_writer h.number r.writer) || (h.options.reflect && is_object_kind h.kind)) && is_some (shown h.kind h.number h.options.filter r.kind))) ≡ sees h r
+sees_is : (h : OpenHandle Progress) (r : Record) → (h.reads && ((not (is_writer h.number r.writer) || (h.options.reflect && is_object_kind h.kind)) && is_some (shown h.kind h.number h.options.filter r.kind))) ≡ sees h r
 sees_is h r = by h.reads (not (is_writer h.number r.writer)) (h.options.reflect && is_object_kind h.kind) (is_some (shown h.kind h.number h.options.filter r.kind))
   where
     by : (a b c d : Bool) → (a && ((b || c) && d)) ≡ ((a && (b || c)) && d)
     by true b c d = refl
     by false b c d = refl
 
-pub blocks_are : (h : Open Seen) (owed : List Entry) → IsOwedTo h owed → queue_blocks owed ≡ map (block h) owed
+pub blocks_are : (h : OpenHandle Progress) (owed : List Entry) → IsOwedTo h owed → queue_blocks owed ≡ map (block h) owed
 blocks_are h [] is = refl
 blocks_are h (e ∷ owed) is =
     let sees_it : sees h e.record_of ≡ true = right_of (concerns h e) (sees h e.record_of) is.seen.0 in

@@ -2,8 +2,8 @@
 use Rattle.std.specs.Prelude.{ℕ, List, filter, length}
 use Rattle.pps_types.specs.declared.record.Record.{Record}
 use Rattle.pps_types.specs.History.{Entry}
-use Rattle.pps_types.specs.Reading.{Open, visible}
-use Rattle.pps_types.specs.Rests.{Seen}
+use Rattle.pps_types.specs.Reading.{OpenHandle, visible}
+use Rattle.pps_types.specs.Rests.{Progress}
 
 -- the record, with the directory and the name of its object
 abbrev pub shared_entry : ℕ → List ℕ → Record → Entry
@@ -16,9 +16,9 @@ pub record Shared : Type 0 where
   pub count : ℕ
 
 -- how many of these handles are given a record
-abbrev pub seer_count : Entry → List (Open Seen) → ℕ
-seer_count e handles = length (filter (λ (h : Open Seen). visible h e) handles)
+abbrev pub seer_count : Entry → List (OpenHandle Progress) → ℕ
+seer_count e handles = length (filter (λ (h : OpenHandle Progress). visible h e) handles)
 
 -- a share for each of them
-abbrev pub shares_for : Entry → List (Open Seen) → Shared
+abbrev pub shares_for : Entry → List (OpenHandle Progress) → Shared
 shares_for e handles = record { entry = e; count = seer_count e handles }

@@ -3,8 +3,8 @@ ghost use Rattle.std.specs.Prelude.{◌≡◌, ◌≢◌, ◌↔◌, IsTrue, ◌
 ghost use Rattle.pps_types.specs.Bytes.{is_empty};
 ghost use Rattle.pps_types.specs.Names.{refusal_of};
 ghost use Rattle.pps_types.specs.declared.refusal.Refusal.TheVariants.{OutOfMemory};
-ghost use Rattle.pps_types.specs.Reading.{Open, fitting, block};
-ghost use Rattle.pps_types.specs.Rests.{Seen};
+ghost use Rattle.pps_types.specs.Reading.{OpenHandle, fitting, block};
+ghost use Rattle.pps_types.specs.Rests.{Progress};
 ghost use Rattle.pps_types.specs.Refused.{LacksMemory};
 ghost use Rattle.server_queue.specs.Blocks.{queue_blocks};
 ghost use Rattle.server_queue.specs.Messages.{message_count};
@@ -132,7 +132,7 @@ impl Queue {
         ensures some { LacksMemory result → 0 < length (self.now.owed ++ extra.now) }
         ensures ok { IfOk result (λ plan. (plan.count, plan.text.items)
             ≡ fitting max (queue_blocks (self.now.owed ++ extra.now))) }
-        ensures blocks { (h : Open Seen) → IsOwedTo h (self.now.owed ++ extra.now)
+        ensures blocks { (h : OpenHandle Progress) → IsOwedTo h (self.now.owed ++ extra.now)
             → queue_blocks (self.now.owed ++ extra.now) ≡ map (block h) (self.now.owed ++ extra.now) }
     {
         plan_read(*self.owed.allocator(), &self.owed, extra, max)

@@ -22,8 +22,8 @@ use Rattle.pps_types.specs.Names.{Path, place}
 use Rattle.pps_types.specs.OpenText.{OpenSpec, open_text, path_text}
 use Rattle.pps_types.specs.Text.{WriteText, write_text}
 use Rattle.pps_types.specs.Outbox.{first_of}
-use Rattle.pps_types.specs.Reading.{Open, is_directory_kind, Answer, Everything, Blocks, Needs, TargetGone, Waits, Nothing}
-use Rattle.pps_types.specs.Rests.{Seen}
+use Rattle.pps_types.specs.Reading.{OpenHandle, is_directory_kind, Answer, Everything, Blocks, Needs, TargetGone, Waits, Nothing}
+use Rattle.pps_types.specs.Rests.{Progress}
 use Rattle.pps_types.specs.Content.{Object, Directory, LiveObject, Content, at, directory_at, object_at, object_numbered, handles_of, is_attached, queue_of, news, read_answer, own_handle}
 use Rattle.pps_types.specs.Checks.{Refuse, Memory, first_refusal, parsed, all_checks, name_checks, open_checks, letters_fit, mode_fits, checks}
 use Rattle.pps_types.specs.Plan.{Move, Leaves, Creates, AppendsRecord, Opens, Closes, Queues, on_target, written_kind, writing, parting, closing, read_effect, settling_handle, fired, late_replies, late_reply, had_news, apply_seen, apply_all_seen, entry_of, new_object, new_handle, kind_opened, found_object, opening, closings, unlinking, received, with_result, effect, settling, all_checks_of, passes_last_number, decided, plan}
@@ -52,7 +52,7 @@ silent-flat : {X : Type 0} (f : X → List Move) → ((x : X) → AreSilent (f x
 silent-flat f p [] = tt
 silent-flat f p (x ∷ xs) = all-append IsSilent (f x) (flat_map f xs) (p x) (silent-flat f p xs)
 
-late_reply-silent : (h : Open Seen) (a : Answer) → AreSilent (late_reply h a)
+late_reply-silent : (h : OpenHandle Progress) (a : Answer) → AreSilent (late_reply h a)
 late_reply-silent h (Everything text) = ((λ c. tt), ((λ c. tt), ((λ c. tt), tt)))
 late_reply-silent h (Blocks count text) = ((λ c. tt), ((λ c. tt), ((λ c. tt), tt)))
 late_reply-silent h (Needs need) = ((λ c. tt), ((λ c. tt), tt))
@@ -65,7 +65,7 @@ unfolding settling
 settling-silent before c = silent-flat (settling_handle before c) (λ h. all-cond IsSilent (not (had_news before h) && news h) (fired h ++ late_replies c h) []
     (all-append IsSilent (fired h) (late_replies c h) (all-or IsSilent _ (λ pulse. ((λ c. tt), ((λ c. tt), tt))) h.armed) (all-or IsSilent _ (λ size. late_reply-silent h (read_answer c h size)) h.parked)) tt) c.handles
 
-read-silent : (h : Open Seen) (size : ℕ) (a : Answer) → AreSilent (read_effect h size a).1
+read-silent : (h : OpenHandle Progress) (size : ℕ) (a : Answer) → AreSilent (read_effect h size a).1
 read-silent h size (Everything text) = ((λ c. tt), tt)
 read-silent h size (Blocks count text) = ((λ c. tt), tt)
 read-silent h size Waits = ((λ c. tt), tt)
@@ -86,7 +86,7 @@ silent-outcome f p (Some x) = p x
 of-found : (c : Content) (o : LiveObject) (kind : Kind) (writer : Option ℕ) → object_numbered c o.object.number ≡ Some o → IsOfAlive c.objects (entry_of o.object kind writer)
 of-found c o kind writer e = record { object = o; found = e; in_directory = refl; under_name = refl }
 
-target-alive : (c d : Content) → d.objects ≡ c.objects → (h : Open Seen) (kind : Kind) (writer : Option ℕ) → AreAlive d (on_target c h kind writer)
+target-alive : (c d : Content) → d.objects ≡ c.objects → (h : OpenHandle Progress) (kind : Kind) (writer : Option ℕ) → AreAlive d (on_target c h kind writer)
 target-alive c d same h kind writer = go (object_numbered c h.target) refl
   where
     go : (o : Option LiveObject) → object_numbered c h.target ≡ o → AreAlive d (option_map_or (λ (o : LiveObject). AppendsRecord (entry_of o.object kind writer) ∷ []) o [])
@@ -97,14 +97,14 @@ target-alive c d same h kind writer = go (object_numbered c h.target) refl
       tt,
     )
 
-parting-alive : (c d : Content) → d.objects ≡ c.objects → (h : Open Seen) (k : HandleKind) → AreAlive d (parting c h k)
+parting-alive : (c d : Content) → d.objects ≡ c.objects → (h : OpenHandle Progress) (k : HandleKind) → AreAlive d (parting c h k)
 parting-alive c d same h ServerHandle = target-alive c d same h Deleted None
 parting-alive c d same h ClientHandle = target-alive c d same h (Closed h.number) None
 parting-alive c d same h NamesHandle = tt
 parting-alive c d same h (ObjectHandle delta) = elim (h.options.critical && h.writes) as (λ b. AreAlive d (cond b (on_target c h Dropped None) [])) [ true ↦ target-alive c d same h Dropped None | false ↦ tt ]
 parting-alive c d same h (DirectoryHandle delta) = tt
 
-closing-alive : (c : Content) (h : Open Seen) → AreAlive c (closing c h)
+closing-alive : (c : Content) (h : OpenHandle Progress) → AreAlive c (closing c h)
 closing-alive c h = (
   tt,
   elim (is_some h.parked) as (λ b. AreAlive (apply_seen (Closes h.number) c) ((cond b (Queues h.connection (ReadDone h.number (Err BadHandle)) ∷ []) []) ++ parting c h h.kind)) [
@@ -113,14 +113,14 @@ closing-alive c h = (
   ],
 )
 
-writing-alive : (c : Content) (h : Open Seen) (text : WriteText) → AreAlive c (writing c h text)
+writing-alive : (c : Content) (h : OpenHandle Progress) (text : WriteText) → AreAlive c (writing c h text)
 writing-alive c h text = elim (is_empty text.lines) as (λ b. AreAlive c (cond b [] (on_target c h (written_kind c h h.kind text) (Some h.number)))) [ true ↦ tt | false ↦ target-alive c c refl h (written_kind c h h.kind text) (Some h.number) ]
 
 pub alive-append : (xs ys : List Move) (c : Content) → AreAlive c xs → AreAlive (apply_all_seen xs c) ys → AreAlive c (xs ++ ys)
 alive-append [] ys c f g = g
 alive-append (x ∷ xs) ys c f g = (f.0, alive-append xs ys (apply_seen x c) f.1 g)
 
-closings-alive : (hs : List (Open Seen)) (c : Content) → AreAlive c (closings c hs)
+closings-alive : (hs : List (OpenHandle Progress)) (c : Content) → AreAlive c (closings c hs)
 closings-alive [] c = tt
 closings-alive (h ∷ hs) c = alive-append (closing c h) (closings (apply_all_seen (closing c h) c) hs) c (closing-alive c h) (closings-alive hs (apply_all_seen (closing c h) c))
 
@@ -136,7 +136,7 @@ module _ (c : Content) (b : Basis c) (conn : ℕ) (mode : Mode) (spec : OpenSpec
       → IsAlive (apply_seen (Creates (new_object c spec)) d) (Opens (new_handle c conn mode spec found))
   open-new-alive d r number found all only = go spec.options.server refl
     where
-      H : Open (Unit {0})
+      H : OpenHandle (Unit {0})
       H = new_handle c conn mode spec found
 
       N : Object
@@ -161,7 +161,7 @@ module _ (c : Content) (b : Basis c) (conn : ℕ) (mode : Mode) (spec : OpenSpec
   open-found-alive : spec.all ≡ false → (o : LiveObject) → object_at c spec.names ≡ Some o → AreAlive c (opening c conn mode spec (Some o))
   open-found-alive all o found = go spec.options.server refl (is_some o.object.server) refl mode.t
     where
-      H : Open (Unit {0})
+      H : OpenHandle (Unit {0})
       H = new_handle c conn mode spec (Some o)
 
       own : object_numbered c o.object.number ≡ Some o

@@ -15,8 +15,8 @@ use Rattle.pps_types.specs.declared.handle_kind.HandleKind.TheVariants.{Object a
 use Rattle.pps_types.specs.Bytes.{is_empty}
 use Rattle.pps_types.specs.Text.{WriteText, write_text, print_lines}
 use Rattle.pps_types.specs.History.{Attribute, after_kind, text_length, resolve, message_line, apply_line}
-use Rattle.pps_types.specs.Reading.{Open, is_directory_kind}
-use Rattle.pps_types.specs.Rests.{Seen}
+use Rattle.pps_types.specs.Reading.{OpenHandle, is_directory_kind}
+use Rattle.pps_types.specs.Rests.{Progress}
 use Rattle.pps_types.specs.Content.{LiveObject, Content, object_numbered, attributes_of, handles_of}
 use Rattle.pps_types.specs.Checks.{first_refusal, parsed, Addressee, Everyone, OneClient, Nobody, addressee, own_header, limit_checks, changed, text_checks, write_checks}
 use Rattle.pps_types.specs.Plan.{Move, AppendsRecord, Closes, Queues, Leaves, apply_seen, apply_all_seen, entry_of, on_target, written_kind, sent, writing, parting, closing, closings, with_result}
@@ -50,7 +50,7 @@ pub found-fit : (c : Content) (o : LiveObject) (test : LiveObject → Bool) (kin
     → IsFit c (AppendsRecord (entry_of o.object kind writer))
 found-fit c o test kind writer b e lines client stay = (((all-find IsBoundObject test c.objects o b.objects e).0, lines, client), stay)
 
-pub target-fit : (c : Content) (h : Open Seen) (kind : Kind) (writer : Option ℕ) → IsBound c → length (print_lines (lines_of kind)) ≤ 400000 → client_of kind < 2 ^ 32
+pub target-fit : (c : Content) (h : OpenHandle Progress) (kind : Kind) (writer : Option ℕ) → IsBound c → length (print_lines (lines_of kind)) ≤ 400000 → client_of kind < 2 ^ 32
     → ((o : LiveObject) → object_numbered c h.target ≡ Some o → AllStay c o.object.number kind) → AreFit c (on_target c h kind writer)
 target-fit c h kind writer b lines client stay = go (object_numbered c h.target) refl
   where
@@ -74,12 +74,12 @@ within-limit attributes p =
     let long = or-false (nat_lt 1024 (length attributes)) (nat_lt 65536 (text_length attributes)) tests.0 in
     grind (arith, nat_tests, long.1)
 
-sent-fit : (c : Content) (h : Open Seen) (to : Addressee) (text : WriteText) → IsBound c → length (print_lines (map message_line text.lines)) ≤ 400000 → AreFit c (on_target c h (sent to (map message_line text.lines)) (Some h.number))
+sent-fit : (c : Content) (h : OpenHandle Progress) (to : Addressee) (text : WriteText) → IsBound c → length (print_lines (map message_line text.lines)) ≤ 400000 → AreFit c (on_target c h (sent to (map message_line text.lines)) (Some h.number))
 sent-fit c h Everyone text b le = target-fit c h (ToAll (map message_line text.lines)) (Some h.number) b le (omega arith) (λ o e. shrink (ToAll (map message_line text.lines)) (λ attributes. omega arith) c b o.object.number)
 sent-fit c h Nobody text b le = target-fit c h (ToAll (map message_line text.lines)) (Some h.number) b le (omega arith) (λ o e. shrink (ToAll (map message_line text.lines)) (λ attributes. omega arith) c b o.object.number)
 sent-fit c h (OneClient id) text b le = target-fit c h (ToClient id (map message_line text.lines)) (Some h.number) b le (omega arith) (λ o e. shrink (ToClient id (map message_line text.lines)) (λ attributes. omega arith) c b o.object.number)
 
-written-fit : (c : Content) (h : Open Seen) (kind : HandleKind) (text : WriteText) → AreInOrder c → IsBound c → h.number < 2 ^ 32 → is_directory_kind kind ≡ false → PrintsShort text → first_refusal (text_checks c h kind text) ≡ None
+written-fit : (c : Content) (h : OpenHandle Progress) (kind : HandleKind) (text : WriteText) → AreInOrder c → IsBound c → h.number < 2 ^ 32 → is_directory_kind kind ≡ false → PrintsShort text → first_refusal (text_checks c h kind text) ≡ None
     → AreFit c (on_target c h (written_kind c h kind text) (Some h.number))
 written-fit c h (ObjectHandle delta) text order b low plain short p =
     target-fit c h (Change (resolve (attributes_of c h.target) text.lines)) (Some h.number) b (short.0 (attributes_of c h.target)) (omega arith)
@@ -90,15 +90,15 @@ written-fit c h ClientHandle text order b low plain short p =
 written-fit c h (DirectoryHandle delta) text order b low plain short p = absurd (let h = plain in cc)
 written-fit c h NamesHandle text order b low plain short p = absurd (let h = plain in cc)
 
-pub low-number : (c : Content) (h : Open Seen) (test : Open Seen → Bool) → AreInOrder c → IsBound c → find test c.handles ≡ Some h → h.number < 2 ^ 32
+pub low-number : (c : Content) (h : OpenHandle Progress) (test : OpenHandle Progress → Bool) → AreInOrder c → IsBound c → find test c.handles ≡ Some h → h.number < 2 ^ 32
 low-number c h test order b e =
-    let below : h.number < c.next_handle = all-find (λ (h : Open Seen). h.number < c.next_handle) test c.handles h (rising-below (λ (h : Open Seen). h.number) 0 c.next_handle c.handles order.handles_rise) e in
+    let below : h.number < c.next_handle = all-find (λ (h : OpenHandle Progress). h.number < c.next_handle) test c.handles h (rising-below (λ (h : OpenHandle Progress). h.number) 0 c.next_handle c.handles order.handles_rise) e in
     omega (arith, below, b.handles_end)
 
-pub bound-handle : (c : Content) (h : Open Seen) (test : Open Seen → Bool) → IsBound c → find test c.handles ≡ Some h → IsBoundHandle h
+pub bound-handle : (c : Content) (h : OpenHandle Progress) (test : OpenHandle Progress → Bool) → IsBound c → find test c.handles ≡ Some h → IsBoundHandle h
 bound-handle c h test b e = all-find IsBoundHandle test c.handles h b.handles e
 
-pub write-fit : (c : Content) (h : Open Seen) (test : Open Seen → Bool) (bytes : List ℕ) → AreInOrder c → IsBound c → find test c.handles ≡ Some h → first_refusal (write_checks c bytes h) ≡ None
+pub write-fit : (c : Content) (h : OpenHandle Progress) (test : OpenHandle Progress → Bool) (bytes : List ℕ) → AreInOrder c → IsBound c → find test c.handles ≡ Some h → first_refusal (write_checks c bytes h) ≡ None
     → AreFit c (with_result (write_text bytes) (λ text. (Outcome.Wrote (length bytes), writing c h text))).1
 write-fit c h test bytes order b e p =
     let tests = all-pass (write_checks c bytes h) p in
@@ -112,14 +112,14 @@ write-fit c h test bytes order b e p =
 -- ---- Close
 
 -- the same objects take the same record
-refit : (c d : Content) → d.objects ≡ c.objects → (h : Open Seen) (kind : Kind) (writer : Option ℕ) → AreFit c (on_target c h kind writer) → AreFit d (on_target c h kind writer)
+refit : (c d : Content) → d.objects ≡ c.objects → (h : OpenHandle Progress) (kind : Kind) (writer : Option ℕ) → AreFit c (on_target c h kind writer) → AreFit d (on_target c h kind writer)
 refit c d same h kind writer = go (object_numbered c h.target)
   where
     go : (o : Option LiveObject) → AreFit c (option_map_or (λ o. AppendsRecord (entry_of o.object kind writer) ∷ []) o []) → AreFit d (option_map_or (λ o. AppendsRecord (entry_of o.object kind writer) ∷ []) o [])
     go None f = tt
     go (Some o) f = ((f.0.0, rw same f.0.1), tt)
 
-parting-fit : (c : Content) (h : Open Seen) (kind : HandleKind) → IsBound c → h.number < 2 ^ 32 → (d : Content) → d.objects ≡ c.objects → AreFit d (parting c h kind)
+parting-fit : (c : Content) (h : OpenHandle Progress) (kind : HandleKind) → IsBound c → h.number < 2 ^ 32 → (d : Content) → d.objects ≡ c.objects → AreFit d (parting c h kind)
 parting-fit c h ServerHandle b low d same = refit c d same h Deleted None (target-fit c h Deleted None b (omega arith) (omega arith) (λ o e. shrink Deleted (λ attributes. omega arith) c b o.object.number))
 parting-fit c h ClientHandle b low d same = refit c d same h (Closed h.number) None (target-fit c h (Closed h.number) None b (omega arith) low (λ o e. shrink (Closed h.number) (λ attributes. omega arith) c b o.object.number))
 parting-fit c h (ObjectHandle delta) b low d same = elim (h.options.critical && h.writes) as (λ k. AreFit d (cond k (on_target c h Dropped None) []))
@@ -127,7 +127,7 @@ parting-fit c h (ObjectHandle delta) b low d same = elim (h.options.critical && 
 parting-fit c h (DirectoryHandle delta) b low d same = tt
 parting-fit c h NamesHandle b low d same = tt
 
-pub closing-fit : (c : Content) (h : Open Seen) → IsBound c → h.number < 2 ^ 32 → AreFit c (closing c h)
+pub closing-fit : (c : Content) (h : OpenHandle Progress) → IsBound c → h.number < 2 ^ 32 → AreFit c (closing c h)
 closing-fit c h b low = (
   tt,
   elim (is_some h.parked) as (λ k. AreFit (apply_seen (Closes h.number) c) ((cond k (Queues h.connection (ReadDone h.number (Err BadHandle)) ∷ []) []) ++ parting c h h.kind)) [
@@ -136,7 +136,7 @@ closing-fit c h b low = (
   ],
 )
 
-pub closings-fit : (hs : List (Open Seen)) (c : Content) → IsBound c → AllByRecursion (λ h. h.number < 2 ^ 32) hs → AreFit c (closings c hs)
+pub closings-fit : (hs : List (OpenHandle Progress)) (c : Content) → IsBound c → AllByRecursion (λ h. h.number < 2 ^ 32) hs → AreFit c (closings c hs)
 closings-fit [] c b low = tt
 closings-fit (h ∷ hs) c b low =
     let f = closing-fit c h b low.0 in
@@ -144,6 +144,6 @@ closings-fit (h ∷ hs) c b low =
 
 pub leaving-fit : (c : Content) (conn : ℕ) → AreInOrder c → IsBound c → AreFit c (closings c (handles_of c conn) ++ Leaves conn ∷ [])
 leaving-fit c conn order b = fit-append (closings c (handles_of c conn)) (Leaves conn ∷ []) c
-    (closings-fit (handles_of c conn) c b (all-filter (λ (h : Open Seen). h.number < 2 ^ 32) (λ h. h.connection == conn) c.handles
-    (all-weaken {P = λ (h : Open Seen). h.number < c.next_handle} {Q = λ (h : Open Seen). h.number < 2 ^ 32} (λ h below. omega (arith, below, b.handles_end)) c.handles (rising-below (λ (h : Open Seen). h.number) 0 c.next_handle c.handles order.handles_rise))))
+    (closings-fit (handles_of c conn) c b (all-filter (λ (h : OpenHandle Progress). h.number < 2 ^ 32) (λ h. h.connection == conn) c.handles
+    (all-weaken {P = λ (h : OpenHandle Progress). h.number < c.next_handle} {Q = λ (h : OpenHandle Progress). h.number < 2 ^ 32} (λ h below. omega (arith, below, b.handles_end)) c.handles (rising-below (λ (h : OpenHandle Progress). h.number) 0 c.next_handle c.handles order.handles_rise))))
     (tt, tt)

@@ -16,8 +16,8 @@ use Rattle.pps_types.specs.Outcome.{IsSendable}
 use Rattle.pps_types.specs.Text.{WriteText, write_text}
 use Rattle.pps_types.specs.Names.{Path, same_path, parent, last_name, name_cmp, sorted_by}
 use Rattle.pps_types.specs.OpenText.{path_text, OpenSpec, open_text}
-use Rattle.pps_types.specs.Reading.{Open, Answer, Everything, Blocks, Needs, TargetGone, Waits, Nothing}
-use Rattle.pps_types.specs.Rests.{Seen}
+use Rattle.pps_types.specs.Reading.{OpenHandle, Answer, Everything, Blocks, Needs, TargetGone, Waits, Nothing}
+use Rattle.pps_types.specs.Rests.{Progress}
 use Rattle.pps_types.specs.Outbox.{arms, first_of}
 use Rattle.pps_types.specs.Content.{Directory, LiveObject, Connection, Content, is_attached, own_handle, connection_numbered, queue_of, members, subdirectories, directory_at, object_at, read_answer, news}
 use Rattle.pps_types.specs.Checks.{Refuse, Memory, first_refusal, parsed, on_handle, on_path, letters_fit, open_checks, read_checks, write_checks, close_checks, mkdir_checks, notify_checks, checks}
@@ -37,7 +37,7 @@ use Rattle.service_laws.proofs.BoundedEffects.{fit-append, low-number, bound-han
 use Rattle.service_laws.proofs.BoundedOpens.{members-crowd, sorted-length, unlink-fit, mkdir-fit, open-fit}
 use Rattle.service_laws.proofs.BoundedReplies.{FitsIn, read-fits, settling-fit, needs-fit, names-length, all-sorted}
 
-read-size : (c : Content) (size : ℕ) (h : Open Seen) → first_refusal (read_checks c size h) ≡ None → size ≤ 17000000
+read-size : (c : Content) (size : ℕ) (h : OpenHandle Progress) → first_refusal (read_checks c size h) ≡ None → size ≤ 17000000
 read-size c size h p = go (nat_le 1 size) (nat_le size 17000000) refl (all-pass (read_checks c size h) p).1.0
   where
     go : (a b : Bool) → nat_le size 17000000 ≡ b → not (a && b) ≡ false → size ≤ 17000000
@@ -45,7 +45,7 @@ read-size c size h p = go (nat_le 1 size) (nat_le size 17000000) refl (all-pass 
     go true false e f = absurd (let h = f in cc)
     go false b e f = absurd (let h = f in cc)
 
-read-fit : (c : Content) (h : Open Seen) (size : ℕ) → size ≤ 17000000 → (a : Answer) → AreFit c (read_effect h size a).1
+read-fit : (c : Content) (h : OpenHandle Progress) (size : ℕ) → size ≤ 17000000 → (a : Answer) → AreFit c (read_effect h size a).1
 read-fit c h size le (Everything text) = (tt, tt)
 read-fit c h size le (Blocks count text) = (tt, tt)
 read-fit c h size le Waits = (le, tt)
@@ -86,7 +86,7 @@ effect-fit c conn Receive w b p = go (first_of (queue_of c conn))
 
 -- ---- answers
 
-read-sendable : (h : Open Seen) (size : ℕ) → size ≤ 17000000 → (a : Answer) → FitsIn size a → IsSendable (Ok (read_effect h size a).0)
+read-sendable : (h : OpenHandle Progress) (size : ℕ) → size ≤ 17000000 → (a : Answer) → FitsIn size a → IsSendable (Ok (read_effect h size a).0)
 read-sendable h size le (Everything text) fits = omega (arith, le, fits)
 read-sendable h size le (Blocks count text) fits = omega (arith, le, fits)
 read-sendable h size le Waits fits = tt
@@ -154,16 +154,16 @@ effect-sendable c conn (Read handle size) b p =
     rw own.1 (read-sendable own.0 size (read-size c size own.0 own.2) (read_answer c own.0 size) (read-fits c own.0 size))
 effect-sendable c conn (Write handle bytes) b p = on (own_handle c conn handle)
   where
-    go : (h : Open Seen) (r : Result WriteText Refusal) → IsSendable (Ok (with_result r (λ text. (Outcome.Wrote (length bytes), writing c h text))).0)
+    go : (h : OpenHandle Progress) (r : Result WriteText Refusal) → IsSendable (Ok (with_result r (λ text. (Outcome.Wrote (length bytes), writing c h text))).0)
     go h (Ok text) = tt
     go h (Err r) = tt
 
-    on : (o : Option (Open Seen)) → IsSendable (Ok (option_map_or {U = Outcome × List Move} (λ h. with_result (write_text bytes) (λ text. (Outcome.Wrote (length bytes), writing c h text))) o (Outcome.Done, [])).0)
+    on : (o : Option (OpenHandle Progress)) → IsSendable (Ok (option_map_or {U = Outcome × List Move} (λ h. with_result (write_text bytes) (λ text. (Outcome.Wrote (length bytes), writing c h text))) o (Outcome.Done, [])).0)
     on None = tt
     on (Some h) = go h (write_text bytes)
 effect-sendable c conn (Close handle) b p = go (own_handle c conn handle)
   where
-    go : (o : Option (Open Seen)) → IsSendable (Ok (option_map_or {U = Outcome × List Move} (λ h. (Outcome.Done, closing c h)) o (Outcome.Done, [])).0)
+    go : (o : Option (OpenHandle Progress)) → IsSendable (Ok (option_map_or {U = Outcome × List Move} (λ h. (Outcome.Done, closing c h)) o (Outcome.Done, [])).0)
     go None = tt
     go (Some h) = tt
 effect-sendable c conn (Unlink path) b p = go (path_text path)
@@ -183,7 +183,7 @@ effect-sendable c conn (ListRequest path) b p = go (path_text path)
     go (Some names) = listing-length c names b
 effect-sendable c conn (Notify handle action code value) b p = go (own_handle c conn handle)
   where
-    go : (o : Option (Open Seen)) → IsSendable (Ok (option_map_or {U = Outcome × List Move} (λ h. (Outcome.Input (news h), Arms h.number (if arms action (news h) then Some (code, value) else None) ∷ [])) o (Outcome.Done, [])).0)
+    go : (o : Option (OpenHandle Progress)) → IsSendable (Ok (option_map_or {U = Outcome × List Move} (λ h. (Outcome.Input (news h), Arms h.number (if arms action (news h) then Some (code, value) else None) ∷ [])) o (Outcome.Done, [])).0)
     go None = tt
     go (Some h) = tt
 effect-sendable c conn Receive b p = go (queue_of c conn) (queue-bound c conn b)

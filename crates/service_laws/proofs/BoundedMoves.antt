@@ -9,8 +9,8 @@ use Rattle.pps_types.specs.declared.record.Kind.TheVariants.{Created, Change, Tr
 use Rattle.pps_types.specs.declared.outcome.Item.{Item}
 use Rattle.pps_types.specs.Names.{parent, last_name, same_path}
 use Rattle.pps_types.specs.History.{Entry, after_kind, text_length}
-use Rattle.pps_types.specs.Reading.{Open, Style, Full, Delta, Queue, style, reseen, visible}
-use Rattle.pps_types.specs.Rests.{Seen, News, Unread, Over, Owed, stand, seen_of, keeps, pushed, past, from_first, over_limit}
+use Rattle.pps_types.specs.Reading.{OpenHandle, Style, Full, Delta, Queue, style, reseen, visible}
+use Rattle.pps_types.specs.Rests.{Progress, News, Unread, Over, Owed, stand, seen_of, keeps, pushed, past, from_first, over_limit}
 use Rattle.pps_types.specs.Outbox.{behind_first}
 use Rattle.pps_types.specs.Content.{Directory, LiveObject, Connection, Content}
 use Rattle.pps_types.specs.Plan.{Move, Attaches, Leaves, Creates, AppendsRecord, Opens, Closes, CatchesUp, Advances, Parks, Arms, Queues, Takes, MakesDirectory, RemovesDirectory, without_first, on_numbered, requeued, creation, offered, offer, still_known, touched, caught_up, left, first_seen, apply_seen, apply_all_seen, with_connection}
@@ -29,10 +29,10 @@ short-stand Delta reads true rest all = tt
 short-stand Delta reads false rest all = all
 short-stand Queue reads over rest all = all
 
-short-seen_of : {S : Type 0} (h : Open S) (rest : List Entry) → AllByRecursion IsShort rest → AreShort (seen_of h rest)
+short-seen_of : {S : Type 0} (h : OpenHandle S) (rest : List Entry) → AllByRecursion IsShort rest → AreShort (seen_of h rest)
 short-seen_of h rest all = short-stand (style h.kind) h.reads (over_limit h rest) rest all
 
-short-offered : (h : Open Seen) (e : Entry) → IsShort e → (s : Seen) → AreShort s → AreShort (offered h e s)
+short-offered : (h : OpenHandle Progress) (e : Entry) → IsShort e → (s : Progress) → AreShort s → AreShort (offered h e s)
 short-offered h e short (News b) all = tt
 short-offered h e short Unread all = tt
 short-offered h e short Over all = tt
@@ -40,21 +40,21 @@ short-offered h e short (Owed rest) all =
     short-seen_of h (cond (keeps h e) (pushed (visible h) e rest) rest)
     (elim (keeps h e) as (λ b. AllByRecursion IsShort (cond b (pushed (visible h) e rest) rest)) [ true ↦ all-pushed IsShort (visible h) e rest all short | false ↦ all ])
 
-short-left : (h : Open Seen) (count : ℕ) (s : Seen) → AreShort s → AreShort (left h count s)
+short-left : (h : OpenHandle Progress) (count : ℕ) (s : Progress) → AreShort s → AreShort (left h count s)
 short-left h count (News b) all = tt
 short-left h count Unread all = tt
 short-left h count Over all = tt
 short-left h count (Owed rest) all = short-seen_of h (from_first (visible h) (past (visible h) count rest)) (all-from_first IsShort (visible h) (past (visible h) count rest) (all-past IsShort (visible h) count rest all))
 
-short-first : {S : Type 0} (h : Open S) (s : Style) → AreShort (first_seen h s)
+short-first : {S : Type 0} (h : OpenHandle S) (s : Style) → AreShort (first_seen h s)
 short-first h Full = tt
 short-first h Delta = tt
 short-first h Queue = short-seen_of h [] tt
 
-bound-reseen : (see : Open Seen → Seen) (h : Open Seen) → AreShort (see h) → IsBoundHandle h → IsBoundHandle (reseen see h)
+bound-reseen : (see : OpenHandle Progress → Progress) (h : OpenHandle Progress) → AreShort (see h) → IsBoundHandle h → IsBoundHandle (reseen see h)
 bound-reseen see h short b = record { name = b.name; parked = b.parked; owed = short; listens = b.listens }
 
-bound-offers : (e : Entry) → IsShort e → (hs : List (Open Seen)) → AllByRecursion IsBoundHandle hs → AllByRecursion IsBoundHandle (map (offer e) hs)
+bound-offers : (e : Entry) → IsShort e → (hs : List (OpenHandle Progress)) → AllByRecursion IsBoundHandle hs → AllByRecursion IsBoundHandle (map (offer e) hs)
 bound-offers e short [] all = all
 bound-offers e short (h ∷ hs) all = (bound-reseen (λ h. offered h e h.seen) h (short-offered h e short h.seen all.0.owed) all.0, bound-offers e short hs all.1)
 
@@ -138,7 +138,7 @@ at-most p y most xs le less = rw (filter-push p xs y, length-append (filter p xs
     go false e = omega (arith, le)
 
 -- other handles
-with-handles : (c : Content) (handles : List (Open Seen)) → IsBound c → AllByRecursion IsBoundHandle handles → IsBound (record c { handles = handles })
+with-handles : (c : Content) (handles : List (OpenHandle Progress)) → IsBound c → AllByRecursion IsBoundHandle handles → IsBound (record c { handles = handles })
 with-handles c handles s bound = record {
   handles_end = s.handles_end;
   objects = s.objects;
@@ -150,7 +150,7 @@ with-handles c handles s bound = record {
 }
 
 -- the handle of that number changed
-with-handle : (c : Content) (number : ℕ) (change : Open Seen → Open Seen) → IsBound c → ((h : Open Seen) → IsBoundHandle h → IsBoundHandle (change h)) → IsBound (record c { handles = on_numbered number change c.handles })
+with-handle : (c : Content) (number : ℕ) (change : OpenHandle Progress → OpenHandle Progress) → IsBound c → ((h : OpenHandle Progress) → IsBoundHandle h → IsBoundHandle (change h)) → IsBound (record c { handles = on_numbered number change c.handles })
 with-handle c number change s keeps = with-handles c (on_numbered number change c.handles) s (all-on_first IsBoundHandle (λ h. h.number == number) change keeps c.handles s.handles)
 
 -- other queues

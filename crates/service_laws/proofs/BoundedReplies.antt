@@ -18,8 +18,8 @@ use Rattle.pps_types.specs.Filter.{Part, matches}
 use Rattle.pps_types.specs.Text.{print_header, print_lines}
 use Rattle.pps_types.specs.Names.{sorted_by, insert_by, name_cmp}
 use Rattle.pps_types.specs.History.{Entry, line_of, text_length}
-use Rattle.pps_types.specs.Reading.{Open, is_directory_kind, Shown, with_lines, with_client, matching_lines, shown_to_object, shown_to_directory, shown_to_names, shown_to_server, shown_to_client, shown, print_shown, block, visible, Member, print_member, overflow_mark, overflow_line, everything_of, Answer, Everything, Blocks, Needs, TargetGone, Waits, Nothing, fitting, whole_answer, idle_answer, owed_answer}
-use Rattle.pps_types.specs.Rests.{Seen, News, Unread, Over, Owed, answer, is_over}
+use Rattle.pps_types.specs.Reading.{OpenHandle, is_directory_kind, Shown, with_lines, with_client, matching_lines, shown_to_object, shown_to_directory, shown_to_names, shown_to_server, shown_to_client, shown, print_shown, block, visible, Member, print_member, overflow_mark, overflow_line, everything_of, Answer, Everything, Blocks, Needs, TargetGone, Waits, Nothing, fitting, whole_answer, idle_answer, owed_answer}
+use Rattle.pps_types.specs.Rests.{Progress, News, Unread, Over, Owed, answer, is_over}
 use Rattle.pps_types.specs.Content.{LiveObject, Content, object_numbered, attributes_of, members, member, target_members, target_is_dead, everything, read_answer, news}
 use Rattle.pps_types.specs.Plan.{Move, CatchesUp, Advances, Parks, Arms, Queues, fired, late_reply, late_replies, had_news, settling_handle, settling, apply_seen}
 use Rattle.pps_types.proofs.Fitting.{fitting-longest}
@@ -53,14 +53,14 @@ owed-fits : (wait : Bool) (bs : List (List ℕ)) (dead : Bool) (max : ℕ) → F
 owed-fits wait [] dead max = idle-fits dead wait max
 owed-fits wait (b ∷ bs) dead max = elim (nat_le (length b) max) as (λ k. FitsIn max (cond k (Blocks (fitting max (b ∷ bs)).0 (fitting max (b ∷ bs)).1) (Needs (length b)))) [ true ↦ (fitting-longest max (b ∷ bs)).fits | false ↦ tt ]
 
-answer-fits : (h : Open Seen) (s : Seen) (text : List ℕ) (dead : Bool) (max : ℕ) → FitsIn max (answer h s text dead max)
+answer-fits : (h : OpenHandle Progress) (s : Progress) (text : List ℕ) (dead : Bool) (max : ℕ) → FitsIn max (answer h s text dead max)
 answer-fits h (News true) text dead max = whole-fits text max
 answer-fits h (News false) text dead max = idle-fits dead h.options.wait max
 answer-fits h Unread text dead max = whole-fits text max
 answer-fits h Over text dead max = whole-fits text max
 answer-fits h (Owed rest) text dead max = owed-fits h.options.wait (map (block h) (filter (visible h) rest)) dead max
 
-pub read-fits : (c : Content) (h : Open Seen) (max : ℕ) → FitsIn max (read_answer c h max)
+pub read-fits : (c : Content) (h : OpenHandle Progress) (max : ℕ) → FitsIn max (read_answer c h max)
 read-fits c h max = answer-fits h h.seen (everything c h) (target_is_dead c h) max
 
 -- ---- what follows is fit
@@ -86,14 +86,14 @@ all-fit : (xs : List Move) (c : Content) → AllByRecursion IsPlain xs → AreFi
 all-fit [] c all = tt
 all-fit (x ∷ xs) c all = (plain-fit c x all.0, all-fit xs (apply_seen x c) all.1)
 
-fired-plain : (h : Open Seen) → AllByRecursion IsPlain (fired h)
+fired-plain : (h : OpenHandle Progress) → AllByRecursion IsPlain (fired h)
 fired-plain h = go h.armed
   where
     go : (o : Option (ℕ × ℕ)) → AllByRecursion IsPlain (option_map_or (λ pulse. Arms h.number None ∷ Queues h.connection (Pulse pulse.0 pulse.1) ∷ []) o [])
     go None = tt
     go (Some pulse) = (tt, (tt, tt))
 
-late-plain : (h : Open Seen) (size : ℕ) → size ≤ 17000000 → (a : Answer) → FitsIn size a → AllByRecursion IsPlain (late_reply h a)
+late-plain : (h : OpenHandle Progress) (size : ℕ) → size ≤ 17000000 → (a : Answer) → FitsIn size a → AllByRecursion IsPlain (late_reply h a)
 late-plain h size le (Everything text) fits = (tt, (tt, (omega (arith, le, fits), tt)))
 late-plain h size le (Blocks count text) fits = (tt, (tt, (omega (arith, le, fits), tt)))
 late-plain h size le (Needs need) fits = (tt, (tt, tt))
@@ -101,14 +101,14 @@ late-plain h size le TargetGone fits = tt
 late-plain h size le Waits fits = tt
 late-plain h size le Nothing fits = tt
 
-lates-plain : (c : Content) (h : Open Seen) → IsReadSize h.parked → AllByRecursion IsPlain (late_replies c h)
+lates-plain : (c : Content) (h : OpenHandle Progress) → IsReadSize h.parked → AllByRecursion IsPlain (late_replies c h)
 lates-plain c h = go h.parked
   where
     go : (o : Option ℕ) → IsReadSize o → AllByRecursion IsPlain (option_map_or (λ size. late_reply h (read_answer c h size)) o [])
     go None le = tt
     go (Some size) le = late-plain h size le (read_answer c h size) (read-fits c h size)
 
-settled-plain : (before c : Content) (hs : List (Open Seen)) → AllByRecursion IsBoundHandle hs → AllByRecursion IsPlain (flat_map (settling_handle before c) hs)
+settled-plain : (before c : Content) (hs : List (OpenHandle Progress)) → AllByRecursion IsBoundHandle hs → AllByRecursion IsPlain (flat_map (settling_handle before c) hs)
 settled-plain before c [] all = tt
 settled-plain before c (h ∷ hs) all = all-append IsPlain (settling_handle before c h) (flat_map (settling_handle before c) hs)
     (elim (not (had_news before h) && news h) as (λ k. AllByRecursion IsPlain (cond k (fired h ++ late_replies c h) [])) [ true ↦ all-append IsPlain (fired h) (late_replies c h) (fired-plain h) (lates-plain c h all.0.parked) | false ↦ tt ])
@@ -215,7 +215,7 @@ attributes-length c number b = go (object_numbered c number) refl
     go None e = omega arith
     go (Some o) e = (all-find IsBoundObject (λ o. o.object.number == number) c.objects o b.objects e).1
 
-targets-small : (c : Content) (h : Open Seen) → IsBound c → length h.name ≤ 255 → AllByRecursion IsSmallMember (target_members c h) × (length (target_members c h) ≤ 256)
+targets-small : (c : Content) (h : OpenHandle Progress) → IsBound c → length h.name ≤ 255 → AllByRecursion IsSmallMember (target_members c h) × (length (target_members c h) ≤ 256)
 targets-small c h b name = elim (is_directory_kind h.kind) as (λ k. AllByRecursion IsSmallMember (cond k (map member (members c h.target)) (record { name = h.name; lines = map line_of (attributes_of c h.target) } ∷ [])) × (length (cond k (map member (members c h.target)) (record { name = h.name; lines = map line_of (attributes_of c h.target) } ∷ [])) ≤ 256)) [
   | true ↦ (
     small-members (members c h.target) (all-sorted IsBoundObject name_cmp (λ (o : LiveObject). o.object.name) (filter (λ o. o.object.directory == h.target) c.objects) (all-filter IsBoundObject (λ o. o.object.directory == h.target) c.objects b.objects)),
@@ -309,26 +309,26 @@ printed-length name le (Some s) small =
     let head = header-length s.mark (name ++ s.suffix) in let joined = length-append name s.suffix in
     rw (length-append (print_header s.mark (name ++ s.suffix)) (print_lines s.lines)) (omega (arith, head, joined, le, small.0, small.1, small.2))
 
-block-length : (h : Open Seen) (e : Entry) → IsShort e → length (block h e) < 2 ^ 32
+block-length : (h : OpenHandle Progress) (e : Entry) → IsShort e → length (block h e) < 2 ^ 32
 block-length h e short = printed-length e.name short.0 (shown h.kind h.number h.options.filter e.record_of.kind) (small-shown h.kind h.number h.options.filter e.record_of.kind short.1 short.2)
 
-blocks-length : (h : Open Seen) (es : List Entry) → AllByRecursion IsShort es → AllByRecursion (λ b. length b < 2 ^ 32) (map (block h) es)
+blocks-length : (h : OpenHandle Progress) (es : List Entry) → AllByRecursion IsShort es → AllByRecursion (λ b. length b < 2 ^ 32) (map (block h) es)
 blocks-length h [] all = all
 blocks-length h (e ∷ es) all = (block-length h e all.0, blocks-length h es all.1)
 
 -- ---- the answer
 
-small-answer : (h : Open Seen) (s : Seen) → AreShort s → (text : List ℕ) → length text < 2 ^ 32 → (dead : Bool) (max : ℕ) → IsSmallNeed (answer h s text dead max)
+small-answer : (h : OpenHandle Progress) (s : Progress) → AreShort s → (text : List ℕ) → length text < 2 ^ 32 → (dead : Bool) (max : ℕ) → IsSmallNeed (answer h s text dead max)
 small-answer h (News true) short text lt dead max = small-whole text max lt
 small-answer h (News false) short text lt dead max = small-idle dead h.options.wait
 small-answer h Unread short text lt dead max = small-whole text max lt
 small-answer h Over short text lt dead max = small-whole text max lt
 small-answer h (Owed rest) short text lt dead max = small-owed h.options.wait (map (block h) (filter (visible h) rest)) dead max (blocks-length h (filter (visible h) rest) (all-filter IsShort (visible h) rest short))
 
-pub small-read : (c : Content) (h : Open Seen) (max : ℕ) → IsBound c → IsBoundHandle h → IsSmallNeed (read_answer c h max)
+pub small-read : (c : Content) (h : OpenHandle Progress) (max : ℕ) → IsBound c → IsBoundHandle h → IsSmallNeed (read_answer c h max)
 small-read c h max b bound =
     let small = targets-small c h b bound.name in
     small-answer h h.seen bound.owed (everything c h) (everything-length h.kind h.options.filter (is_over h.seen) (not (target_is_dead c h)) (target_members c h) small.0 small.1) (target_is_dead c h) max
 
-pub needs-fit : (c : Content) (h : Open Seen) (max need : ℕ) → IsBound c → IsBoundHandle h → read_answer c h max ≡ Needs need → need < 2 ^ 32
+pub needs-fit : (c : Content) (h : OpenHandle Progress) (max need : ℕ) → IsBound c → IsBoundHandle h → read_answer c h max ≡ Needs need → need < 2 ^ 32
 needs-fit c h max need b bound e = rw e at (small-read c h max b bound)

@@ -5,8 +5,8 @@ use Rattle.std.proofs.lemmas.Bool.Decides.{nat_tests}
 use Rattle.std.specs.Prelude.{nat_lt}
 use Rattle.pps_types.specs.Bytes.{is_empty}
 use Rattle.pps_types.specs.History.{Entry}
-use Rattle.pps_types.specs.Reading.{is_full_style, is_delta_style, Open, Style, Full, Delta, Queue, style, visible, whole_answer, owed_answer, block}
-use Rattle.pps_types.specs.Rests.{news_in, Over, Owed, Seen, News, stand, unread, keeps, from_first, seen_with, rest_of, answer}
+use Rattle.pps_types.specs.Reading.{is_full_style, is_delta_style, OpenHandle, Style, Full, Delta, Queue, style, visible, whole_answer, owed_answer, block}
+use Rattle.pps_types.specs.Rests.{news_in, Over, Owed, Progress, News, stand, unread, keeps, from_first, seen_with, rest_of, answer}
 use Rattle.pps_types.specs.Owed.{has_news, answer_with}
 use Rattle.pps_types.proofs.Lists.{filter-from_first}
 use Rattle.pps_types.proofs.Chains.{visible-keeps}
@@ -31,14 +31,14 @@ is_empty-from_first test (x ∷ xs) =
     [ true ↦ refl | false ↦ is_empty-from_first test xs ]
 
 -- the visible ones of the rest are the debt
-pub rest-owed : {S : Type 0} (h : Open S) (xs : List Entry) → filter (visible h) (rest_of h xs) ≡ filter (visible h) xs
+pub rest-owed : {S : Type 0} (h : OpenHandle S) (xs : List Entry) → filter (visible h) (rest_of h xs) ≡ filter (visible h) xs
 rest-owed h xs = filter-from_first (visible h) (filter (keeps h) xs) ∙ filter-weaker (visible h) (keeps h) (visible-keeps h) xs
 
-pub rest-is_empty : {S : Type 0} (h : Open S) (xs : List Entry) → is_empty (rest_of h xs) ≡ is_empty (filter (visible h) xs)
+pub rest-is_empty : {S : Type 0} (h : OpenHandle S) (xs : List Entry) → is_empty (rest_of h xs) ≡ is_empty (filter (visible h) xs)
 rest-is_empty h xs = is_empty-from_first (visible h) (filter (keeps h) xs) ∙ ap is_empty (filter-weaker (visible h) (keeps h) (visible-keeps h) xs)
 
 -- a read
-pub answer-same : (h : Open Seen) (H : List Entry) (cursor : Option ℕ) (everything : List ℕ) (dead : Bool) (max : ℕ) → h.reads ≡ true → answer h (seen_with h H cursor) everything dead max ≡ answer_with h H cursor everything dead max
+pub answer-same : (h : OpenHandle Progress) (H : List Entry) (cursor : Option ℕ) (everything : List ℕ) (dead : Bool) (max : ℕ) → h.reads ≡ true → answer h (seen_with h H cursor) everything dead max ≡ answer_with h H cursor everything dead max
 answer-same h H None everything dead max reads = by (style h.kind)
   where
     by : (s : Style) → answer h (unread s h.reads) everything dead max ≡ whole_answer everything max
@@ -60,7 +60,7 @@ pub none-over : (n : ℕ) → nat_lt n 0 ≡ false
 none-over n = grind (arith, nat_tests)
 
 -- news
-debt-reads : {S : Type 0} (h : Open S) (xs : List Entry) → h.reads ≡ false → is_empty (filter (visible h) xs) ≡ true
+debt-reads : {S : Type 0} (h : OpenHandle S) (xs : List Entry) → h.reads ≡ false → is_empty (filter (visible h) xs) ≡ true
 debt-reads h [] reads = refl
 debt-reads h (e ∷ es) reads = by (visible h e) (visible-reads h e) (debt-reads h es reads)
   where
@@ -68,7 +68,7 @@ debt-reads h (e ∷ es) reads = by (visible h e) (visible-reads h e) (debt-reads
     by true f rec = absurd (let g = f refl in cc)
     by false f rec = rec
 
-pub news-same : {S : Type 0} (h : Open S) (H : List Entry) (cursor : Option ℕ) → news_in h.reads (seen_with h H cursor) ≡ has_news h H cursor
+pub news-same : {S : Type 0} (h : OpenHandle S) (H : List Entry) (cursor : Option ℕ) → news_in h.reads (seen_with h H cursor) ≡ has_news h H cursor
 news-same h H None = by (style h.kind) h.reads
   where
     by : (s : Style) (r : Bool) → news_in r (unread s r) ≡ (r && true)

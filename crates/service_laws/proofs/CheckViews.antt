@@ -17,8 +17,8 @@ use Rattle.pps_types.specs.Text.{WriteText, write_text}
 use Rattle.pps_types.specs.Names.{Path, is_directory, is_object, place, find_at}
 use Rattle.pps_types.specs.OpenText.{OpenSpec, open_text, path_text}
 use Rattle.pps_types.specs.History.{Entry}
-use Rattle.pps_types.specs.Reading.{Open, is_directory_kind, Answer, Everything, Blocks, Needs, TargetGone, Waits, Nothing}
-use Rattle.pps_types.specs.Rests.{Seen}
+use Rattle.pps_types.specs.Reading.{OpenHandle, is_directory_kind, Answer, Everything, Blocks, Needs, TargetGone, Waits, Nothing}
+use Rattle.pps_types.specs.Rests.{Progress}
 use Rattle.pps_types.specs.Outbox.{arms, arm_refusal, park_refusal, first_of}
 use Rattle.pps_types.specs.Content.{Content, LiveObject, object_numbered, handle_numbered, at, is_attached, queue_of, outbox_of, news, read_answer, target_is_dead, members, subdirectories}
 use Rattle.pps_types.specs.Checks.{Check, Refuse, Memory, first_refusal, refused, parsed, letters_fit, mode_fits, handle_checks, all_checks, is_used, found_as, object_checks, name_checks, open_checks, on_handle, answer_checks, read_checks, Addressee, Everyone, OneClient, Nobody, addressee, is_client, is_server, clients, meant, is_message_of, is_server_message, count_owed, server_backlog, client_backlog, client_checks, where_lines, text_checks, write_checks, close_checks, unlink_found, unlink_checks, notify_checks, receive_checks, checks}
@@ -61,14 +61,14 @@ under false r x y f q = f q
 module _ (conn : ℕ) where
   -- ---- backlogs
 
-  limit-seen : (test : Entry → Bool) (h : Open Seen) → nat_le h.limit (count_owed test h) ≡ false → nat_le (masked conn h).limit (count_owed test (masked conn h)) ≡ false
+  limit-seen : (test : Entry → Bool) (h : OpenHandle Progress) → nat_le h.limit (count_owed test h) ≡ false → nat_le (masked conn h).limit (count_owed test (masked conn h)) ≡ false
   limit-seen test h e = by (eqb h.connection conn) refl
     where
       by : (b : Bool) → eqb h.connection conn ≡ b → nat_le (masked conn h).limit (count_owed test (masked conn h)) ≡ false
       by true own = ap (λ g. nat_le g.limit (count_owed test g)) (masked-own conn h own) ∙ e
       by false other = ap (λ g. nat_le g.limit (count_owed test g)) (masked-other conn h other)
 
-  one-seen : (test : Entry → Bool) (h : Open Seen) (x y : Option Refusal) → (blocked x ≡ false → y ≡ x) → blocked (cond (nat_le h.limit (count_owed test h)) (Some (Backlogged h.number)) x) ≡ false
+  one-seen : (test : Entry → Bool) (h : OpenHandle Progress) (x y : Option Refusal) → (blocked x ≡ false → y ≡ x) → blocked (cond (nat_le h.limit (count_owed test h)) (Some (Backlogged h.number)) x) ≡ false
       → cond (nat_le (masked conn h).limit (count_owed test (masked conn h))) (Some (Backlogged h.number)) y ≡ cond (nat_le h.limit (count_owed test h)) (Some (Backlogged h.number)) x
   one-seen test h x y f q = by (nat_le h.limit (count_owed test h)) refl q
     where
@@ -76,7 +76,7 @@ module _ (conn : ℕ) where
       by true e q = absurd cc
       by false e q = ap (λ b. cond b (Some (Backlogged h.number)) y) (limit-seen test h e) ∙ f q
 
-  backlog-seen : (hs : List (Open Seen)) → blocked (first_refusal (client_backlog hs)) ≡ false → first_refusal (client_backlog (map (masked conn) hs)) ≡ first_refusal (client_backlog hs)
+  backlog-seen : (hs : List (OpenHandle Progress)) → blocked (first_refusal (client_backlog hs)) ≡ false → first_refusal (client_backlog (map (masked conn) hs)) ≡ first_refusal (client_backlog hs)
   backlog-seen [] q = refl
   backlog-seen (h ∷ hs) q = one-seen is_server_message h (first_refusal (client_backlog hs)) (first_refusal (client_backlog (map (masked conn) hs))) (backlog-seen hs) q
 
@@ -98,13 +98,13 @@ module _ (conn : ℕ) where
   clients-backlog : (c : Content) (object : ℕ) (to : Addressee) → blocked (first_refusal (client_backlog (meant c object to))) ≡ false → first_refusal (client_backlog (meant (view conn c) object to)) ≡ first_refusal (client_backlog (meant c object to))
   clients-backlog c object to q = ap (λ hs. first_refusal (client_backlog hs)) (meant-seen c object to) ∙ backlog-seen (meant c object to) q
 
-  server-seen : (c : Content) (h : Open Seen) → blocked (first_refusal (server_backlog c h)) ≡ false → first_refusal (server_backlog (view conn c) (masked conn h)) ≡ first_refusal (server_backlog c h)
+  server-seen : (c : Content) (h : OpenHandle Progress) → blocked (first_refusal (server_backlog c h)) ≡ false → first_refusal (server_backlog (view conn c) (masked conn h)) ≡ first_refusal (server_backlog c h)
   server-seen c h q =
       ap (λ s. first_refusal (option_map_or (λ s. Refuse (nat_le s.limit (count_owed (is_message_of h.number) s)) (Backlogged s.number) ∷ []) s []))
       (both (view conn c) (object_numbered c h.target) ∙ seen-by (option_and_then (λ o. o.object.server) (object_numbered c h.target)) ∙ ap (option_map (masked conn)) (sym (both c (object_numbered c h.target))))
       ∙ found-by (option_and_then (λ o. option_and_then (handle_numbered c) o.object.server) (object_numbered c h.target)) q
     where
-      found-by : (s : Option (Open Seen)) → blocked (first_refusal (option_map_or (λ s. Refuse (nat_le s.limit (count_owed (is_message_of h.number) s)) (Backlogged s.number) ∷ []) s [])) ≡ false
+      found-by : (s : Option (OpenHandle Progress)) → blocked (first_refusal (option_map_or (λ s. Refuse (nat_le s.limit (count_owed (is_message_of h.number) s)) (Backlogged s.number) ∷ []) s [])) ≡ false
           → first_refusal (option_map_or (λ s. Refuse (nat_le s.limit (count_owed (is_message_of h.number) s)) (Backlogged s.number) ∷ []) (option_map (masked conn) s) []) ≡ first_refusal (option_map_or (λ s. Refuse (nat_le s.limit (count_owed (is_message_of h.number) s)) (Backlogged s.number) ∷ []) s [])
       found-by None q = refl
       found-by (Some s) q = one-seen (is_message_of h.number) s None None (λ q. refl) q
@@ -119,7 +119,7 @@ module _ (conn : ℕ) where
 
   -- ---- writes
 
-  text-seen : (c : Content) (h : Open Seen) (k : HandleKind) (text : WriteText) → (is_queue_kind k ≡ true → blocked (first_refusal (text_checks c h k text)) ≡ false) → first_refusal (text_checks (view conn c) (masked conn h) k text) ≡ first_refusal (text_checks c h k text)
+  text-seen : (c : Content) (h : OpenHandle Progress) (k : HandleKind) (text : WriteText) → (is_queue_kind k ≡ true → blocked (first_refusal (text_checks c h k text)) ≡ false) → first_refusal (text_checks (view conn c) (masked conn h) k text) ≡ first_refusal (text_checks c h k text)
   text-seen c h (ObjectHandle delta) text q = refl
   text-seen c h (DirectoryHandle delta) text q = refl
   text-seen c h NamesHandle text q = refl
@@ -138,7 +138,7 @@ module _ (conn : ℕ) where
       under {P = Unit {0}} _ (BadText 1) (first_refusal (where_lines text (server_backlog c h))) (first_refusal (where_lines text (server_backlog (view conn c) (masked conn h))))
       (λ q. lines-seen text (server_backlog c h) (server_backlog (view conn c) (masked conn h)) (server-seen c h) (q tt)) (λ t. q refl)
 
-  write-seen : (c : Content) (bytes : List ℕ) (h : Open Seen) → (is_queue_kind h.kind ≡ true → blocked (first_refusal (write_checks c bytes h)) ≡ false) → first_refusal (write_checks (view conn c) bytes (masked conn h)) ≡ first_refusal (write_checks c bytes h)
+  write-seen : (c : Content) (bytes : List ℕ) (h : OpenHandle Progress) → (is_queue_kind h.kind ≡ true → blocked (first_refusal (write_checks c bytes h)) ≡ false) → first_refusal (write_checks (view conn c) bytes (masked conn h)) ≡ first_refusal (write_checks c bytes h)
   write-seen c bytes h q = under {P = is_queue_kind h.kind ≡ true} (not h.writes) BadMode _ _ (under {P = is_queue_kind h.kind ≡ true} (nat_lt 65536 (length bytes)) TooLarge _ _ (under {P = is_queue_kind h.kind ≡ true} (target_is_dead c h) Gone _ _ (by (write_text bytes)))) q
     where
       by : (r : Result WriteText Refusal) → (is_queue_kind h.kind ≡ true → blocked (first_refusal (parsed r (text_checks c h h.kind))) ≡ false) → first_refusal (parsed r (text_checks (view conn c) (masked conn h) h.kind)) ≡ first_refusal (parsed r (text_checks c h h.kind))
@@ -154,19 +154,19 @@ module _ (conn : ℕ) where
   and-second true b e = e
   and-second false b e = absurd cc
 
-  on-seen : (c : Content) (who number : ℕ) (k j : Open Seen → List Check)
-      → ((h : Open Seen) → find (λ h. eqb h.number number && eqb h.connection who) c.handles ≡ Some h → eqb h.connection who ≡ true → first_refusal (j (masked conn h)) ≡ first_refusal (k h))
+  on-seen : (c : Content) (who number : ℕ) (k j : OpenHandle Progress → List Check)
+      → ((h : OpenHandle Progress) → find (λ h. eqb h.number number && eqb h.connection who) c.handles ≡ Some h → eqb h.connection who ≡ true → first_refusal (j (masked conn h)) ≡ first_refusal (k h))
       → first_refusal (on_handle (view conn c) who number j) ≡ first_refusal (on_handle c who number k)
   on-seen c who number k j f = by (find (λ h. eqb h.number number && eqb h.connection who) c.handles) refl
     where
-      by : (o : Option (Open Seen)) → find (λ h. eqb h.number number && eqb h.connection who) c.handles ≡ o → first_refusal (on_handle (view conn c) who number j) ≡ first_refusal (on_handle c who number k)
+      by : (o : Option (OpenHandle Progress)) → find (λ h. eqb h.number number && eqb h.connection who) c.handles ≡ o → first_refusal (on_handle (view conn c) who number j) ≡ first_refusal (on_handle c who number k)
       by None e = rw (found-seen c who number, e) refl
       by (Some h) e = rw (found-seen c who number, e) (f h e (and-second (eqb h.number number) (eqb h.connection who) (find-test (λ h. eqb h.number number && eqb h.connection who) c.handles h e)))
 
   box-seen : (c : Content) (n : ℕ) → n ≡ conn → outbox_of (view conn c) n ≡ outbox_of c n
   box-seen c n e = ap (outbox_of (view conn c)) e ∙ outbox-seen conn c ∙ ap (outbox_of c) (sym e)
 
-  read-seen : (c : Content) (size : ℕ) (h : Open Seen) → h.connection ≡ conn → read_checks (view conn c) size h ≡ read_checks c size h
+  read-seen : (c : Content) (size : ℕ) (h : OpenHandle Progress) → h.connection ≡ conn → read_checks (view conn c) size h ≡ read_checks c size h
   read-seen c size h own = ap (λ xs. Refuse (not h.reads) BadMode ∷ Refuse (not (nat_le 1 size && nat_le size 17000000)) BadArgument ∷ Refuse (is_some h.parked) ReadPending ∷ xs) (by (read_answer c h size))
     where
       by : (a : Answer) → answer_checks (view conn c) h a ≡ answer_checks c h a
@@ -177,10 +177,10 @@ module _ (conn : ℕ) where
       by TargetGone = refl
       by Nothing = refl
 
-  notify-seen : (c : Content) (action : Action) (code : ℕ) (h : Open Seen) → h.connection ≡ conn → notify_checks (view conn c) action code h ≡ notify_checks c action code h
+  notify-seen : (c : Content) (action : Action) (code : ℕ) (h : OpenHandle Progress) → h.connection ≡ conn → notify_checks (view conn c) action code h ≡ notify_checks c action code h
   notify-seen c action code h own = ap (λ box. Refuse (not h.reads) BadMode ∷ Refuse (nat_lt 127 code) BadArgument ∷ cond (arms action (news h)) (refused (arm_refusal box h.number) ++ Memory ∷ []) []) (box-seen c h.connection own)
 
-  close-seen : (c : Content) (h : Open Seen) → close_checks (view conn c) (masked conn h) ≡ close_checks c h
+  close-seen : (c : Content) (h : OpenHandle Progress) → close_checks (view conn c) (masked conn h) ≡ close_checks c h
   close-seen c h = by h.kind refl
     where
       by : (k : HandleKind) → h.kind ≡ k → close_checks (view conn c) (masked conn h) ≡ close_checks c h

@@ -15,8 +15,8 @@ use Rattle.pps_types.specs.declared.record.Kind.{Kind}
 use Rattle.pps_types.specs.declared.record.Kind.TheVariants.{Deleted, Dropped, Closed}
 use Rattle.pps_types.specs.declared.handle_kind.HandleKind.{HandleKind}
 use Rattle.pps_types.specs.declared.handle_kind.HandleKind.TheVariants.{Object as ObjectHandle, Directory as DirectoryHandle, Names as NamesHandle, Server as ServerHandle, Client as ClientHandle}
-use Rattle.pps_types.specs.Reading.{Open}
-use Rattle.pps_types.specs.Rests.{Seen}
+use Rattle.pps_types.specs.Reading.{OpenHandle}
+use Rattle.pps_types.specs.Rests.{Progress}
 use Rattle.pps_types.specs.Outbox.{first_of}
 use Rattle.pps_types.specs.Content.{Content, LiveObject, Connection, object_numbered, handle_numbered, handles_of, connection_numbered, is_attached, queue_of, outbox_of, own_handle}
 use Rattle.pps_types.specs.Checks.{Check, Refuse, first_refusal, on_handle, checks, read_checks, notify_checks}
@@ -63,7 +63,7 @@ and-second : (a b : Bool) → (a && b) ≡ true → b ≡ true
 and-second true b e = e
 and-second false b e = absurd cc
 
-pub own-numbered : (c : Content) (who number : ℕ) (h : Open Seen) → IsOrdered c → own_handle c who number ≡ Some h → handle_numbered c number ≡ Some h
+pub own-numbered : (c : Content) (who number : ℕ) (h : OpenHandle Progress) → IsOrdered c → own_handle c who number ≡ Some h → handle_numbered c number ≡ Some h
 own-numbered c who number h o e =
     let both = find-test (λ h. eqb h.number number && eqb h.connection who) c.handles h e in
     let is : h.number ≡ number = eqb-true h.number number (and-first (eqb h.number number) (eqb h.connection who) both) in
@@ -71,18 +71,18 @@ own-numbered c who number h o e =
     ap (handle_numbered c) (sym is) ∙ there
 
 -- a handle of that connection, which no check refuses
-pub record Accepted (c : Content) (who number : ℕ) (k : Open Seen → List Check) : Type 0 where
-  pub h : Open Seen
+pub record Accepted (c : Content) (who number : ℕ) (k : OpenHandle Progress → List Check) : Type 0 where
+  pub h : OpenHandle Progress
   pub is_own : own_handle c who number ≡ Some h
   pub numbered : handle_numbered c number ≡ Some h
   pub is_number : h.number ≡ number
   pub is_who : h.connection ≡ who
   pub fine : first_refusal (k h) ≡ None
 
-pub accepted : (c : Content) (who number : ℕ) (k : Open Seen → List Check) → IsOrdered c → first_refusal (on_handle c who number k) ≡ None → Accepted c who number k
+pub accepted : (c : Content) (who number : ℕ) (k : OpenHandle Progress → List Check) → IsOrdered c → first_refusal (on_handle c who number k) ≡ None → Accepted c who number k
 accepted c who number k o p = by (find (λ h. eqb h.number number && eqb h.connection who) c.handles) refl
   where
-    by : (f : Option (Open Seen)) → find (λ h. eqb h.number number && eqb h.connection who) c.handles ≡ f → Accepted c who number k
+    by : (f : Option (OpenHandle Progress)) → find (λ h. eqb h.number number && eqb h.connection who) c.handles ≡ f → Accepted c who number k
     by None e = absurd (let q = rw e at p in cc)
     by (Some h) e =
         let both = find-test (λ h. eqb h.number number && eqb h.connection who) c.handles h e in
@@ -100,7 +100,7 @@ module _ (conn : ℕ) where
   pub handles-seen : (c : Content) (who : ℕ) → handles_of (view conn c) who ≡ map (masked conn) (handles_of c who)
   handles-seen c who = filter-map (λ h. eqb h.connection who) (masked conn) (λ h. refl) c.handles
 
-  masked-all : (hs : List (Open Seen)) → map (masked conn) (filter (λ h. eqb h.connection conn) hs) ≡ filter (λ h. eqb h.connection conn) hs
+  masked-all : (hs : List (OpenHandle Progress)) → map (masked conn) (filter (λ h. eqb h.connection conn) hs) ≡ filter (λ h. eqb h.connection conn) hs
   masked-all [] = refl
   masked-all (h ∷ hs) = by (eqb h.connection conn) refl (masked-all hs)
     where
@@ -133,33 +133,33 @@ module _ (conn : ℕ) where
   outbox-seen c = rw (own-handles c, queue-seen c) refl
 
   -- a handle of the connection that is found, is found as it is
-  pub own-seen : (c : Content) (who n : ℕ) (h : Open Seen) → own_handle c who n ≡ Some h → h.connection ≡ conn → own_handle (view conn c) who n ≡ own_handle c who n
+  pub own-seen : (c : Content) (who n : ℕ) (h : OpenHandle Progress) → own_handle c who n ≡ Some h → h.connection ≡ conn → own_handle (view conn c) who n ≡ own_handle c who n
   own-seen c who n h is own = own-handle-seen c who n ∙ ap (option_map (masked conn)) is ∙ ap Some (masked-own conn h (eq-eqb h.connection conn own)) ∙ sym is
 
   -- ---- closing
 
-  parting-seen : (c d : Content) → c.objects ≡ d.objects → (h : Open Seen) (k : HandleKind) → parting c h k ≡ parting d (masked conn h) k
+  parting-seen : (c d : Content) → c.objects ≡ d.objects → (h : OpenHandle Progress) (k : HandleKind) → parting c h k ≡ parting d (masked conn h) k
   parting-seen c d e h ServerHandle = ap (λ (os : List LiveObject). option_map_or (λ o. AppendsRecord (entry_of o.object Deleted None) ∷ []) (find (λ o. eqb o.object.number h.target) os) []) e
   parting-seen c d e h ClientHandle = ap (λ (os : List LiveObject). option_map_or (λ o. AppendsRecord (entry_of o.object (Closed h.number) None) ∷ []) (find (λ o. eqb o.object.number h.target) os) []) e
   parting-seen c d e h (ObjectHandle delta) = ap (λ (os : List LiveObject). cond (h.options.critical && h.writes) (option_map_or (λ o. AppendsRecord (entry_of o.object Dropped None) ∷ []) (find (λ o. eqb o.object.number h.target) os) []) []) e
   parting-seen c d e h (DirectoryHandle delta) = refl
   parting-seen c d e h NamesHandle = refl
 
-  on_target-items : (c : Content) (h : Open Seen) (kind : Kind) (writer : Option ℕ) → flat_map (queued_by conn) (on_target c h kind writer) ≡ []
+  on_target-items : (c : Content) (h : OpenHandle Progress) (kind : Kind) (writer : Option ℕ) → flat_map (queued_by conn) (on_target c h kind writer) ≡ []
   on_target-items c h kind writer = by (object_numbered c h.target)
     where
       by : (o : Option LiveObject) → flat_map (queued_by conn) (option_map_or (λ o. AppendsRecord (entry_of o.object kind writer) ∷ []) o []) ≡ []
       by None = refl
       by (Some o) = refl
 
-  abbrev ends : Open Seen → Option ℕ → List Move
+  abbrev ends : OpenHandle Progress → Option ℕ → List Move
   ends h parked = cond (is_some parked) (Queues h.connection (ReadDone h.number (Err BadHandle)) ∷ []) []
 
-  ends-seen : (h : Open Seen) → eqb h.connection conn ≡ false → (c : Content) (parked : Option ℕ) → view conn (apply_all_seen (ends h parked) c) ≡ view conn c
+  ends-seen : (h : OpenHandle Progress) → eqb h.connection conn ≡ false → (c : Content) (parked : Option ℕ) → view conn (apply_all_seen (ends h parked) c) ≡ view conn c
   ends-seen h other c None = refl
   ends-seen h other c (Some size) = ap (λ xs. record (view conn c) { connections = xs }) (other-queue conn (λ n. false) (λ items. items ++ ReadDone h.number (Err BadHandle) ∷ []) h.connection other c.connections)
 
-  ends-items : (h : Open Seen) → eqb h.connection conn ≡ false → (parked : Option ℕ) → flat_map (queued_by conn) (ends h parked) ≡ []
+  ends-items : (h : OpenHandle Progress) → eqb h.connection conn ≡ false → (parked : Option ℕ) → flat_map (queued_by conn) (ends h parked) ≡ []
   ends-items h other None = refl
   ends-items h other (Some size) = ap (λ b. cond b (ReadDone h.number (Err BadHandle) ∷ []) [] ++ []) other
 
@@ -167,7 +167,7 @@ module _ (conn : ℕ) where
     pub seen : view conn (apply_all_seen xs c) ≡ view conn (apply_all_seen ys d)
     pub items : flat_map (queued_by conn) xs ≡ flat_map (queued_by conn) ys
 
-  closing-seen : (h : Open Seen) (c d : Content) → view conn c ≡ view conn d → SeenAs (closing c h) c (closing d (masked conn h)) d
+  closing-seen : (h : OpenHandle Progress) (c d : Content) → view conn c ≡ view conn d → SeenAs (closing c h) c (closing d (masked conn h)) d
   closing-seen h c d same = by (eqb h.connection conn) refl
     where
       parts : parting c h h.kind ≡ parting d (masked conn h) h.kind
@@ -193,7 +193,7 @@ module _ (conn : ℕ) where
                 ∙ ap (flat_map (queued_by conn)) (sym moves);
           }
 
-  closings-seen : (hs : List (Open Seen)) (c d : Content) → view conn c ≡ view conn d → SeenAs (closings c hs) c (closings d (map (masked conn) hs)) d
+  closings-seen : (hs : List (OpenHandle Progress)) (c d : Content) → view conn c ≡ view conn d → SeenAs (closings c hs) c (closings d (map (masked conn) hs)) d
   closings-seen [] c d same = record { seen = same; items = refl }
   closings-seen (h ∷ hs) c d same =
       let one = closing-seen h c d same in
@@ -258,12 +258,12 @@ module _ (conn : ℕ) where
       same-effect c who (Read handle size) (rw (own-seen c who handle a.h a.is_own (a.is_who ∙ is-own who seen)) refl)
   effect-seen c who (Write handle bytes) o seen fine = same-effect c who (Write handle bytes) (by (own_handle c who handle) refl)
     where
-      by : (f : Option (Open Seen)) → own_handle c who handle ≡ f → effect c who (Write handle bytes) ≡ effect (view conn c) who (Write handle bytes)
+      by : (f : Option (OpenHandle Progress)) → own_handle c who handle ≡ f → effect c who (Write handle bytes) ≡ effect (view conn c) who (Write handle bytes)
       by None e = rw (own-handle-seen c who handle, e) refl
       by (Some h) e = rw (own-handle-seen c who handle, e) refl
   effect-seen c who (Close handle) o seen fine = by (own_handle c who handle) refl
     where
-      by : (f : Option (Open Seen)) → own_handle c who handle ≡ f → EffectSeen c who (Close handle)
+      by : (f : Option (OpenHandle Progress)) → own_handle c who handle ≡ f → EffectSeen c who (Close handle)
       by None e = same-effect c who (Close handle) (rw (own-handle-seen c who handle, e) refl)
       by (Some h) e =
           let before : effect c who (Close handle) ≡ (Done, closing c h) = rw e refl in

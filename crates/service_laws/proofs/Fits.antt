@@ -4,11 +4,11 @@ use Rattle.std.specs.Prelude.{is_some}
 use Rattle.std.specs.List.{AllByRecursion}
 use Rattle.pps_types.specs.Bytes.{is_empty}
 use Rattle.pps_types.specs.Names.{Path, same_path, parent, last_name}
-use Rattle.pps_types.specs.Reading.{Open, is_directory_kind, style}
-use Rattle.pps_types.specs.Rests.{Seen}
+use Rattle.pps_types.specs.Reading.{OpenHandle, is_directory_kind, style}
+use Rattle.pps_types.specs.Rests.{Progress}
 use Rattle.pps_types.specs.Content.{Object, Directory, LiveObject, Connection, Content, directory_at, parent_number, object_at, object_in, is_attached}
 use Rattle.pps_types.specs.Plan.{Move, Attaches, Leaves, Creates, Opens, MakesDirectory, RemovesDirectory, apply_seen, apply_all_seen}
-use Rattle.pps_types.specs.WellFormed.{AreRising, AreInOrder, AreTree, AreHeld, AreTold, IsTarget, IsWhole, HasFirst, fits, directory_numbered}
+use Rattle.pps_types.specs.WellFormed.{RiseBetween, AreInOrder, AreTree, AreHeld, AreTold, IsTarget, IsWhole, HasFirst, fits, directory_numbered}
 
 -- nothing stands at the path, and a directory stands above it
 pub record IsFree (c : Content) (path : Path) : Type 0 where
@@ -32,11 +32,11 @@ pub record IsEmptied (c : Content) (number : ℕ) : Type 0 where
   pub not_root : is_empty path ≡ false
   pub no_objects : AllByRecursion (λ (o : LiveObject). eqb o.object.directory number ≡ false) c.objects
   pub no_directories : AllByRecursion (λ (d : Directory). (not (same_path d.path []) && same_path (parent d.path) path) ≡ false) c.directories
-  pub no_handles : AllByRecursion (λ (h : Open Seen). (is_directory_kind h.kind && eqb h.target number) ≡ false) c.handles
+  pub no_handles : AllByRecursion (λ (h : OpenHandle Progress). (is_directory_kind h.kind && eqb h.target number) ≡ false) c.handles
 
 abbrev pub Fits : Content → Move → Type 0
 Fits c (Attaches conn) = (1 ≤ conn) × (conn ≤ 1024) × (is_attached c conn ≡ false)
-Fits c (Leaves conn) = AllByRecursion (λ (h : Open Seen). eqb h.connection conn ≡ false) c.handles
+Fits c (Leaves conn) = AllByRecursion (λ (h : OpenHandle Progress). eqb h.connection conn ≡ false) c.handles
 Fits c (Creates o) = (o.number ≡ c.next_object) × IsPlaced c o
 Fits c (Opens h) = (h.number ≡ c.next_handle) × (is_attached c h.connection ≡ true) × IsTarget c h.target (is_directory_kind h.kind)
 Fits c (MakesDirectory path) = IsFree c path
@@ -66,8 +66,8 @@ safe-fit (x ∷ xs) c safe = (safe.0 c, safe-fit xs (apply_seen x c) safe.1)
 -- ---- the facts side by side, so that a move that leaves what they speak of leaves them
 
 abbrev pub Order : Content → Type 0
-Order c = AreRising 0 (map (λ (h : Open Seen). h.number) c.handles) c.next_handle × AreRising 0 (map (λ (o : LiveObject). o.object.number) c.objects) c.next_object
-    × AreRising 0 (map (λ (d : Directory). d.number) c.directories) c.next_directory × AreRising 1 (map (λ (x : Connection). x.number) c.connections) 1025
+Order c = RiseBetween 0 (map (λ (h : OpenHandle Progress). h.number) c.handles) c.next_handle × RiseBetween 0 (map (λ (o : LiveObject). o.object.number) c.objects) c.next_object
+    × RiseBetween 0 (map (λ (d : Directory). d.number) c.directories) c.next_directory × RiseBetween 1 (map (λ (x : Connection). x.number) c.connections) 1025
 
 abbrev pub Tree : Content → Type 0
 Tree c = (directory_at c [] ≡ Some (record { number = 0; path = [] })) × AllByRecursion (λ (d : Directory). is_some (directory_at c (parent d.path)) ≡ true) c.directories
@@ -75,10 +75,10 @@ Tree c = (directory_at c [] ≡ Some (record { number = 0; path = [] })) × AllB
     × AllByRecursion (λ (o : LiveObject). object_in c o.object.name o.object.directory ≡ Some o) c.objects × AllByRecursion (λ (o : LiveObject). is_some (directory_numbered c o.object.directory) ≡ true) c.objects
 
 abbrev pub Held : Content → Type 0
-Held c = AllByRecursion (λ (h : Open Seen). is_attached c h.connection ≡ true) c.handles × AllByRecursion (λ (h : Open Seen). IsTarget c h.target (is_directory_kind h.kind)) c.handles
+Held c = AllByRecursion (λ (h : OpenHandle Progress). is_attached c h.connection ≡ true) c.handles × AllByRecursion (λ (h : OpenHandle Progress). IsTarget c h.target (is_directory_kind h.kind)) c.handles
 
 abbrev pub Told : Content → Type 0
-Told c = AllByRecursion (λ (h : Open Seen). fits (style h.kind) h.seen ≡ true) c.handles × AllByRecursion (λ (h : Open Seen). IsWhole h h.seen) c.handles × AllByRecursion (λ (h : Open Seen). HasFirst h h.seen) c.handles
+Told c = AllByRecursion (λ (h : OpenHandle Progress). fits (style h.kind) h.seen ≡ true) c.handles × AllByRecursion (λ (h : OpenHandle Progress). IsWhole h h.seen) c.handles × AllByRecursion (λ (h : OpenHandle Progress). HasFirst h h.seen) c.handles
 
 pub order-in : (c : Content) → AreInOrder c → Order c
 order-in c o = (o.handles_rise, o.objects_rise, o.directories_rise, o.connections_rise)

@@ -6,8 +6,8 @@ use Rattle.std.proofs.lemmas.List.{map-append}
 use Rattle.pps_types.specs.declared.outcome.Item.{Item}
 use Rattle.pps_types.specs.History.{Entry}
 use Rattle.pps_types.specs.Outbox.{behind_first}
-use Rattle.pps_types.specs.Reading.{Open, Style, Full, Delta, Queue, reseen, style, is_directory_kind, visible}
-use Rattle.pps_types.specs.Rests.{Seen, News, Unread, Over, Owed, stand, unread, seen_of, seen_with, over_limit, keeps, from_first, pushed, past, rest_of}
+use Rattle.pps_types.specs.Reading.{OpenHandle, Style, Full, Delta, Queue, reseen, style, is_directory_kind, visible}
+use Rattle.pps_types.specs.Rests.{Progress, News, Unread, Over, Owed, stand, unread, seen_of, seen_with, over_limit, keeps, from_first, pushed, past, rest_of}
 use Rattle.pps_types.specs.Content.{Object, Directory, LiveObject, Connection, Content, is_attached}
 use Rattle.pps_types.specs.Plan.{Move, Attaches, Leaves, Creates, AppendsRecord, Opens, Closes, CatchesUp, Advances, Parks, Arms, Queues, Takes, MakesDirectory, RemovesDirectory, apply_seen, apply_all_seen, creation, offer, offered, caught_up, left, first_seen, touched, on_connection, requeued, on_numbered, with_connection}
 use Rattle.pps_types.specs.Machine.{Machine, content_of, shown_handle}
@@ -31,28 +31,28 @@ pub order-kept : (x : Move) (c : Content) → Order c → Fits c x → Order (ap
 order-kept (Attaches conn) c r f = (r.0, r.1, r.2, rising-put (λ (x : Connection). x.number) (record { number = conn; queue = [] }) 1 1025 c.connections f.0 (let le = f.1 in omega arith) (none-of _ f.2) r.3)
 order-kept (Leaves conn) c r f = (r.0, r.1, r.2, rising-without (λ (x : Connection). x.number) (λ x. eqb x.number conn) 1 1025 c.connections r.3)
 order-kept (Creates o) c r f = (
-  rw (same-map (λ (h : Open Seen). h.number) (offer (creation o)) (λ h. refl) c.handles) r.0,
+  rw (same-map (λ (h : OpenHandle Progress). h.number) (offer (creation o)) (λ h. refl) c.handles) r.0,
   rw (map-append (λ (k : LiveObject). k.object.number) c.objects (record { object = o; attributes = [] } ∷ []), f.0) (rising-push 0 c.next_object (map (λ k. k.object.number) c.objects) r.1),
   r.2,
   r.3,
 )
 order-kept (AppendsRecord e) c r f = (
-  rw (same-map (λ (h : Open Seen). h.number) (offer e) (λ h. refl) c.handles) r.0,
+  rw (same-map (λ (h : OpenHandle Progress). h.number) (offer e) (λ h. refl) c.handles) r.0,
   rising-filter_map (λ (k : LiveObject). k.object.number) (touched e) (touched-number e) 0 c.next_object c.objects r.1,
   r.2,
   r.3,
 )
 order-kept (Opens h) c r f = (
-  rw (map-append (λ (h : Open Seen). h.number) c.handles (reseen (λ h. first_seen h (style h.kind)) h ∷ []), f.0) (rising-push 0 c.next_handle (map (λ h. h.number) c.handles) r.0),
+  rw (map-append (λ (h : OpenHandle Progress). h.number) c.handles (reseen (λ h. first_seen h (style h.kind)) h ∷ []), f.0) (rising-push 0 c.next_handle (map (λ h. h.number) c.handles) r.0),
   r.1,
   r.2,
   r.3,
 )
-order-kept (Closes number) c r f = (rising-without (λ (h : Open Seen). h.number) (λ h. eqb h.number number) 0 c.next_handle c.handles r.0, r.1, r.2, r.3)
-order-kept (CatchesUp number) c r f = (rw (same-on_first (λ (h : Open Seen). h.number) (λ h. eqb h.number number) (reseen caught_up) (λ h. refl) c.handles) r.0, r.1, r.2, r.3)
-order-kept (Advances number count) c r f = (rw (same-on_first (λ (h : Open Seen). h.number) (λ h. eqb h.number number) (reseen (λ h. left h count h.seen)) (λ h. refl) c.handles) r.0, r.1, r.2, r.3)
-order-kept (Parks number size) c r f = (rw (same-on_first (λ (h : Open Seen). h.number) (λ h. eqb h.number number) (λ h. record h { parked = size }) (λ h. refl) c.handles) r.0, r.1, r.2, r.3)
-order-kept (Arms number pulse) c r f = (rw (same-on_first (λ (h : Open Seen). h.number) (λ h. eqb h.number number) (λ h. record h { armed = pulse }) (λ h. refl) c.handles) r.0, r.1, r.2, r.3)
+order-kept (Closes number) c r f = (rising-without (λ (h : OpenHandle Progress). h.number) (λ h. eqb h.number number) 0 c.next_handle c.handles r.0, r.1, r.2, r.3)
+order-kept (CatchesUp number) c r f = (rw (same-on_first (λ (h : OpenHandle Progress). h.number) (λ h. eqb h.number number) (reseen caught_up) (λ h. refl) c.handles) r.0, r.1, r.2, r.3)
+order-kept (Advances number count) c r f = (rw (same-on_first (λ (h : OpenHandle Progress). h.number) (λ h. eqb h.number number) (reseen (λ h. left h count h.seen)) (λ h. refl) c.handles) r.0, r.1, r.2, r.3)
+order-kept (Parks number size) c r f = (rw (same-on_first (λ (h : OpenHandle Progress). h.number) (λ h. eqb h.number number) (λ h. record h { parked = size }) (λ h. refl) c.handles) r.0, r.1, r.2, r.3)
+order-kept (Arms number pulse) c r f = (rw (same-on_first (λ (h : OpenHandle Progress). h.number) (λ h. eqb h.number number) (λ h. record h { armed = pulse }) (λ h. refl) c.handles) r.0, r.1, r.2, r.3)
 order-kept (Queues conn item) c r f = (r.0, r.1, r.2, rw (same-on_first (λ (x : Connection). x.number) (λ x. eqb x.number conn) (requeued (λ items. items ++ item ∷ [])) (λ x. refl) c.connections) r.3)
 order-kept (Takes conn) c r f = (r.0, r.1, r.2, rw (same-on_first (λ (x : Connection). x.number) (λ x. eqb x.number conn) (requeued behind_first) (λ x. refl) c.connections) r.3)
 order-kept (MakesDirectory path) c r f = (
@@ -65,7 +65,7 @@ order-kept (RemovesDirectory number) c r f = (r.0, r.1, rising-without (λ (d : 
 
 -- ---- handles and what they are on
 
-pub all-offered : (P : Open Seen → Type 0) (e : Entry) → ((h : Open Seen) → P h → P (offer e h)) → (hs : List (Open Seen)) → AllByRecursion P hs → AllByRecursion P (map (offer e) hs)
+pub all-offered : (P : OpenHandle Progress → Type 0) (e : Entry) → ((h : OpenHandle Progress) → P h → P (offer e h)) → (hs : List (OpenHandle Progress)) → AllByRecursion P hs → AllByRecursion P (map (offer e) hs)
 all-offered P e keeps [] all = tt
 all-offered P e keeps (h ∷ hs) all = (keeps h all.0, all-offered P e keeps hs all.1)
 
@@ -100,13 +100,13 @@ attached-on k conn change (x ∷ xs) = go (eqb x.number conn) (eqb x.number k) (
         by true = refl
         by false = rest
 
-abbrev Owner : Content → Open Seen → Type 0
+abbrev Owner : Content → OpenHandle Progress → Type 0
 Owner c h = is_attached c h.connection ≡ true
 
-abbrev Target : Content → Open Seen → Type 0
+abbrev Target : Content → OpenHandle Progress → Type 0
 Target c h = IsTarget c h.target (is_directory_kind h.kind)
 
-owner-left : (conn : ℕ) (c : Content) (h : Open Seen) → Owner c h × (eqb h.connection conn ≡ false) → Owner (apply_seen (Leaves conn) c) h
+owner-left : (conn : ℕ) (c : Content) (h : OpenHandle Progress) → Owner c h × (eqb h.connection conn ≡ false) → Owner (apply_seen (Leaves conn) c) h
 owner-left conn c h p =
     let x = some-of (find (λ (x : Connection). eqb x.number h.connection) c.connections) p.0 in
     let own : x.0.number ≡ h.connection = eqb-true x.0.number h.connection (find-true (λ (x : Connection). eqb x.number h.connection) c.connections x.0 x.1) in
@@ -127,7 +127,7 @@ target-removed c number t true p =
     is-some _ d.0 (find-without (λ (d : Directory). eqb d.number t) (λ d. eqb d.number number) c.directories d.0 d.1 (ap (λ n. eqb n number) own ∙ p.1))
 target-removed c number t false p = p.0
 
-held-numbered : (c : Content) (n : ℕ) (change : Open Seen → Open Seen) → ((h : Open Seen) → Owner c h → Owner c (change h)) → ((h : Open Seen) → Target c h → Target c (change h)) → Held c → Held (record c { handles = on_numbered n change c.handles })
+held-numbered : (c : Content) (n : ℕ) (change : OpenHandle Progress → OpenHandle Progress) → ((h : OpenHandle Progress) → Owner c h → Owner c (change h)) → ((h : OpenHandle Progress) → Target c h → Target c (change h)) → Held c → Held (record c { handles = on_numbered n change c.handles })
 held-numbered c n change owns targets p = (all-on_first (Owner c) (λ h. eqb h.number n) change owns c.handles p.0, all-on_first (Target c) (λ h. eqb h.number n) change targets c.handles p.1)
 
 held-kept : (x : Move) (c : Content) → Held c → Fits c x → Held (apply_seen x c)
@@ -162,7 +162,7 @@ fits-unread Full reads = refl
 fits-unread Delta reads = refl
 fits-unread Queue reads = refl
 
-whole-seen : {S : Type 0} (h : Open S) (xs : List Entry) → IsWhole h (seen_of h xs)
+whole-seen : {S : Type 0} (h : OpenHandle S) (xs : List Entry) → IsWhole h (seen_of h xs)
 whole-seen h xs = go (style h.kind) refl (over_limit h xs) refl
   where
     go : (s : Style) → style h.kind ≡ s → (o : Bool) → over_limit h xs ≡ o → IsWhole h (stand s h.reads o xs)
@@ -171,18 +171,18 @@ whole-seen h xs = go (style h.kind) refl (over_limit h xs) refl
     go Delta e false f = λ i. stand (e i) h.reads (f i) xs
     go Queue e o f = λ i. stand (e i) h.reads (over_limit h xs) xs
 
-whole-unread : {S : Type 0} (h : Open S) (s : Style) (reads : Bool) → IsWhole h (unread s reads)
+whole-unread : {S : Type 0} (h : OpenHandle S) (s : Style) (reads : Bool) → IsWhole h (unread s reads)
 whole-unread h Full reads = tt
 whole-unread h Delta reads = tt
 whole-unread h Queue reads = tt
 
-first-stand : {S : Type 0} (h : Open S) (s : Style) (reads over : Bool) (rest : List Entry) → begins (visible h) rest ≡ true → HasFirst h (stand s reads over rest)
+first-stand : {S : Type 0} (h : OpenHandle S) (s : Style) (reads over : Bool) (rest : List Entry) → begins (visible h) rest ≡ true → HasFirst h (stand s reads over rest)
 first-stand h Full reads over rest e = tt
 first-stand h Delta reads true rest e = tt
 first-stand h Delta reads false rest e = e
 first-stand h Queue reads over rest e = e
 
-first-unread : {S : Type 0} (h : Open S) (s : Style) (reads : Bool) → HasFirst h (unread s reads)
+first-unread : {S : Type 0} (h : OpenHandle S) (s : Style) (reads : Bool) → HasFirst h (unread s reads)
 first-unread h Full reads = tt
 first-unread h Delta reads = tt
 first-unread h Queue reads = tt
@@ -204,13 +204,13 @@ begins-pushed test e true [] p = by (test e) refl
     by false is = refl
 begins-pushed test e true (x ∷ xs) p = p
 
-abbrev Tells : Open Seen → Seen → Type 0
+abbrev Tells : OpenHandle Progress → Progress → Type 0
 Tells h s = (fits (style h.kind) s ≡ true) × IsWhole h s × HasFirst h s
 
-seen-tells : (h : Open Seen) (rest : List Entry) → begins (visible h) rest ≡ true → Tells h (seen_of h rest)
+seen-tells : (h : OpenHandle Progress) (rest : List Entry) → begins (visible h) rest ≡ true → Tells h (seen_of h rest)
 seen-tells h rest e = (fits-stand (style h.kind) h.reads (over_limit h rest) rest, whole-seen h rest, first-stand h (style h.kind) h.reads (over_limit h rest) rest e)
 
-offered-tells : (h : Open Seen) (e : Entry) (s : Seen) → Tells h s → Tells h (offered h e s)
+offered-tells : (h : OpenHandle Progress) (e : Entry) (s : Progress) → Tells h s → Tells h (offered h e s)
 offered-tells h e (News b) p = (by (style h.kind) p.0, tt, tt)
   where
     by : (k : Style) → fits k (News b) ≡ true → fits k (offered h e (News b)) ≡ true
@@ -221,13 +221,13 @@ offered-tells h e Unread p = p
 offered-tells h e Over p = p
 offered-tells h e (Owed rest) p = seen-tells h (cond (keeps h e) (pushed (visible h) e rest) rest) (begins-pushed (visible h) e (keeps h e) rest p.2)
 
-left-tells : (h : Open Seen) (count : ℕ) (s : Seen) → Tells h s → Tells h (left h count s)
+left-tells : (h : OpenHandle Progress) (count : ℕ) (s : Progress) → Tells h s → Tells h (left h count s)
 left-tells h count (News b) p = p
 left-tells h count Unread p = p
 left-tells h count Over p = p
 left-tells h count (Owed rest) p = seen-tells h (from_first (visible h) (past (visible h) count rest)) (begins-first (visible h) (past (visible h) count rest))
 
-first-tells : {S : Type 0} (h : Open S) → (fits (style h.kind) (first_seen h (style h.kind)) ≡ true) × IsWhole h (first_seen h (style h.kind)) × HasFirst h (first_seen h (style h.kind))
+first-tells : {S : Type 0} (h : OpenHandle S) → (fits (style h.kind) (first_seen h (style h.kind)) ≡ true) × IsWhole h (first_seen h (style h.kind)) × HasFirst h (first_seen h (style h.kind))
 first-tells h = go (style h.kind) refl
   where
     go : (k : Style) → style h.kind ≡ k → (fits k (first_seen h k) ≡ true) × IsWhole h (first_seen h k) × HasFirst h (first_seen h k)
@@ -235,7 +235,7 @@ first-tells h = go (style h.kind) refl
     go Delta e = (refl, tt, tt)
     go Queue e = (ap (λ k. fits k (seen_of h [])) (sym e) ∙ fits-stand (style h.kind) h.reads (over_limit h []) [], whole-seen h [], first-stand h (style h.kind) h.reads (over_limit h []) [] refl)
 
-abbrev pub IsTold : Open Seen → Type 0
+abbrev pub IsTold : OpenHandle Progress → Type 0
 IsTold h = Tells h h.seen
 
 abbrev pub AllTold : Content → Type 0
@@ -245,8 +245,8 @@ pub told-apart : (c : Content) → AllTold c → Told c
 told-apart c p = (all-imp IsTold (λ h. fits (style h.kind) h.seen ≡ true) (λ h q. q.0) c.handles p, all-imp IsTold (λ h. IsWhole h h.seen) (λ h q. q.1) c.handles p, all-imp IsTold (λ h. HasFirst h h.seen) (λ h q. q.2) c.handles p)
 
 pub told-both : (c : Content) → Told c → AllTold c
-told-both c p = all-imp (λ (h : Open Seen). (fits (style h.kind) h.seen ≡ true) × (IsWhole h h.seen × HasFirst h h.seen)) IsTold (λ h q. (q.0, q.1.0, q.1.1)) c.handles
-    (all-both (λ (h : Open Seen). fits (style h.kind) h.seen ≡ true) (λ h. IsWhole h h.seen × HasFirst h h.seen) c.handles p.0 (all-both (λ (h : Open Seen). IsWhole h h.seen) (λ h. HasFirst h h.seen) c.handles p.1 p.2))
+told-both c p = all-imp (λ (h : OpenHandle Progress). (fits (style h.kind) h.seen ≡ true) × (IsWhole h h.seen × HasFirst h h.seen)) IsTold (λ h q. (q.0, q.1.0, q.1.1)) c.handles
+    (all-both (λ (h : OpenHandle Progress). fits (style h.kind) h.seen ≡ true) (λ h. IsWhole h h.seen × HasFirst h h.seen) c.handles p.0 (all-both (λ (h : OpenHandle Progress). IsWhole h h.seen) (λ h. HasFirst h h.seen) c.handles p.1 p.2))
 
 pub told-kept : (x : Move) (c : Content) → AllTold c → AllTold (apply_seen x c)
 told-kept (Attaches conn) c p = p
@@ -268,11 +268,11 @@ told-kept (RemovesDirectory number) c p = p
 pub shown-told : (m : Machine) → AllTold (content_of m)
 shown-told m = go m.handles
   where
-    one : (h : Open (Option ℕ)) (cursor : Option ℕ) → (fits (style h.kind) (seen_with h m.history cursor) ≡ true) × IsWhole h (seen_with h m.history cursor) × HasFirst h (seen_with h m.history cursor)
+    one : (h : OpenHandle (Option ℕ)) (cursor : Option ℕ) → (fits (style h.kind) (seen_with h m.history cursor) ≡ true) × IsWhole h (seen_with h m.history cursor) × HasFirst h (seen_with h m.history cursor)
     one h None = (fits-unread (style h.kind) h.reads, whole-unread h (style h.kind) h.reads, first-unread h (style h.kind) h.reads)
     one h (Some cursor) = (fits-stand (style h.kind) h.reads (over_limit h _) _, whole-seen h _, first-stand h (style h.kind) h.reads (over_limit h (rest_of h (drop cursor m.history))) (rest_of h (drop cursor m.history)) (begins-first (visible h) (filter (keeps h) (drop cursor m.history))))
 
-    go : (hs : List (Open (Option ℕ))) → AllByRecursion IsTold (map (shown_handle m.history) hs)
+    go : (hs : List (OpenHandle (Option ℕ))) → AllByRecursion IsTold (map (shown_handle m.history) hs)
     go [] = tt
     go (h ∷ hs) = (one h h.seen, go hs)
 

@@ -6,7 +6,7 @@ use Rattle.std.proofs.lemmas.List.{drop-drop, take-append-drop}
 use Rattle.std.proofs.lemmas.List.Elements.{filter-append}
 use Rattle.std.specs.Option.{option_map_or}
 use Rattle.pps_types.specs.History.{Entry}
-use Rattle.pps_types.specs.Reading.{is_delta_style, Open, Style, Full, Delta, Queue, style, visible}
+use Rattle.pps_types.specs.Reading.{is_delta_style, OpenHandle, Style, Full, Delta, Queue, style, visible}
 use Rattle.pps_types.specs.Rests.{stand, unread, keeps, from_first, seen_with, rest_of}
 use Rattle.pps_types.specs.Machine.{Machine, content_of, shown_handle}
 use Rattle.pps_types.specs.Owed.{owed, is_past_limit, in_chain, first_place, first_owed, older, is_of, oldest, records_from, kept_records, kept_of, rest_seen, longest, longer, longest_rest, kept_records_seen}
@@ -42,7 +42,7 @@ filter-agree p q same [] = refl
 filter-agree p q same (x ∷ xs) = λ i. cond (same x i) (x ∷ filter-agree p q same xs i) (filter-agree p q same xs i)
 
 -- one handle: what is kept for it
-kept-one : (d : Bool) (t : ℕ) (H : List Entry) (h : Open (Option ℕ)) → IsOf d t h → (cursor : Option ℕ) → records_from d t H (cond (not (is_past_limit h (owed h H cursor))) (first_owed h H cursor) None) ≡ rest_seen (seen_with h H cursor)
+kept-one : (d : Bool) (t : ℕ) (H : List Entry) (h : OpenHandle (Option ℕ)) → IsOf d t h → (cursor : Option ℕ) → records_from d t H (cond (not (is_past_limit h (owed h H cursor))) (first_owed h H cursor) None) ≡ rest_seen (seen_with h H cursor)
 kept-one d t H h of None = by (not (is_past_limit h [])) (style h.kind)
   where
     by : (b : Bool) (s : Style) → records_from d t H (cond {A = Option ℕ} b None None) ≡ rest_seen (unread s h.reads)
@@ -122,7 +122,7 @@ records-older d t H (Some a) (Some b) = ⊎_elim first second (cases_lt a b)
         (cases_lt (length (records_from d t H (Some a))) (length (records_from d t H (Some b))))
 
 -- what is kept
-kept-all : (d : Bool) (t : ℕ) (H : List Entry) (hs : List (Open (Option ℕ))) → records_from d t H (oldest d t H hs) ≡ longest_rest d t (map (shown_handle H) hs)
+kept-all : (d : Bool) (t : ℕ) (H : List Entry) (hs : List (OpenHandle (Option ℕ))) → records_from d t H (oldest d t H hs) ≡ longest_rest d t (map (shown_handle H) hs)
 kept-all d t H [] = refl
 kept-all d t H (h ∷ hs) =
     records-older d t H (cond (is_of d t h && not (is_past_limit h (owed h H h.seen))) (first_owed h H h.seen) None) (oldest d t H hs)
@@ -173,12 +173,12 @@ older-second None b q le = le
 older-second (Some a) None q le = absurd le
 older-second (Some a) (Some b) q le = omega arith
 
-oldest-up-to : (d : Bool) (t : ℕ) (H : List Entry) (number : ℕ) (h : Open (Option ℕ)) (q : ℕ) → is_of d t h ≡ true → is_past_limit h (owed h H h.seen) ≡ false → first_owed h H h.seen ≡ Some q
-    → (hs : List (Open (Option ℕ))) → find (λ h. eqb h.number number) hs ≡ Some h → IsUpTo (oldest d t H hs) q
+oldest-up-to : (d : Bool) (t : ℕ) (H : List Entry) (number : ℕ) (h : OpenHandle (Option ℕ)) (q : ℕ) → is_of d t h ≡ true → is_past_limit h (owed h H h.seen) ≡ false → first_owed h H h.seen ≡ Some q
+    → (hs : List (OpenHandle (Option ℕ))) → find (λ h. eqb h.number number) hs ≡ Some h → IsUpTo (oldest d t H hs) q
 oldest-up-to d t H number h q of over first [] found = absurd (let e = found in cc)
 oldest-up-to d t H number h q of over first (x ∷ hs) found = by (oldest-up-to d t H number h q of over first hs) (eqb x.number number) found
   where
-    place : Open (Option ℕ) → Option ℕ
+    place : OpenHandle (Option ℕ) → Option ℕ
     place x = cond (is_of d t x && not (is_past_limit x (owed x H x.seen))) (first_owed x H x.seen) None
 
     own : place h ≡ Some q
@@ -188,7 +188,7 @@ oldest-up-to d t H number h q of over first (x ∷ hs) found = by (oldest-up-to 
     by rec true e = let is : x ≡ h = cc in older-first (place x) (oldest d t H hs) q (ap place is ∙ own)
     by rec false e = older-second (place x) (oldest d t H hs) q (rec e)
 
-pub owed-kept : (m : Machine) (d : Bool) (t number : ℕ) (h : Open (Option ℕ)) → find (λ h. eqb h.number number) m.handles ≡ Some h → is_of d t h ≡ true → is_past_limit h (owed h m.history h.seen) ≡ false
+pub owed-kept : (m : Machine) (d : Bool) (t number : ℕ) (h : OpenHandle (Option ℕ)) → find (λ h. eqb h.number number) m.handles ≡ Some h → is_of d t h ≡ true → is_past_limit h (owed h m.history h.seen) ≡ false
     → (read : List Entry) × (filter (visible h) (kept_records m d t) ≡ read ++ owed h m.history h.seen)
 owed-kept m d t number h found of over = go h.seen refl (first_owed h m.history h.seen) refl
   where

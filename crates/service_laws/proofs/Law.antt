@@ -4,8 +4,8 @@ use Rattle.std.specs.List.{AllByRecursion}
 use Rattle.std.proofs.lemmas.List.{map-append}
 use Rattle.pps_types.specs.declared.event.Event.{Event}
 use Rattle.pps_types.specs.History.{Entry, state, is_alive}
-use Rattle.pps_types.specs.Reading.{Open, Style, Full, Delta, Queue, style, reseen, visible}
-use Rattle.pps_types.specs.Rests.{Seen, News, Unread, Over, Owed, seen_with}
+use Rattle.pps_types.specs.Reading.{OpenHandle, Style, Full, Delta, Queue, style, reseen, visible}
+use Rattle.pps_types.specs.Rests.{Progress, News, Unread, Over, Owed, seen_with}
 use Rattle.pps_types.specs.Plan.{Move, Attaches, Leaves, Creates, AppendsRecord, Opens, Closes, CatchesUp, Advances, Parks, Arms, Queues, Takes, MakesDirectory, RemovesDirectory, on_numbered, without_number, creation, offer, left, caught_up, apply_seen, apply_all_seen, plan, step_seen}
 use Rattle.pps_types.specs.Runs.{Answered, after, after_seen, after_answered, end_of}
 use Rattle.pps_types.specs.Machine.{start, Machine, IsMachine, IsMade, IsAlive, AreAlive, IsRecorded, AreCounted, is_for, server_made, known, IsWithin, marked_step, IsLawful, AreLawful, next_after, content_of, shown_handle, apply, apply_all, passed, passed_with, first_cursor, step}
@@ -16,7 +16,7 @@ use Rattle.std.specs.Prelude.{find, option_map}
 use Rattle.std.specs.List.{filter_map, cons_option}
 use Rattle.pps_types.specs.declared.handle_kind.HandleKind.{HandleKind}
 use Rattle.pps_types.specs.declared.handle_kind.HandleKind.TheVariants.{Object as ObjectHandle, Directory as DirectoryHandle, Names as NamesHandle, Server as ServerHandle, Client as ClientHandle}
-use Rattle.pps_types.specs.WellFormed.{AreRising, IsContent, server_of}
+use Rattle.pps_types.specs.WellFormed.{RiseBetween, IsContent, server_of}
 use Rattle.pps_types.specs.Content.{Object, LiveObject, Content, object_numbered}
 use Rattle.pps_types.specs.Outcome.{Reply, is_marked}
 use Rattle.service_laws.proofs.Lawful.{plan-lawful}
@@ -25,7 +25,7 @@ use Rattle.service_laws.proofs.Alive.{plan-alive}
 use Rattle.service_laws.proofs.Finds.{OfSome, all-find, all-none, find-push, find-last, find-true}
 use Rattle.service_laws.proofs.Rising.{found-each, none-numbered}
 
-abbrev IsFor : Machine → Open (Option ℕ) → Type 0
+abbrev IsFor : Machine → OpenHandle (Option ℕ) → Type 0
 IsFor m h = is_for h.kind (server_made m h.target) ≡ true
 
 counted-below : (n : ℕ) (os : List Object) → AreCounted n os → AllByRecursion (λ o. o.number < n + length os) os
@@ -41,14 +41,14 @@ numbered m made = all-weaken {P = λ x. x.number < 0 + length m.objects} {Q = λ
 
 -- ---- handles
 
-handles-push : (H : List Entry) (e : Entry) (hs : List (Open (Option ℕ))) → AllByRecursion (λ h. IsWithin (length H) h.seen) hs → map (shown_handle (H ++ e ∷ [])) hs ≡ map (offer e) (map (shown_handle H) hs)
+handles-push : (H : List Entry) (e : Entry) (hs : List (OpenHandle (Option ℕ))) → AllByRecursion (λ h. IsWithin (length H) h.seen) hs → map (shown_handle (H ++ e ∷ [])) hs ≡ map (offer e) (map (shown_handle H) hs)
 handles-push H e [] all = refl
 handles-push H e (h ∷ hs) all = λ i. shown_handle-push H e h all.0 i ∷ handles-push H e hs all.1 i
 
-handles-numbered : (H : List Entry) (n : ℕ) (f : Open (Option ℕ) → Open (Option ℕ)) (g : Open Seen → Open Seen) → ((h : Open (Option ℕ)) → shown_handle H (f h) ≡ g (shown_handle H h)) → (hs : List (Open (Option ℕ))) → map (shown_handle H) (on_numbered n f hs) ≡ on_numbered n g (map (shown_handle H) hs)
+handles-numbered : (H : List Entry) (n : ℕ) (f : OpenHandle (Option ℕ) → OpenHandle (Option ℕ)) (g : OpenHandle Progress → OpenHandle Progress) → ((h : OpenHandle (Option ℕ)) → shown_handle H (f h) ≡ g (shown_handle H h)) → (hs : List (OpenHandle (Option ℕ))) → map (shown_handle H) (on_numbered n f hs) ≡ on_numbered n g (map (shown_handle H) hs)
 handles-numbered H n f g same hs = map-on_first (shown_handle H) (λ h. eqb h.number n) (λ h. eqb h.number n) f g (λ h. refl) same hs
 
-handles-without : (H : List Entry) (n : ℕ) (hs : List (Open (Option ℕ))) → map (shown_handle H) (without_number n hs) ≡ without_number n (map (shown_handle H) hs)
+handles-without : (H : List Entry) (n : ℕ) (hs : List (OpenHandle (Option ℕ))) → map (shown_handle H) (without_number n hs) ≡ without_number n (map (shown_handle H) hs)
 handles-without H n hs = map-without_first (shown_handle H) (λ h. eqb h.number n) (λ h. eqb h.number n) (λ h. refl) hs
 
 length-push : {X : Type 0} (xs : List X) (x : X) → length (xs ++ x ∷ []) ≡ length xs + 1
@@ -89,13 +89,13 @@ within-more : (a b : ℕ) (cursor : Option ℕ) → a ≤ b → IsWithin a curso
 within-more a b None le w = tt
 within-more a b (Some cursor) le w = omega arith
 
-all-within : (a b : ℕ) → a ≤ b → (hs : List (Open (Option ℕ))) → AllByRecursion (λ h. IsWithin a h.seen) hs → AllByRecursion (λ h. IsWithin b h.seen) hs
+all-within : (a b : ℕ) → a ≤ b → (hs : List (OpenHandle (Option ℕ))) → AllByRecursion (λ h. IsWithin a h.seen) hs → AllByRecursion (λ h. IsWithin b h.seen) hs
 all-within a b le hs all = all-weaken {P = λ h. IsWithin a h.seen} {Q = λ h. IsWithin b h.seen} (λ h w. within-more a b h.seen le w) hs all
 
-all-numbered : (n end : ℕ) (f : Open (Option ℕ) → Open (Option ℕ)) → ((h : Open (Option ℕ)) → IsWithin end h.seen → IsWithin end (f h).seen) → (hs : List (Open (Option ℕ))) → AllByRecursion (λ h. IsWithin end h.seen) hs → AllByRecursion (λ h. IsWithin end h.seen) (on_numbered n f hs)
+all-numbered : (n end : ℕ) (f : OpenHandle (Option ℕ) → OpenHandle (Option ℕ)) → ((h : OpenHandle (Option ℕ)) → IsWithin end h.seen → IsWithin end (f h).seen) → (hs : List (OpenHandle (Option ℕ))) → AllByRecursion (λ h. IsWithin end h.seen) hs → AllByRecursion (λ h. IsWithin end h.seen) (on_numbered n f hs)
 all-numbered n end f keeps hs all = all-on_first (λ h. IsWithin end h.seen) (λ h. eqb h.number n) f keeps hs all
 
-passed-within : (h : Open (Option ℕ)) (H : List Entry) (n : ℕ) (s : Seen) (cursor : Option ℕ) → IsWithin (length H) cursor → IsWithin (length H) (passed_with h H n s cursor)
+passed-within : (h : OpenHandle (Option ℕ)) (H : List Entry) (n : ℕ) (s : Progress) (cursor : Option ℕ) → IsWithin (length H) cursor → IsWithin (length H) (passed_with h H n s cursor)
 passed-within h H n (News b) cursor within = within
 passed-within h H n Unread cursor within = within
 passed-within h H n Over cursor within = within
@@ -126,12 +126,12 @@ made-for m o k t p = for-more k (server_made m t) (server_made (apply (Creates o
     go s (Some x) f e = ap (option_map (λ (x : Object). x.server)) (find-push (λ (x : Object). eqb x.number t) m.objects o x f) ∙ e
 
 -- an object that is alive was made
-counted-each : (n : ℕ) (os : List Object) → AreCounted n os → AreRising n (map (λ (o : Object). o.number) os) (n + length os)
+counted-each : (n : ℕ) (os : List Object) → AreCounted n os → RiseBetween n (map (λ (o : Object). o.number) os) (n + length os)
 counted-each n [] all = omega arith
 counted-each n (o ∷ os) all = (
   let is = all.0 in omega arith,
   let same : n + 1 + length os ≡ n + length (o ∷ os) = omega arith in let own : o.number + 1 ≡ n + 1 = (let is = all.0 in omega arith) in
-      subst (λ low. AreRising low (map (λ (o : Object). o.number) os) (n + length (o ∷ os))) (sym own) (subst (λ high. AreRising (n + 1) (map (λ (o : Object). o.number) os) high) same (counted-each (n + 1) os all.1)),
+      subst (λ low. RiseBetween low (map (λ (o : Object). o.number) os) (n + length (o ∷ os))) (sym own) (subst (λ high. RiseBetween (n + 1) (map (λ (o : Object). o.number) os) high) same (counted-each (n + 1) os all.1)),
 )
 
 known-object : (H : List Entry) (o : Object) → OfSome (λ (k : LiveObject). k.object ≡ o) (known H o)

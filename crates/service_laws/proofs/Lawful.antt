@@ -19,8 +19,8 @@ use Rattle.pps_types.specs.Bytes.{is_empty}
 use Rattle.pps_types.specs.Checks.{Addressee, Everyone, OneClient, Nobody, addressee, first_refusal}
 use Rattle.pps_types.specs.declared.handle_kind.HandleKind.{HandleKind}
 use Rattle.pps_types.specs.declared.handle_kind.HandleKind.TheVariants.{Object as ObjectHandle, Directory as DirectoryHandle, Names as NamesHandle, Server as ServerHandle, Client as ClientHandle}
-use Rattle.pps_types.specs.Reading.{Open, Answer, Everything, Blocks, Needs, TargetGone, Waits, Nothing}
-use Rattle.pps_types.specs.Rests.{Seen}
+use Rattle.pps_types.specs.Reading.{OpenHandle, Answer, Everything, Blocks, Needs, TargetGone, Waits, Nothing}
+use Rattle.pps_types.specs.Rests.{Progress}
 use Rattle.pps_types.specs.Outbox.{first_of}
 use Rattle.pps_types.specs.Content.{Content, LiveObject, Directory, object_numbered, object_at, directory_at, handles_of, queue_of, news, read_answer, own_handle}
 use Rattle.pps_types.specs.Plan.{Move, Creates, AppendsRecord, apply_all_seen, entry_of, effect, plan, decided, all_checks_of, settling, settling_handle, fired, late_replies, late_reply, opening, preparing, new_object, writing, written_kind, sent, on_target, closing, closings, parting, unlinking, received, read_effect, with_result, had_news, found_object}
@@ -59,7 +59,7 @@ plain-flat f p (x ∷ xs) = plain-append (f x) (flat_map f xs) (p x) (plain-flat
 
 -- ---- settling
 
-late_reply-plain : (h : Open Seen) (a : Answer) → ArePlain (late_reply h a)
+late_reply-plain : (h : OpenHandle Progress) (a : Answer) → ArePlain (late_reply h a)
 late_reply-plain h (Everything text) = ((λ n. tt), ((λ n. tt), ((λ n. tt), tt)))
 late_reply-plain h (Blocks count text) = ((λ n. tt), ((λ n. tt), ((λ n. tt), tt)))
 late_reply-plain h (Needs need) = ((λ n. tt), ((λ n. tt), tt))
@@ -74,24 +74,24 @@ settling-plain before c = plain-flat (settling_handle before c) (λ h. plain-con
 
 -- ---- effects
 
-on_target-plain : (c : Content) (h : Open Seen) (kind : Kind) (writer : Option ℕ) → is_creation kind ≡ false → ArePlain (on_target c h kind writer)
+on_target-plain : (c : Content) (h : OpenHandle Progress) (kind : Kind) (writer : Option ℕ) → is_creation kind ≡ false → ArePlain (on_target c h kind writer)
 on_target-plain c h kind writer e = plain-or _ (λ o. ((λ n. e), tt)) (object_numbered c h.target)
 
-parting-plain : (c : Content) (h : Open Seen) (k : HandleKind) → ArePlain (parting c h k)
+parting-plain : (c : Content) (h : OpenHandle Progress) (k : HandleKind) → ArePlain (parting c h k)
 parting-plain c h ServerHandle = on_target-plain c h _ None refl
 parting-plain c h ClientHandle = on_target-plain c h _ None refl
 parting-plain c h NamesHandle = tt
 parting-plain c h (ObjectHandle delta) = plain-cond (h.options.critical && h.writes) _ [] (on_target-plain c h Dropped None refl) tt
 parting-plain c h (DirectoryHandle delta) = tt
 
-closing-plain : (c : Content) (h : Open Seen) → ArePlain (closing c h)
+closing-plain : (c : Content) (h : OpenHandle Progress) → ArePlain (closing c h)
 closing-plain c h = ((λ n. tt), plain-append _ (parting c h h.kind) (plain-cond (is_some h.parked) _ [] ((λ n. tt), tt) tt) (parting-plain c h h.kind))
 
-closings-plain : (c : Content) (hs : List (Open Seen)) → ArePlain (closings c hs)
+closings-plain : (c : Content) (hs : List (OpenHandle Progress)) → ArePlain (closings c hs)
 closings-plain c [] = tt
 closings-plain c (h ∷ hs) = plain-append (closing c h) (closings (apply_all_seen (closing c h) c) hs) (closing-plain c h) (closings-plain (apply_all_seen (closing c h) c) hs)
 
-written-plain : (c : Content) (h : Open Seen) (k : HandleKind) (text : WriteText) → is_creation (written_kind c h k text) ≡ false
+written-plain : (c : Content) (h : OpenHandle Progress) (k : HandleKind) (text : WriteText) → is_creation (written_kind c h k text) ≡ false
 written-plain c h ServerHandle text = by (addressee h.name text.header) _
   where
     by : (a : Addressee) (lines : List _) → is_creation (sent a lines) ≡ false
@@ -103,7 +103,7 @@ written-plain c h NamesHandle text = refl
 written-plain c h (ObjectHandle delta) text = refl
 written-plain c h (DirectoryHandle delta) text = refl
 
-writing-plain : (c : Content) (h : Open Seen) (text : WriteText) → ArePlain (writing c h text)
+writing-plain : (c : Content) (h : OpenHandle Progress) (text : WriteText) → ArePlain (writing c h text)
 writing-plain c h text = plain-cond (is_empty text.lines) [] _ tt (on_target-plain c h (written_kind c h h.kind text) (Some h.number) (written-plain c h h.kind text))
 
 lawful-cond : (b : Bool) (xs ys : List Move) (n : ℕ) → AreLawful n xs → AreLawful n ys → AreLawful n (cond b xs ys)
@@ -120,7 +120,7 @@ preparing-lawful c mode spec (Some o) =
 opening-lawful : (c : Content) (conn : ℕ) (mode : Mode) (spec : OpenSpec) (found : Option LiveObject) → AreLawful c.next_object (opening c conn mode spec found)
 opening-lawful c conn mode spec found = lawful-append (preparing c mode spec found) _ c.next_object (preparing-lawful c mode spec found) ((λ n. tt), tt)
 
-read_effect-plain : (h : Open Seen) (size : ℕ) (a : Answer) → ArePlain (read_effect h size a).1
+read_effect-plain : (h : OpenHandle Progress) (size : ℕ) (a : Answer) → ArePlain (read_effect h size a).1
 read_effect-plain h size (Everything text) = ((λ n. tt), tt)
 read_effect-plain h size (Blocks count text) = ((λ n. tt), tt)
 read_effect-plain h size Waits = ((λ n. tt), tt)

@@ -13,8 +13,8 @@ use Rattle.pps_types.specs.Bytes.{is_empty, ◌>>=◌}
 use Rattle.pps_types.specs.Text.{WriteText, write_text}
 use Rattle.pps_types.specs.Names.{Path, parent, is_object, is_directory, place, find_at, new_refusal, refusal_of}
 use Rattle.pps_types.specs.OpenText.{OpenSpec, open_text, path_text}
-use Rattle.pps_types.specs.Reading.{Open, Answer, Everything, Blocks, Needs, TargetGone, Waits, Nothing}
-use Rattle.pps_types.specs.Rests.{Seen}
+use Rattle.pps_types.specs.Reading.{OpenHandle, Answer, Everything, Blocks, Needs, TargetGone, Waits, Nothing}
+use Rattle.pps_types.specs.Rests.{Progress}
 use Rattle.pps_types.specs.Content.{Content, Directory, LiveObject, directory_at, object_at, subdirectories, own_handle, at, target_is_dead, read_answer, is_attached}
 use Rattle.pps_types.specs.Checks.{Check, Refuse, Memory, first_refusal, parsed, on_handle, on_path, refused, letters_fit, mode_fits, all_checks, name_checks, open_checks, read_checks, answer_checks, write_checks, text_checks, client_checks, where_lines, client_backlog, meant, close_checks, unlink_found, unlink_checks, mkdir_checks, list_checks, notify_checks, found_as, Addressee, Everyone, OneClient, Nobody, addressee, checks}
 use Rattle.service_laws.specs.PlanLaws.{IsFound, IsRead, is_told, is_somebody, is_addressed, IsWritten, has_place, NothingIsMissing}
@@ -25,11 +25,11 @@ use Rattle.service_laws.proofs.Passes.{all-pass, passes-both, behind, at-directo
 attached : (c : Content) (conn : ℕ) (cs : List Check) → first_refusal (Refuse (not (is_attached c conn)) Refusal.NotAttached ∷ cs) ≡ None → first_refusal cs ≡ None
 attached c conn cs p = (behind (not (is_attached c conn)) Refusal.NotAttached cs p).1
 
-on-own : (c : Content) (conn handle : ℕ) (test : Open Seen → List Check) (P : Open Seen → Type 0) → ((h : Open Seen) → first_refusal (test h) ≡ None → P h)
+on-own : (c : Content) (conn handle : ℕ) (test : OpenHandle Progress → List Check) (P : OpenHandle Progress → Type 0) → ((h : OpenHandle Progress) → first_refusal (test h) ≡ None → P h)
     → first_refusal (on_handle c conn handle test) ≡ None → IsFound (own_handle c conn handle) P
 on-own c conn handle test P holds p = go (own_handle c conn handle) p
   where
-    go : (o : Option (Open Seen)) → first_refusal (option_map_or test o (Refuse true Refusal.BadHandle ∷ [])) ≡ None → IsFound o P
+    go : (o : Option (OpenHandle Progress)) → first_refusal (option_map_or test o (Refuse true Refusal.BadHandle ∷ [])) ≡ None → IsFound o P
     go None p = absurd (let h = p in cc)
     go (Some h) p = holds h p
 
@@ -42,7 +42,7 @@ on-names text test P holds p = go (path_text text) p
 
 -- ---- Read
 
-told : (c : Content) (h : Open Seen) (a : Answer) → first_refusal (answer_checks c h a) ≡ None → is_told a ≡ true
+told : (c : Content) (h : OpenHandle Progress) (a : Answer) → first_refusal (answer_checks c h a) ≡ None → is_told a ≡ true
 told c h (Everything text) p = refl
 told c h (Blocks count text) p = refl
 told c h (Needs need) p = absurd (let h = p in cc)
@@ -50,7 +50,7 @@ told c h TargetGone p = absurd (let h = p in cc)
 told c h Waits p = refl
 told c h Nothing p = refl
 
-read-there : (c : Content) (size : ℕ) (h : Open Seen) → first_refusal (read_checks c size h) ≡ None → is_told (read_answer c h size) ≡ true
+read-there : (c : Content) (size : ℕ) (h : OpenHandle Progress) → first_refusal (read_checks c size h) ≡ None → is_told (read_answer c h size) ≡ true
 read-there c size h p =
     let first = behind (not h.reads) Refusal.BadMode (Refuse (not (nat_le 1 size && nat_le size 17000000)) Refusal.BadArgument ∷ Refuse (is_some h.parked) Refusal.ReadPending ∷ answer_checks c h (read_answer c h size)) p in
     let second = behind (not (nat_le 1 size && nat_le size 17000000)) Refusal.BadArgument (Refuse (is_some h.parked) Refusal.ReadPending ∷ answer_checks c h (read_answer c h size)) first.1 in
@@ -58,7 +58,7 @@ read-there c size h p =
 
 -- ---- Write
 
-addressed : (c : Content) (h : Open Seen) (kind : HandleKind) (text : WriteText) → first_refusal (text_checks c h kind text) ≡ None → is_addressed kind h.name text ≡ true
+addressed : (c : Content) (h : OpenHandle Progress) (kind : HandleKind) (text : WriteText) → first_refusal (text_checks c h kind text) ≡ None → is_addressed kind h.name text ≡ true
 addressed c h ServerHandle text p = go (addressee h.name text.header) p
   where
     go : (to : Addressee) → first_refusal (client_checks c h.target to ++ where_lines text (client_backlog (meant c h.target to))) ≡ None → is_somebody to ≡ true
@@ -70,7 +70,7 @@ addressed c h (ObjectHandle delta) text p = refl
 addressed c h (DirectoryHandle delta) text p = refl
 addressed c h NamesHandle text p = refl
 
-write-there : (c : Content) (bytes : List ℕ) (h : Open Seen) → first_refusal (write_checks c bytes h) ≡ None → IsRead (write_text bytes) (IsWritten c h)
+write-there : (c : Content) (bytes : List ℕ) (h : OpenHandle Progress) → first_refusal (write_checks c bytes h) ≡ None → IsRead (write_text bytes) (IsWritten c h)
 write-there c bytes h p =
     let first = behind (not h.writes) Refusal.BadMode (Refuse (nat_lt 65536 (length bytes)) Refusal.TooLarge ∷ Refuse (target_is_dead c h) Refusal.Gone ∷ Memory ∷ parsed (write_text bytes) (text_checks c h h.kind)) p in
     let second = behind (nat_lt 65536 (length bytes)) Refusal.TooLarge (Refuse (target_is_dead c h) Refusal.Gone ∷ Memory ∷ parsed (write_text bytes) (text_checks c h h.kind)) first.1 in

@@ -6,14 +6,14 @@ use Rattle.std.proofs.lemmas.List.{drop-append-le, drop-drop}
 use Rattle.std.proofs.lemmas.List.Elements.{filter-append}
 use Rattle.pps_types.specs.Bytes.{is_empty}
 use Rattle.pps_types.specs.History.{Entry}
-use Rattle.pps_types.specs.Reading.{Open, Style, Full, Delta, Queue, style, reseen, visible, concerns, is_writer, is_object_kind, shown}
-use Rattle.pps_types.specs.Rests.{Seen, News, Unread, Over, Owed, stand, unread, keeps, from_first, pushed, past, behind, seen_of, seen_with, over_limit, rest_of}
+use Rattle.pps_types.specs.Reading.{OpenHandle, Style, Full, Delta, Queue, style, reseen, visible, concerns, is_writer, is_object_kind, shown}
+use Rattle.pps_types.specs.Rests.{Progress, News, Unread, Over, Owed, stand, unread, keeps, from_first, pushed, past, behind, seen_of, seen_with, over_limit, rest_of}
 use Rattle.pps_types.specs.Plan.{offered, offer, left, caught_up, first_seen}
 use Rattle.pps_types.specs.Machine.{IsWithin, shown_handle, passed, passed_with, first_cursor}
 use Rattle.pps_types.proofs.Chains.{visible-keeps}
 use Rattle.pps_types.proofs.Lists.{append-nil, from_first-push, past-from_first, filter-behind}
 
-pub visible-reads : {S : Type 0} (h : Open S) (e : Entry) → visible h e ≡ true → h.reads ≡ true
+pub visible-reads : {S : Type 0} (h : OpenHandle S) (e : Entry) → visible h e ≡ true → h.reads ≡ true
 visible-reads h e = by (concerns h e) h.reads (not (is_writer h.number e.record_of.writer) || (h.options.reflect && is_object_kind h.kind)) (is_some (shown h.kind h.number h.options.filter e.record_of.kind))
   where
     by : (a b c d : Bool) → (a && (b && c && d)) ≡ true → b ≡ true
@@ -22,10 +22,10 @@ visible-reads h e = by (concerns h e) h.reads (not (is_writer h.number e.record_
     by false false c d v = v
 
 -- the rest after one more record
-abbrev pub grown : {S : Type 0} → Open S → Entry → List Entry → List Entry
+abbrev pub grown : {S : Type 0} → OpenHandle S → Entry → List Entry → List Entry
 grown h e rest = cond (keeps h e) (pushed (visible h) e rest) rest
 
-rest-push : {S : Type 0} (h : Open S) (e : Entry) (xs : List Entry) → rest_of h (xs ++ e ∷ []) ≡ grown h e (rest_of h xs)
+rest-push : {S : Type 0} (h : OpenHandle S) (e : Entry) (xs : List Entry) → rest_of h (xs ++ e ∷ []) ≡ grown h e (rest_of h xs)
 rest-push h e xs = ap (from_first (visible h)) (filter-append (keeps h) xs (e ∷ [])) ∙ by (keeps h e)
   where
     by : (k : Bool) → from_first (visible h) (filter (keeps h) xs ++ cond k (e ∷ []) []) ≡ cond k (pushed (visible h) e (rest_of h xs)) (rest_of h xs)
@@ -45,7 +45,7 @@ or-false : (b : Bool) → b ≡ (b || false)
 or-false true = refl
 or-false false = refl
 
-full-grown : {S : Type 0} (h : Open S) (e : Entry) (rest : List Entry) → (h.reads && not (is_empty (grown h e rest))) ≡ ((h.reads && not (is_empty rest)) || visible h e)
+full-grown : {S : Type 0} (h : OpenHandle S) (e : Entry) (rest : List Entry) → (h.reads && not (is_empty (grown h e rest))) ≡ ((h.reads && not (is_empty rest)) || visible h e)
 full-grown h e rest = by h.reads (keeps h e) (visible h e) (visible-reads h e) (visible-keeps h e) (is_empty-pushed (visible h) e rest)
   where
     by : (r k v : Bool) → (v ≡ true → r ≡ true) → (v ≡ true → k ≡ true) → not (is_empty (pushed (visible h) e rest)) ≡ (not (is_empty rest) || v) → (r && not (is_empty (cond k (pushed (visible h) e rest) rest))) ≡ ((r && not (is_empty rest)) || v)
@@ -63,14 +63,14 @@ filter-pushed test e (x ∷ xs) = omega (arith, ap length (filter-append test (x
 lt-more : (a b c : ℕ) → b ≤ c → nat_lt a b ≡ true → nat_lt a c ≡ true
 lt-more a b c le lt = grind (arith, nat_tests)
 
-over-grown : {S : Type 0} (h : Open S) (e : Entry) (rest : List Entry) → over_limit h rest ≡ true → over_limit h (grown h e rest) ≡ true
+over-grown : {S : Type 0} (h : OpenHandle S) (e : Entry) (rest : List Entry) → over_limit h rest ≡ true → over_limit h (grown h e rest) ≡ true
 over-grown h e rest over = by (keeps h e)
   where
     by : (k : Bool) → over_limit h (cond k (pushed (visible h) e rest) rest) ≡ true
     by true = lt-more h.limit (length (filter (visible h) rest)) (length (filter (visible h) (pushed (visible h) e rest))) (filter-pushed (visible h) e rest) over
     by false = over
 
-seen_of-grown : {S : Type 0} (h : Open S) (e : Entry) (rest : List Entry) → seen_of h (grown h e rest) ≡ offered h e (seen_of h rest)
+seen_of-grown : {S : Type 0} (h : OpenHandle S) (e : Entry) (rest : List Entry) → seen_of h (grown h e rest) ≡ offered h e (seen_of h rest)
 seen_of-grown h e rest = by (style h.kind) refl
   where
     delta : style h.kind ≡ Delta → (o : Bool) → over_limit h rest ≡ o → stand Delta h.reads (over_limit h (grown h e rest)) (grown h e rest) ≡ offered h e (stand Delta h.reads o rest)
@@ -82,7 +82,7 @@ seen_of-grown h e rest = by (style h.kind) refl
     by Delta is = delta is (over_limit h rest) refl
     by Queue is = ap (λ s. stand s h.reads (over_limit h (grown h e rest)) (grown h e rest)) (sym is)
 
-unread-offered : {S : Type 0} (h : Open S) (e : Entry) (s : Style) → unread s h.reads ≡ offered h e (unread s h.reads)
+unread-offered : {S : Type 0} (h : OpenHandle S) (e : Entry) (s : Style) → unread s h.reads ≡ offered h e (unread s h.reads)
 unread-offered h e Full = by h.reads (visible h e) (visible-reads h e)
   where
     by : (r v : Bool) → (v ≡ true → r ≡ true) → News r ≡ News (r || v)
@@ -92,7 +92,7 @@ unread-offered h e Full = by h.reads (visible h e) (visible-reads h e)
 unread-offered h e Delta = refl
 unread-offered h e Queue = refl
 
-pub seen_with-push : {S : Type 0} (h : Open S) (H : List Entry) (e : Entry) (cursor : Option ℕ) → IsWithin (length H) cursor → seen_with h (H ++ e ∷ []) cursor ≡ offered h e (seen_with h H cursor)
+pub seen_with-push : {S : Type 0} (h : OpenHandle S) (H : List Entry) (e : Entry) (cursor : Option ℕ) → IsWithin (length H) cursor → seen_with h (H ++ e ∷ []) cursor ≡ offered h e (seen_with h H cursor)
 seen_with-push h H e None within = unread-offered h e (style h.kind)
 seen_with-push h H e (Some cursor) within =
     ap (λ xs. seen_of h (rest_of h xs)) (drop-append-le cursor H (e ∷ []) within)
@@ -100,7 +100,7 @@ seen_with-push h H e (Some cursor) within =
     ∙ seen_of-grown h e (rest_of h (drop cursor H))
 
 -- one more record at the end of the history
-pub shown_handle-push : (H : List Entry) (e : Entry) (h : Open (Option ℕ)) → IsWithin (length H) h.seen → shown_handle (H ++ e ∷ []) h ≡ offer e (shown_handle H h)
+pub shown_handle-push : (H : List Entry) (e : Entry) (h : OpenHandle (Option ℕ)) → IsWithin (length H) h.seen → shown_handle (H ++ e ∷ []) h ≡ offer e (shown_handle H h)
 shown_handle-push H e h within = ap (λ s. record (shown_handle H h) { seen = s }) (seen_with-push h H e h.seen within)
 
 drop-length : (xs : List Entry) → drop (length xs) xs ≡ []
@@ -108,7 +108,7 @@ drop-length [] = refl
 drop-length (x ∷ xs) = drop-length xs
 
 -- a read of everything
-pub shown_handle-caught_up : (H : List Entry) (h : Open (Option ℕ)) → shown_handle H (reseen (λ g. Some (length H)) h) ≡ reseen caught_up (shown_handle H h)
+pub shown_handle-caught_up : (H : List Entry) (h : OpenHandle (Option ℕ)) → shown_handle H (reseen (λ g. Some (length H)) h) ≡ reseen caught_up (shown_handle H h)
 shown_handle-caught_up H h = ap (λ xs. record (shown_handle H h) { seen = seen_of h (rest_of h xs) }) (drop-length H)
 
 -- a read of blocks
@@ -121,10 +121,10 @@ stand-owed Queue reads over rest owed e = cc
 drop-more : (a b : ℕ) (xs : List Entry) → drop (a + b) xs ≡ drop b (drop a xs)
 drop-more a b xs = sym (drop-drop b a xs)
 
-rest-passed : {S : Type 0} (h : Open S) (n : ℕ) (xs : List Entry) → rest_of h (drop (behind (visible h) n xs) xs) ≡ from_first (visible h) (past (visible h) n (rest_of h xs))
+rest-passed : {S : Type 0} (h : OpenHandle S) (n : ℕ) (xs : List Entry) → rest_of h (drop (behind (visible h) n xs) xs) ≡ from_first (visible h) (past (visible h) n (rest_of h xs))
 rest-passed h n xs = ap (from_first (visible h)) (filter-behind (visible h) (keeps h) (visible-keeps h) n xs) ∙ sym (past-from_first (visible h) n (filter (keeps h) xs))
 
-passed-owed : (h : Open (Option ℕ)) (H : List Entry) (n : ℕ) (seen : Seen) (cursor : Option ℕ) → seen_with h H cursor ≡ seen → seen_with h H (passed_with h H n seen cursor) ≡ left h n seen
+passed-owed : (h : OpenHandle (Option ℕ)) (H : List Entry) (n : ℕ) (seen : Progress) (cursor : Option ℕ) → seen_with h H cursor ≡ seen → seen_with h H (passed_with h H n seen cursor) ≡ left h n seen
 passed-owed h H n (News b) cursor e = e
 passed-owed h H n Unread cursor e = e
 passed-owed h H n Over cursor e = e
@@ -139,11 +139,11 @@ passed-owed h H n (Owed rest) (Some cursor) e =
     ∙ ap (seen_of h) (rest-passed h n (drop cursor H))
     ∙ ap (λ r. seen_of h (from_first (visible h) (past (visible h) n r))) (stand-owed (style h.kind) h.reads (over_limit h (rest_of h (drop cursor H))) (rest_of h (drop cursor H)) rest e)
 
-pub shown_handle-passed : (H : List Entry) (n : ℕ) (h : Open (Option ℕ)) → shown_handle H (reseen (λ g. passed g H n g.seen) h) ≡ reseen (λ g. left g n g.seen) (shown_handle H h)
+pub shown_handle-passed : (H : List Entry) (n : ℕ) (h : OpenHandle (Option ℕ)) → shown_handle H (reseen (λ g. passed g H n g.seen) h) ≡ reseen (λ g. left g n g.seen) (shown_handle H h)
 shown_handle-passed H n h = ap (λ s. record (shown_handle H h) { seen = s }) (passed-owed h H n (seen_with h H h.seen) h.seen refl)
 
 -- a new handle
-pub shown_handle-first : (H : List Entry) (h : Open (Unit {0})) → shown_handle H (reseen (λ g. first_cursor (style g.kind) (length H)) h) ≡ reseen (λ g. first_seen g (style g.kind)) h
+pub shown_handle-first : (H : List Entry) (h : OpenHandle (Unit {0})) → shown_handle H (reseen (λ g. first_cursor (style g.kind) (length H)) h) ≡ reseen (λ g. first_seen g (style g.kind)) h
 shown_handle-first H h = ap (λ s. record (reseen (λ g. first_seen g (style g.kind)) h) { seen = s }) (by (style h.kind) refl)
   where
     by : (s : Style) → style h.kind ≡ s → seen_with h H (first_cursor s (length H)) ≡ first_seen h s

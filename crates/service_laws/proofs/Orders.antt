@@ -21,12 +21,12 @@ use Rattle.pps_types.specs.Text.{WriteText, write_text}
 use Rattle.pps_types.specs.Bytes.{is_empty}
 use Rattle.pps_types.specs.History.{Entry}
 use Rattle.pps_types.specs.Checks.{first_refusal}
-use Rattle.pps_types.specs.Reading.{Open, reseen, style, Answer, Everything, Blocks, Needs, TargetGone, Waits, Nothing}
-use Rattle.pps_types.specs.Rests.{Seen}
+use Rattle.pps_types.specs.Reading.{OpenHandle, reseen, style, Answer, Everything, Blocks, Needs, TargetGone, Waits, Nothing}
+use Rattle.pps_types.specs.Rests.{Progress}
 use Rattle.pps_types.specs.Outbox.{first_of}
 use Rattle.pps_types.specs.Content.{Content, LiveObject, Directory, object_numbered, object_at, directory_at, handle_numbered, handles_of, queue_of, news, read_answer, own_handle}
 use Rattle.pps_types.specs.Plan.{Move, Attaches, Leaves, Creates, AppendsRecord, Opens, Closes, CatchesUp, Advances, Parks, Arms, Queues, Takes, MakesDirectory, RemovesDirectory, without_first, on_numbered, offer, creation, caught_up, left, first_seen, apply_seen, apply_all_seen, effect, plan, decided, all_checks_of, settling, settling_handle, fired, late_replies, late_reply, opening, preparing, new_handle, writing, written_kind, on_target, closing, closings, parting, unlinking, received, read_effect, with_result, had_news, found_object, step_seen}
-use Rattle.pps_types.specs.WellFormed.{AreRising}
+use Rattle.pps_types.specs.WellFormed.{RiseBetween}
 use Rattle.pps_types.proofs.Lists.{all-weaken, all-push, all-without_first, map-without_first}
 use Rattle.service_laws.proofs.Views.{Owns, Fits}
 use Rattle.service_laws.proofs.Settlings.{all-append, all-or, all-cond, moves-append, AreFound}
@@ -44,15 +44,15 @@ pub record Ordered (next : ℕ) (numbers : List ℕ) : Type 0 where
 abbrev pub IsOrdered : Content → Type 0
 IsOrdered c = Ordered c.next_handle (map (λ h. h.number) c.handles)
 
-from-low : (low : ℕ) (ns : List ℕ) (high : ℕ) → AreRising low ns high → AllByRecursion (λ k. low ≤ k) ns
+from-low : (low : ℕ) (ns : List ℕ) (high : ℕ) → RiseBetween low ns high → AllByRecursion (λ k. low ≤ k) ns
 from-low low [] high r = tt
 from-low low (n ∷ ns) high r = (r.0, all-weaken {P = λ k. n + 1 ≤ k} {Q = λ k. low ≤ k} (λ k le. omega (arith, le, r.0)) ns (from-low (n + 1) ns high r.1))
 
-low-high : (low : ℕ) (ns : List ℕ) (high : ℕ) → AreRising low ns high → low ≤ high
+low-high : (low : ℕ) (ns : List ℕ) (high : ℕ) → RiseBetween low ns high → low ≤ high
 low-high low [] high r = r
 low-high low (n ∷ ns) high r = omega (arith, low-high (n + 1) ns high r.1, r.0)
 
-of-rising : (low : ℕ) (ns : List ℕ) (high : ℕ) → AreRising low ns high → Ordered high ns
+of-rising : (low : ℕ) (ns : List ℕ) (high : ℕ) → RiseBetween low ns high → Ordered high ns
 of-rising low [] high r = record { rising = tt; below = tt }
 of-rising low (n ∷ ns) high r =
     let rest = of-rising (n + 1) ns high r.1 in
@@ -61,15 +61,15 @@ of-rising low (n ∷ ns) high r =
       below = (omega (arith, low-high (n + 1) ns high r.1), rest.below);
     }
 
-pub ordered : (c : Content) → AreRising 0 (map (λ h. h.number) c.handles) c.next_handle → IsOrdered c
+pub ordered : (c : Content) → RiseBetween 0 (map (λ h. h.number) c.handles) c.next_handle → IsOrdered c
 ordered c r = of-rising 0 (map (λ h. h.number) c.handles) c.next_handle r
 
 -- ---- numbers
 
-abbrev numbers : List (Open Seen) → List ℕ
+abbrev numbers : List (OpenHandle Progress) → List ℕ
 numbers hs = map (λ h. h.number) hs
 
-numbers-on : (f : Open Seen → Open Seen) → ((h : Open Seen) → (f h).number ≡ h.number) → (n : ℕ) (hs : List (Open Seen)) → numbers (on_numbered n f hs) ≡ numbers hs
+numbers-on : (f : OpenHandle Progress → OpenHandle Progress) → ((h : OpenHandle Progress) → (f h).number ≡ h.number) → (n : ℕ) (hs : List (OpenHandle Progress)) → numbers (on_numbered n f hs) ≡ numbers hs
 numbers-on f same n [] = refl
 numbers-on f same n (h ∷ hs) = by (eqb h.number n) (numbers-on f same n hs)
   where
@@ -77,7 +77,7 @@ numbers-on f same n (h ∷ hs) = by (eqb h.number n) (numbers-on f same n hs)
     by true rec = ap (λ k. k ∷ numbers hs) (same h)
     by false rec = ap (λ ks. h.number ∷ ks) rec
 
-numbers-offered : (e : Entry) (hs : List (Open Seen)) → numbers (map (offer e) hs) ≡ numbers hs
+numbers-offered : (e : Entry) (hs : List (OpenHandle Progress)) → numbers (map (offer e) hs) ≡ numbers hs
 numbers-offered e [] = refl
 numbers-offered e (h ∷ hs) = ap (λ ks. h.number ∷ ks) (numbers-offered e hs)
 
@@ -117,7 +117,7 @@ pub order-moves : (xs : List Move) (c : Content) → AllByRecursion NotOpens xs 
 order-moves [] c closed o = o
 order-moves (x ∷ xs) c closed o = order-moves xs (apply_seen x c) closed.1 (order-move x c closed.0 o)
 
-order-opened : (h : Open (Unit {0})) (c : Content) → h.number ≡ c.next_handle → IsOrdered c → IsOrdered (apply_seen (Opens h) c)
+order-opened : (h : OpenHandle (Unit {0})) (c : Content) → h.number ≡ c.next_handle → IsOrdered c → IsOrdered (apply_seen (Opens h) c)
 order-opened h c is o =
     let next = all-push (λ n. n < c.next_handle + 1) (numbers c.handles) h.number (all-weaken {P = λ n. n < c.next_handle} {Q = λ n. n < c.next_handle + 1} (λ n lt. omega arith) (numbers c.handles) o.below) (omega arith) in
     same-numbers (c.next_handle + 1) (map-append (λ g. g.number) c.handles (reseen (λ h. first_seen h (style h.kind)) h ∷ []))
@@ -129,7 +129,7 @@ all-flat : {X : Type 0} (f : X → List Move) → ((x : X) → AllByRecursion No
 all-flat f p [] = tt
 all-flat f p (x ∷ xs) = all-append NotOpens (f x) (flat_map f xs) (p x) (all-flat f p xs)
 
-late_reply-not : (h : Open Seen) (a : Answer) → AllByRecursion NotOpens (late_reply h a)
+late_reply-not : (h : OpenHandle Progress) (a : Answer) → AllByRecursion NotOpens (late_reply h a)
 late_reply-not h (Everything text) = (tt, (tt, (tt, tt)))
 late_reply-not h (Blocks count text) = (tt, (tt, (tt, tt)))
 late_reply-not h (Needs need) = (tt, (tt, tt))
@@ -142,31 +142,31 @@ unfolding settling
 settling-not before c = all-flat (settling_handle before c) (λ h. all-cond NotOpens (not (had_news before h) && news h) (fired h ++ late_replies c h) []
     (all-append NotOpens (fired h) (late_replies c h) (all-or NotOpens _ (λ pulse. (tt, (tt, tt))) h.armed) (all-or NotOpens _ (λ size. late_reply-not h (read_answer c h size)) h.parked)) tt) c.handles
 
-on_target-not : (c : Content) (h : Open Seen) (kind : Kind) (writer : Option ℕ) → AllByRecursion NotOpens (on_target c h kind writer)
+on_target-not : (c : Content) (h : OpenHandle Progress) (kind : Kind) (writer : Option ℕ) → AllByRecursion NotOpens (on_target c h kind writer)
 on_target-not c h kind writer = all-or NotOpens _ (λ o. (tt, tt)) (object_numbered c h.target)
 
-parting-not : (c : Content) (h : Open Seen) (k : HandleKind) → AllByRecursion NotOpens (parting c h k)
+parting-not : (c : Content) (h : OpenHandle Progress) (k : HandleKind) → AllByRecursion NotOpens (parting c h k)
 parting-not c h ServerHandle = on_target-not c h _ None
 parting-not c h ClientHandle = on_target-not c h _ None
 parting-not c h NamesHandle = tt
 parting-not c h (ObjectHandle delta) = all-cond NotOpens (h.options.critical && h.writes) _ [] (on_target-not c h Dropped None) tt
 parting-not c h (DirectoryHandle delta) = tt
 
-closing-not : (c : Content) (h : Open Seen) → AllByRecursion NotOpens (closing c h)
+closing-not : (c : Content) (h : OpenHandle Progress) → AllByRecursion NotOpens (closing c h)
 closing-not c h = (tt, all-append NotOpens _ (parting c h h.kind) (all-cond NotOpens (is_some h.parked) _ [] (tt, tt) tt) (parting-not c h h.kind))
 
-closings-not : (c : Content) (hs : List (Open Seen)) → AllByRecursion NotOpens (closings c hs)
+closings-not : (c : Content) (hs : List (OpenHandle Progress)) → AllByRecursion NotOpens (closings c hs)
 closings-not c [] = tt
 closings-not c (h ∷ hs) = all-append NotOpens (closing c h) (closings (apply_all_seen (closing c h) c) hs) (closing-not c h) (closings-not (apply_all_seen (closing c h) c) hs)
 
-writing-not : (c : Content) (h : Open Seen) (text : WriteText) → AllByRecursion NotOpens (writing c h text)
+writing-not : (c : Content) (h : OpenHandle Progress) (text : WriteText) → AllByRecursion NotOpens (writing c h text)
 writing-not c h text = all-cond NotOpens (is_empty text.lines) [] _ tt (on_target-not c h (written_kind c h h.kind text) (Some h.number))
 
 pub preparing-not : (c : Content) (mode : Mode) (spec : OpenSpec) (found : Option LiveObject) → AllByRecursion NotOpens (preparing c mode spec found)
 preparing-not c mode spec None = all-cond NotOpens spec.all [] _ tt (tt, tt)
 preparing-not c mode spec (Some o) = all-cond NotOpens spec.options.server _ _ (tt, (tt, tt)) (all-cond NotOpens (is_some o.object.server) _ _ (tt, tt) (all-cond NotOpens mode.t _ [] (tt, tt) tt))
 
-read_effect-not : (h : Open Seen) (size : ℕ) (a : Answer) → AllByRecursion NotOpens (read_effect h size a).1
+read_effect-not : (h : OpenHandle Progress) (size : ℕ) (a : Answer) → AllByRecursion NotOpens (read_effect h size a).1
 read_effect-not h size (Everything text) = (tt, tt)
 read_effect-not h size (Blocks count text) = (tt, tt)
 read_effect-not h size Waits = (tt, tt)
@@ -250,11 +250,11 @@ step-order c e o = by (first_refusal (all_checks_of c e))
 
 -- ---- each handle is found
 
-found-more : (h : Open Seen) (hs gs : List (Open Seen)) → AllByRecursion (λ n. h.number < n) (numbers gs) → AllByRecursion (λ g. find (λ k. eqb k.number g.number) hs ≡ Some g) gs → AllByRecursion (λ g. find (λ k. eqb k.number g.number) (h ∷ hs) ≡ Some g) gs
+found-more : (h : OpenHandle Progress) (hs gs : List (OpenHandle Progress)) → AllByRecursion (λ n. h.number < n) (numbers gs) → AllByRecursion (λ g. find (λ k. eqb k.number g.number) hs ≡ Some g) gs → AllByRecursion (λ g. find (λ k. eqb k.number g.number) (h ∷ hs) ≡ Some g) gs
 found-more h hs [] lt all = tt
 found-more h hs (g ∷ gs) lt all = (ap (λ b. cond b (Some h) (find (λ k. eqb k.number g.number) hs)) (ne_eqb h.number g.number (λ e. let l = lt.0 in absurd (omega arith))) ∙ all.0, found-more h hs gs lt.1 all.1)
 
-found-all : (hs : List (Open Seen)) → Rising (numbers hs) → AllByRecursion (λ g. find (λ k. eqb k.number g.number) hs ≡ Some g) hs
+found-all : (hs : List (OpenHandle Progress)) → Rising (numbers hs) → AllByRecursion (λ g. find (λ k. eqb k.number g.number) hs ≡ Some g) hs
 found-all [] r = tt
 found-all (h ∷ hs) r = (ap (λ b. cond b (Some h) (find (λ k. eqb k.number h.number) hs)) (eq-eqb h.number h.number refl), found-more h hs hs r.0 (found-all hs r.1))
 
@@ -267,7 +267,7 @@ module _ (conn : ℕ) (c : Content) (who : ℕ) where
   abbrev pub mine : ℕ → Bool
   mine n = cond (eqb n c.next_handle) (eqb who conn) (option_map_or (λ h. eqb h.connection conn) (handle_numbered c n) false)
 
-  owns-all : (hs : List (Open Seen)) → AllByRecursion (λ n. n < c.next_handle) (numbers hs) → AreFound c hs → Owns conn mine hs
+  owns-all : (hs : List (OpenHandle Progress)) → AllByRecursion (λ n. n < c.next_handle) (numbers hs) → AreFound c hs → Owns conn mine hs
   owns-all [] lt all = tt
   owns-all (h ∷ hs) lt all = (
     sym (ap (λ b. cond b (eqb who conn) (option_map_or (λ g. eqb g.connection conn) (handle_numbered c h.number) false)) (ne_eqb h.number c.next_handle (λ e. let l = lt.0 in absurd (omega arith)))

@@ -26,8 +26,8 @@ use Rattle.pps_types.specs.Names.{Name, Path, same_path, parent, last_name, name
 use Rattle.pps_types.specs.OpenText.{OpenSpec, open_text, path_text}
 use Rattle.pps_types.specs.Text.{WriteText, write_text}
 use Rattle.pps_types.specs.Outbox.{first_of}
-use Rattle.pps_types.specs.Reading.{Open, is_directory_kind, Answer, Everything, Blocks, Needs, TargetGone, Waits, Nothing}
-use Rattle.pps_types.specs.Rests.{Seen}
+use Rattle.pps_types.specs.Reading.{OpenHandle, is_directory_kind, Answer, Everything, Blocks, Needs, TargetGone, Waits, Nothing}
+use Rattle.pps_types.specs.Rests.{Progress}
 use Rattle.pps_types.specs.Content.{Directory, LiveObject, Content, directory_at, parent_number, object_at, object_in, object_numbered, at, members, subdirectories, handles_of, has_directory_handle, is_attached, queue_of, news, read_answer, own_handle}
 use Rattle.pps_types.specs.Checks.{attach_checks, Check, Refuse, Memory, first_refusal, refused, parsed, letters_fit, mode_fits, handle_checks, found_as, all_checks, is_used, object_checks, name_checks, open_checks, on_path, unlink_checks, unlink_found, mkdir_checks, checks}
 use Rattle.pps_types.specs.Plan.{Move, Attaches, Leaves, Creates, AppendsRecord, Opens, Closes, Queues, MakesDirectory, apply_seen, apply_all_seen, entry_of, touched, effect, plan, step_seen, decided, all_checks_of, passes_last_number, settling, settling_handle, fired, late_replies, late_reply, had_news, opening, new_object, new_handle, kind_opened, target_of, found_object, writing, written_kind, on_target, closing, closings, parting, unlinking, received, read_effect, with_path, with_result}
@@ -148,7 +148,7 @@ safe-flat : {X : Type 0} (f : X → List Move) → ((x : X) → AreSafe (f x)) �
 safe-flat f p [] = tt
 safe-flat f p (x ∷ xs) = all-append IsSafe (f x) (flat_map f xs) (p x) (safe-flat f p xs)
 
-pub late_reply-safe : (h : Open Seen) (a : Answer) → AreSafe (late_reply h a)
+pub late_reply-safe : (h : OpenHandle Progress) (a : Answer) → AreSafe (late_reply h a)
 late_reply-safe h (Everything text) = ((λ c. tt), ((λ c. tt), ((λ c. tt), tt)))
 late_reply-safe h (Blocks count text) = ((λ c. tt), ((λ c. tt), ((λ c. tt), tt)))
 late_reply-safe h (Needs need) = ((λ c. tt), ((λ c. tt), tt))
@@ -161,27 +161,27 @@ unfolding settling
 settling-safe before c = safe-flat (settling_handle before c) (λ h. all-cond IsSafe (not (had_news before h) && news h) (fired h ++ late_replies c h) []
     (all-append IsSafe (fired h) (late_replies c h) (all-or IsSafe _ (λ pulse. ((λ c. tt), ((λ c. tt), tt))) h.armed) (all-or IsSafe _ (λ size. late_reply-safe h (read_answer c h size)) h.parked)) tt) c.handles
 
-on_target-safe : (c : Content) (h : Open Seen) (kind : Kind) (writer : Option ℕ) → AreSafe (on_target c h kind writer)
+on_target-safe : (c : Content) (h : OpenHandle Progress) (kind : Kind) (writer : Option ℕ) → AreSafe (on_target c h kind writer)
 on_target-safe c h kind writer = all-or IsSafe _ (λ o. ((λ c. tt), tt)) (object_numbered c h.target)
 
-parting-safe : (c : Content) (h : Open Seen) (k : HandleKind) → AreSafe (parting c h k)
+parting-safe : (c : Content) (h : OpenHandle Progress) (k : HandleKind) → AreSafe (parting c h k)
 parting-safe c h ServerHandle = on_target-safe c h _ None
 parting-safe c h ClientHandle = on_target-safe c h _ None
 parting-safe c h NamesHandle = tt
 parting-safe c h (ObjectHandle delta) = all-cond IsSafe (h.options.critical && h.writes) _ [] (on_target-safe c h Dropped None) tt
 parting-safe c h (DirectoryHandle delta) = tt
 
-pub closing-safe : (c : Content) (h : Open Seen) → AreSafe (closing c h)
+pub closing-safe : (c : Content) (h : OpenHandle Progress) → AreSafe (closing c h)
 closing-safe c h = ((λ c. tt), all-append IsSafe _ (parting c h h.kind) (all-cond IsSafe (is_some h.parked) _ [] ((λ c. tt), tt) tt) (parting-safe c h h.kind))
 
-closings-safe : (c : Content) (hs : List (Open Seen)) → AreSafe (closings c hs)
+closings-safe : (c : Content) (hs : List (OpenHandle Progress)) → AreSafe (closings c hs)
 closings-safe c [] = tt
 closings-safe c (h ∷ hs) = all-append IsSafe (closing c h) (closings (apply_all_seen (closing c h) c) hs) (closing-safe c h) (closings-safe (apply_all_seen (closing c h) c) hs)
 
-writing-safe : (c : Content) (h : Open Seen) (text : WriteText) → AreSafe (writing c h text)
+writing-safe : (c : Content) (h : OpenHandle Progress) (text : WriteText) → AreSafe (writing c h text)
 writing-safe c h text = all-cond IsSafe (is_empty text.lines) [] _ tt (on_target-safe c h (written_kind c h h.kind text) (Some h.number))
 
-read_effect-safe : (h : Open Seen) (size : ℕ) (a : Answer) → AreSafe (read_effect h size a).1
+read_effect-safe : (h : OpenHandle Progress) (size : ℕ) (a : Answer) → AreSafe (read_effect h size a).1
 read_effect-safe h size (Everything text) = ((λ c. tt), tt)
 read_effect-safe h size (Blocks count text) = ((λ c. tt), tt)
 read_effect-safe h size Waits = ((λ c. tt), tt)
@@ -211,10 +211,10 @@ mkdir-fit c t names p = go (place (at c) names) refl (passes-both (refused (new_
     go (Ok (Some found)) e p = absurd (let h = p in cc)
     go (Ok None) e p = free-place c t names e
 
-has-none : (c : Content) (number : ℕ) → has_directory_handle c number ≡ false → AllByRecursion (λ (h : Open Seen). (is_directory_kind h.kind && eqb h.target number) ≡ false) c.handles
-has-none c number e = none-all (λ (h : Open Seen). is_directory_kind h.kind && eqb h.target number) c.handles (go (find (λ (h : Open Seen). is_directory_kind h.kind && eqb h.target number) c.handles) e)
+has-none : (c : Content) (number : ℕ) → has_directory_handle c number ≡ false → AllByRecursion (λ (h : OpenHandle Progress). (is_directory_kind h.kind && eqb h.target number) ≡ false) c.handles
+has-none c number e = none-all (λ (h : OpenHandle Progress). is_directory_kind h.kind && eqb h.target number) c.handles (go (find (λ (h : OpenHandle Progress). is_directory_kind h.kind && eqb h.target number) c.handles) e)
   where
-    go : (o : Option (Open Seen)) → is_some o ≡ false → o ≡ None
+    go : (o : Option (OpenHandle Progress)) → is_some o ≡ false → o ≡ None
     go None e = refl
     go (Some h) e = absurd (let no = e in cc)
 
@@ -365,7 +365,7 @@ module _ (c : Content) (b : Basis c) (conn : ℕ) (attached : is_attached c conn
   open-found : spec.all ≡ false → directory_at c spec.names ≡ None → is_some (directory_at c (parent spec.names)) ≡ true → (o : LiveObject) → object_at c spec.names ≡ Some o → AreFit c (opening c conn mode spec (Some o))
   open-found all none above o found = go spec.options.server refl (is_some o.object.server) mode.t
     where
-      H : Open (Unit {0})
+      H : OpenHandle (Unit {0})
       H = new_handle c conn mode spec (Some o)
 
       plain : is_directory_kind (kind_opened spec (Some o)) ≡ false
@@ -443,75 +443,75 @@ module _ (c : Content) (b : Basis c) (conn : ℕ) (attached : is_attached c conn
 -- ---- Detach
 
 -- what is left of a connection's handles is among those that are still to be closed
-abbrev IsLeft : List (Open Seen) → Open Seen → Type 0
-IsLeft hs g = is_some (find (λ (h : Open Seen). eqb h.number g.number) hs) ≡ true
+abbrev IsLeft : List (OpenHandle Progress) → OpenHandle Progress → Type 0
+IsLeft hs g = is_some (find (λ (h : OpenHandle Progress). eqb h.number g.number) hs) ≡ true
 
 module _ (conn : ℕ) where
-  abbrev AreLeft : List (Open Seen) → Content → Type 0
-  AreLeft hs c = AllByRecursion (λ (g : Open Seen). eqb g.connection conn ≡ true → IsLeft hs g) c.handles
+  abbrev AreLeft : List (OpenHandle Progress) → Content → Type 0
+  AreLeft hs c = AllByRecursion (λ (g : OpenHandle Progress). eqb g.connection conn ≡ true → IsLeft hs g) c.handles
 
   -- moves that leave who is left
   abbrev IsLoose : Move → Type 0
-  IsLoose x = (hs : List (Open Seen)) (c : Content) → AreLeft hs c → AreLeft hs (apply_seen x c)
+  IsLoose x = (hs : List (OpenHandle Progress)) (c : Content) → AreLeft hs c → AreLeft hs (apply_seen x c)
 
-  loose-after : (xs : List Move) → AllByRecursion IsLoose xs → (hs : List (Open Seen)) (c : Content) → AreLeft hs c → AreLeft hs (apply_all_seen xs c)
+  loose-after : (xs : List Move) → AllByRecursion IsLoose xs → (hs : List (OpenHandle Progress)) (c : Content) → AreLeft hs c → AreLeft hs (apply_all_seen xs c)
   loose-after [] loose hs c all = all
   loose-after (x ∷ xs) loose hs c all = loose-after xs loose.1 hs (apply_seen x c) (loose.0 hs c all)
 
-  loose-target : (c : Content) (h : Open Seen) (kind : Kind) (writer : Option ℕ) → AllByRecursion IsLoose (on_target c h kind writer)
-  loose-target c h kind writer = all-or IsLoose _ (λ o. ((λ hs d all. all-offered (λ (g : Open Seen). eqb g.connection conn ≡ true → IsLeft hs g) (entry_of o.object kind writer) (λ g q. q) d.handles all), tt)) (object_numbered c h.target)
+  loose-target : (c : Content) (h : OpenHandle Progress) (kind : Kind) (writer : Option ℕ) → AllByRecursion IsLoose (on_target c h kind writer)
+  loose-target c h kind writer = all-or IsLoose _ (λ o. ((λ hs d all. all-offered (λ (g : OpenHandle Progress). eqb g.connection conn ≡ true → IsLeft hs g) (entry_of o.object kind writer) (λ g q. q) d.handles all), tt)) (object_numbered c h.target)
 
-  loose-parting : (c : Content) (h : Open Seen) (k : HandleKind) → AllByRecursion IsLoose (parting c h k)
+  loose-parting : (c : Content) (h : OpenHandle Progress) (k : HandleKind) → AllByRecursion IsLoose (parting c h k)
   loose-parting c h ServerHandle = loose-target c h _ None
   loose-parting c h ClientHandle = loose-target c h _ None
   loose-parting c h NamesHandle = tt
   loose-parting c h (ObjectHandle delta) = all-cond IsLoose (h.options.critical && h.writes) _ [] (loose-target c h Dropped None) tt
   loose-parting c h (DirectoryHandle delta) = tt
 
-  left-closes : (h : Open Seen) (hs : List (Open Seen)) (c : Content) → Order c → AreLeft (h ∷ hs) c → AreLeft hs (apply_seen (Closes h.number) c)
-  left-closes h hs c r all = all-imp (λ (g : Open Seen). (eqb g.number h.number ≡ false) × (eqb g.connection conn ≡ true → IsLeft (h ∷ hs) g)) (λ (g : Open Seen). eqb g.connection conn ≡ true → IsLeft hs g) one
+  left-closes : (h : OpenHandle Progress) (hs : List (OpenHandle Progress)) (c : Content) → Order c → AreLeft (h ∷ hs) c → AreLeft hs (apply_seen (Closes h.number) c)
+  left-closes h hs c r all = all-imp (λ (g : OpenHandle Progress). (eqb g.number h.number ≡ false) × (eqb g.connection conn ≡ true → IsLeft (h ∷ hs) g)) (λ (g : OpenHandle Progress). eqb g.connection conn ≡ true → IsLeft hs g) one
       (apply_seen (Closes h.number) c).handles
-      (all-both _ _ (apply_seen (Closes h.number) c).handles (none-left (λ (g : Open Seen). g.number) h.number 0 c.next_handle c.handles r.0) (all-without_first (λ (g : Open Seen). eqb g.connection conn ≡ true → IsLeft (h ∷ hs) g) (λ g. eqb g.number h.number) c.handles all))
+      (all-both _ _ (apply_seen (Closes h.number) c).handles (none-left (λ (g : OpenHandle Progress). g.number) h.number 0 c.next_handle c.handles r.0) (all-without_first (λ (g : OpenHandle Progress). eqb g.connection conn ≡ true → IsLeft (h ∷ hs) g) (λ g. eqb g.number h.number) c.handles all))
     where
-      one : (g : Open Seen) → (eqb g.number h.number ≡ false) × (eqb g.connection conn ≡ true → IsLeft (h ∷ hs) g) → eqb g.connection conn ≡ true → IsLeft hs g
+      one : (g : OpenHandle Progress) → (eqb g.number h.number ≡ false) × (eqb g.connection conn ≡ true → IsLeft (h ∷ hs) g) → eqb g.connection conn ≡ true → IsLeft hs g
       one g p own = go (eqb h.number g.number) refl (p.1 own)
         where
-          go : (b : Bool) → eqb h.number g.number ≡ b → is_some (cond b (Some h) (find (λ (h : Open Seen). eqb h.number g.number) hs)) ≡ true → IsLeft hs g
+          go : (b : Bool) → eqb h.number g.number ≡ b → is_some (cond b (Some h) (find (λ (h : OpenHandle Progress). eqb h.number g.number) hs)) ≡ true → IsLeft hs g
           go true e q = absurd (let yes : eqb g.number h.number ≡ true = eq-eqb g.number h.number (sym (eqb-true h.number g.number e)) in let no = p.0 in cc)
           go false e q = q
 
-  left-closing : (h : Open Seen) (hs : List (Open Seen)) (c : Content) → Order c → AreLeft (h ∷ hs) c → AreLeft hs (apply_all_seen (closing c h) c)
+  left-closing : (h : OpenHandle Progress) (hs : List (OpenHandle Progress)) (c : Content) → Order c → AreLeft (h ∷ hs) c → AreLeft hs (apply_all_seen (closing c h) c)
   left-closing h hs c r all = loose-after ((cond (is_some h.parked) (Queues h.connection (ReadDone h.number (Err BadHandle)) ∷ []) []) ++ parting c h h.kind)
       (all-append IsLoose _ (parting c h h.kind) (all-cond IsLoose (is_some h.parked) (Queues h.connection (ReadDone h.number (Err BadHandle)) ∷ []) [] ((λ hs d p. p), tt) tt) (loose-parting c h h.kind))
       hs (apply_seen (Closes h.number) c) (left-closes h hs c r all)
 
-  left-closings : (hs : List (Open Seen)) (c : Content) → Basis c → AreLeft hs c → AreLeft [] (apply_all_seen (closings c hs) c)
+  left-closings : (hs : List (OpenHandle Progress)) (c : Content) → Basis c → AreLeft hs c → AreLeft [] (apply_all_seen (closings c hs) c)
   left-closings [] c b all = all
   left-closings (h ∷ hs) c b all =
       let next = apply_all_seen (closing c h) c in
       subst (AreLeft []) (sym (moves-append (closing c h) (closings next hs) c))
       (left-closings hs next (basis-after (closing c h) c b (safe-fit (closing c h) c (closing-safe c h))) (left-closing h hs c b.order all))
 
-  own-left : (hs : List (Open Seen)) → AllByRecursion (λ (g : Open Seen). eqb g.connection conn ≡ true → IsLeft (filter (λ (h : Open Seen). eqb h.connection conn) hs) g) hs
+  own-left : (hs : List (OpenHandle Progress)) → AllByRecursion (λ (g : OpenHandle Progress). eqb g.connection conn ≡ true → IsLeft (filter (λ (h : OpenHandle Progress). eqb h.connection conn) hs) g) hs
   own-left [] = tt
-  own-left (h ∷ hs) = (first, all-imp (λ (g : Open Seen). eqb g.connection conn ≡ true → IsLeft (filter (λ (h : Open Seen). eqb h.connection conn) hs) g) (λ (g : Open Seen). eqb g.connection conn ≡ true → IsLeft (filter (λ (h : Open Seen). eqb h.connection conn) (h ∷ hs)) g) (λ g p own. more g (p own) (eqb h.connection conn)) hs (own-left hs))
+  own-left (h ∷ hs) = (first, all-imp (λ (g : OpenHandle Progress). eqb g.connection conn ≡ true → IsLeft (filter (λ (h : OpenHandle Progress). eqb h.connection conn) hs) g) (λ (g : OpenHandle Progress). eqb g.connection conn ≡ true → IsLeft (filter (λ (h : OpenHandle Progress). eqb h.connection conn) (h ∷ hs)) g) (λ g p own. more g (p own) (eqb h.connection conn)) hs (own-left hs))
     where
-      first : eqb h.connection conn ≡ true → IsLeft (cond (eqb h.connection conn) (h ∷ filter (λ (h : Open Seen). eqb h.connection conn) hs) (filter (λ (h : Open Seen). eqb h.connection conn) hs)) h
-      first own = rw own (ap (λ b. is_some (cond b (Some h) (find (λ (g : Open Seen). eqb g.number h.number) (filter (λ (h : Open Seen). eqb h.connection conn) hs)))) (eq-eqb h.number h.number refl))
+      first : eqb h.connection conn ≡ true → IsLeft (cond (eqb h.connection conn) (h ∷ filter (λ (h : OpenHandle Progress). eqb h.connection conn) hs) (filter (λ (h : OpenHandle Progress). eqb h.connection conn) hs)) h
+      first own = rw own (ap (λ b. is_some (cond b (Some h) (find (λ (g : OpenHandle Progress). eqb g.number h.number) (filter (λ (h : OpenHandle Progress). eqb h.connection conn) hs)))) (eq-eqb h.number h.number refl))
 
-      more : (g : Open Seen) → IsLeft (filter (λ (h : Open Seen). eqb h.connection conn) hs) g → (b : Bool) → IsLeft (cond b (h ∷ filter (λ (h : Open Seen). eqb h.connection conn) hs) (filter (λ (h : Open Seen). eqb h.connection conn) hs)) g
+      more : (g : OpenHandle Progress) → IsLeft (filter (λ (h : OpenHandle Progress). eqb h.connection conn) hs) g → (b : Bool) → IsLeft (cond b (h ∷ filter (λ (h : OpenHandle Progress). eqb h.connection conn) hs) (filter (λ (h : OpenHandle Progress). eqb h.connection conn) hs)) g
       more g p true = by (eqb h.number g.number)
         where
-          by : (b : Bool) → is_some (cond b (Some h) (find (λ (h : Open Seen). eqb h.number g.number) (filter (λ (h : Open Seen). eqb h.connection conn) hs))) ≡ true
+          by : (b : Bool) → is_some (cond b (Some h) (find (λ (h : OpenHandle Progress). eqb h.number g.number) (filter (λ (h : OpenHandle Progress). eqb h.connection conn) hs))) ≡ true
           by true = refl
           by false = p
       more g p false = p
 
   leaving-fit : (c : Content) → Basis c → AreFit c (closings c (handles_of c conn) ++ Leaves conn ∷ [])
   leaving-fit c b = fit-append (closings c (handles_of c conn)) (Leaves conn ∷ []) c (safe-fit (closings c (handles_of c conn)) c (closings-safe c (handles_of c conn)))
-      (all-imp (λ (g : Open Seen). eqb g.connection conn ≡ true → IsLeft [] g) (λ (g : Open Seen). eqb g.connection conn ≡ false) (λ g p. by g (eqb g.connection conn) refl p) _ (left-closings (handles_of c conn) c b (own-left c.handles)), tt)
+      (all-imp (λ (g : OpenHandle Progress). eqb g.connection conn ≡ true → IsLeft [] g) (λ (g : OpenHandle Progress). eqb g.connection conn ≡ false) (λ g p. by g (eqb g.connection conn) refl p) _ (left-closings (handles_of c conn) c b (own-left c.handles)), tt)
     where
-      by : (g : Open Seen) (k : Bool) → eqb g.connection conn ≡ k → (eqb g.connection conn ≡ true → false ≡ true) → k ≡ false
+      by : (g : OpenHandle Progress) (k : Bool) → eqb g.connection conn ≡ k → (eqb g.connection conn ≡ true → false ≡ true) → k ≡ false
       by g true e p = absurd (let h = p e in cc)
       by g false e p = refl
 

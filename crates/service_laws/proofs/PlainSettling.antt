@@ -6,8 +6,8 @@ use Rattle.std.specs.List.{flat_map}
 use Rattle.pps_types.specs.declared.event.Event.{Event}
 use Rattle.pps_types.specs.Bytes.{is_empty}
 use Rattle.pps_types.specs.History.{Entry}
-use Rattle.pps_types.specs.Reading.{Open, Answer, Everything, Blocks, Needs, TargetGone, Waits, Nothing}
-use Rattle.pps_types.specs.Rests.{Seen}
+use Rattle.pps_types.specs.Reading.{OpenHandle, Answer, Everything, Blocks, Needs, TargetGone, Waits, Nothing}
+use Rattle.pps_types.specs.Rests.{Progress}
 use Rattle.pps_types.specs.Content.{Content, news, read_answer}
 use Rattle.pps_types.specs.Checks.{first_refusal}
 use Rattle.pps_types.specs.Plan.{Move, apply_seen, apply_all_seen, all_checks_of, effect, plan, decided, fired, late_reply, late_replies, settling_handle, settling}
@@ -33,14 +33,14 @@ find-seen see test seen_test same (x ∷ xs) = ap (λ b. cond b (Some (see x)) (
     by true rec = refl
     by false rec = rec
 
-had-same : (before : Machine) (number : ℕ) → option_map_or news (find (λ (h : Open Seen). eqb h.number number) (content_of before).handles) false ≡ had_news_of before number
+had-same : (before : Machine) (number : ℕ) → option_map_or news (find (λ (h : OpenHandle Progress). eqb h.number number) (content_of before).handles) false ≡ had_news_of before number
 had-same before number = ap (λ o. option_map_or news o false) (find-seen (shown_handle before.history) (λ h. eqb h.number number) (λ h. eqb h.number number) (λ h. refl) before.handles) ∙ by (find (λ h. eqb h.number number) before.handles)
   where
-    by : (o : Option (Open (Option ℕ))) → option_map_or news (option_map (shown_handle before.history) o) false ≡ option_map_or (λ h. has_news h before.history h.seen) o false
+    by : (o : Option (OpenHandle (Option ℕ))) → option_map_or news (option_map (shown_handle before.history) o) false ≡ option_map_or (λ h. has_news h before.history h.seen) o false
     by None = refl
     by (Some h) = news-same h before.history h.seen
 
-reply-same : (H : List Entry) (h : Open (Option ℕ)) (a : Answer) → late_reply (shown_handle H h) a ≡ late_reply h a
+reply-same : (H : List Entry) (h : OpenHandle (Option ℕ)) (a : Answer) → late_reply (shown_handle H h) a ≡ late_reply h a
 reply-same H h (Everything text) = refl
 reply-same H h (Blocks n text) = refl
 reply-same H h (Needs need) = refl
@@ -48,14 +48,14 @@ reply-same H h TargetGone = refl
 reply-same H h Waits = refl
 reply-same H h Nothing = refl
 
-pub news-reads : {S : Type 0} (h : Open S) (H : List Entry) (cursor : Option ℕ) → has_news h H cursor ≡ true → h.reads ≡ true
+pub news-reads : {S : Type 0} (h : OpenHandle S) (H : List Entry) (cursor : Option ℕ) → has_news h H cursor ≡ true → h.reads ≡ true
 news-reads h H cursor e = by h.reads e
   where
     by : (r : Bool) → (r && (is_none cursor || not (is_empty (owed h H cursor)))) ≡ true → r ≡ true
     by true e = refl
     by false e = absurd (let no = e in cc)
 
-handle-same : (before now : Machine) (h : Open (Option ℕ)) → settling_handle (content_of before) (content_of now) (shown_handle now.history h) ≡ follows_for before now h
+handle-same : (before now : Machine) (h : OpenHandle (Option ℕ)) → settling_handle (content_of before) (content_of now) (shown_handle now.history h) ≡ follows_for before now h
 handle-same before now h =
     (λ i. cond (not (had-same before h.number i) && news-same h now.history h.seen i) (fired (shown_handle now.history h) ++ late_replies (content_of now) (shown_handle now.history h)) [])
     ∙ by (not (had_news_of before h.number)) (has_news h now.history h.seen) refl
@@ -71,7 +71,7 @@ handle-same before now h =
 
 -- ---- all of them
 
-handles-same : (before now : Machine) (hs : List (Open (Option ℕ))) → flat_map (settling_handle (content_of before) (content_of now)) (map (shown_handle now.history) hs) ≡ flat_map (follows_for before now) hs
+handles-same : (before now : Machine) (hs : List (OpenHandle (Option ℕ))) → flat_map (settling_handle (content_of before) (content_of now)) (map (shown_handle now.history) hs) ≡ flat_map (follows_for before now) hs
 handles-same before now [] = refl
 handles-same before now (h ∷ hs) = λ i. handle-same before now h i ++ handles-same before now hs i
 

@@ -8,8 +8,8 @@ use Rattle.pps_types.specs.declared.found.Found.{Found}
 use Rattle.pps_types.specs.declared.found.Found.TheVariants.{Object as FoundObject, Directory as FoundDirectory}
 use Rattle.pps_types.specs.Names.{Path, name_cmp, sorted_by}
 use Rattle.pps_types.specs.History.{Entry, Attribute, line_of, state, is_alive}
-use Rattle.pps_types.specs.Reading.{Open, Style, Full, Delta, Queue, style, is_full_style, is_delta_style, is_directory_kind, visible, everything_of}
-use Rattle.pps_types.specs.Rests.{Seen, stand, unread, seen_with, rest_of, is_over, owed_in, answer}
+use Rattle.pps_types.specs.Reading.{OpenHandle, Style, Full, Delta, Queue, style, is_full_style, is_delta_style, is_directory_kind, visible, everything_of}
+use Rattle.pps_types.specs.Rests.{Progress, stand, unread, seen_with, rest_of, is_over, owed_in, answer}
 use Rattle.pps_types.specs.Content.{Object, LiveObject, at, object_numbered, members, member, target_members, everything, read_answer}
 use Rattle.pps_types.specs.Machine.{Machine, known, content_of, shown_handle}
 use Rattle.pps_types.specs.Owed.{owed, is_past_limit, answer_of, alive_object, alive_members, members_of_target, is_dead, owed_by, owed_by_seen, owed_in_seen, kept, kept_of, kept_at, kept_seen, longest}
@@ -18,7 +18,7 @@ use Rattle.service_laws.proofs.Kept.{kept-shown}
 
 -- ---- past the limit, and owed
 
-pub over-same : {S : Type 0} (h : Open S) (H : List Entry) (cursor : Option ℕ) → is_over (seen_with h H cursor) ≡ is_past_limit h (owed h H cursor)
+pub over-same : {S : Type 0} (h : OpenHandle S) (H : List Entry) (cursor : Option ℕ) → is_over (seen_with h H cursor) ≡ is_past_limit h (owed h H cursor)
 over-same h H None = by (style h.kind)
   where
     by : (s : Style) → is_over (unread s h.reads) ≡ (is_delta_style s && nat_lt h.limit 0)
@@ -33,7 +33,7 @@ over-same h H (Some cursor) = (λ i. is_over (stand (style h.kind) h.reads (nat_
     by Delta false = refl
     by Queue o = refl
 
-pub owed-same : {S : Type 0} (h : Open S) (H : List Entry) (cursor : Option ℕ) → is_full_style (style h.kind) ≡ false → is_past_limit h (owed h H cursor) ≡ false → owed_in h (seen_with h H cursor) ≡ owed h H cursor
+pub owed-same : {S : Type 0} (h : OpenHandle S) (H : List Entry) (cursor : Option ℕ) → is_full_style (style h.kind) ≡ false → is_past_limit h (owed h H cursor) ≡ false → owed_in h (seen_with h H cursor) ≡ owed h H cursor
 owed-same h H None full past = by (style h.kind)
   where
     by : (s : Style) → owed_in h (unread s h.reads) ≡ []
@@ -112,32 +112,32 @@ members-shown m d = ap (sorted_by name_cmp (λ o. o.object.name)) (members-known
 
 -- ---- everything, and the answer
 
-dead-same : {S : Type 0} (m : Machine) (h : Open S) → (not (is_directory_kind h.kind) && is_none (object_numbered (content_of m) h.target)) ≡ is_dead m h
+dead-same : {S : Type 0} (m : Machine) (h : OpenHandle S) → (not (is_directory_kind h.kind) && is_none (object_numbered (content_of m) h.target)) ≡ is_dead m h
 dead-same m h = ap (λ o. not (is_directory_kind h.kind) && is_none o) (object_numbered-shown m h.target)
 
-members-same : (m : Machine) (h : Open (Option ℕ)) → target_members (content_of m) (shown_handle m.history h) ≡ members_of_target m h
+members-same : (m : Machine) (h : OpenHandle (Option ℕ)) → target_members (content_of m) (shown_handle m.history h) ≡ members_of_target m h
 members-same m h = λ i. cond (is_directory_kind h.kind) (map member (members-shown m h.target i)) (record { name = h.name; lines = map line_of (option_map_or (λ o. o.attributes) (object_numbered-shown m h.target i) []) } ∷ [])
 
-everything-same : (m : Machine) (h : Open (Option ℕ)) → everything (content_of m) (shown_handle m.history h) ≡ everything_of h.kind h.options.filter (is_past_limit h (owed h m.history h.seen)) (not (is_dead m h)) (members_of_target m h)
+everything-same : (m : Machine) (h : OpenHandle (Option ℕ)) → everything (content_of m) (shown_handle m.history h) ≡ everything_of h.kind h.options.filter (is_past_limit h (owed h m.history h.seen)) (not (is_dead m h)) (members_of_target m h)
 everything-same m h = λ i. everything_of h.kind h.options.filter (over-same h m.history h.seen i) (not (dead-same m h i)) (members-same m h i)
 
-pub answer-shown : (m : Machine) (h : Open (Option ℕ)) (max : ℕ) → h.reads ≡ true → read_answer (content_of m) (shown_handle m.history h) max ≡ answer_of m h max
+pub answer-shown : (m : Machine) (h : OpenHandle (Option ℕ)) (max : ℕ) → h.reads ≡ true → read_answer (content_of m) (shown_handle m.history h) max ≡ answer_of m h max
 answer-shown m h max reads =
     (λ i. answer (shown_handle m.history h) (seen_with h m.history h.seen) (everything-same m h i) (dead-same m h i) max)
     ∙ answer-same (shown_handle m.history h) m.history h.seen (everything_of h.kind h.options.filter (is_past_limit h (owed h m.history h.seen)) (not (is_dead m h)) (members_of_target m h)) (is_dead m h) max reads
 
 -- ---- how much a handle is owed
 
-pub find-shown : (H : List Entry) (n : ℕ) (hs : List (Open (Option ℕ))) → find (λ (h : Open Seen). eqb h.number n) (map (shown_handle H) hs) ≡ option_map (shown_handle H) (find (λ h. eqb h.number n) hs)
+pub find-shown : (H : List Entry) (n : ℕ) (hs : List (OpenHandle (Option ℕ))) → find (λ (h : OpenHandle Progress). eqb h.number n) (map (shown_handle H) hs) ≡ option_map (shown_handle H) (find (λ h. eqb h.number n) hs)
 find-shown H n [] = refl
 find-shown H n (h ∷ hs) = by (eqb h.number n) (find-shown H n hs)
   where
-    by : (b : Bool) → find (λ (h : Open Seen). eqb h.number n) (map (shown_handle H) hs) ≡ option_map (shown_handle H) (find (λ h. eqb h.number n) hs)
-        → cond b (Some (shown_handle H h)) (find (λ (h : Open Seen). eqb h.number n) (map (shown_handle H) hs)) ≡ option_map (shown_handle H) (cond b (Some h) (find (λ h. eqb h.number n) hs))
+    by : (b : Bool) → find (λ (h : OpenHandle Progress). eqb h.number n) (map (shown_handle H) hs) ≡ option_map (shown_handle H) (find (λ h. eqb h.number n) hs)
+        → cond b (Some (shown_handle H h)) (find (λ (h : OpenHandle Progress). eqb h.number n) (map (shown_handle H) hs)) ≡ option_map (shown_handle H) (cond b (Some h) (find (λ h. eqb h.number n) hs))
     by true rec = refl
     by false rec = rec
 
-owed_in-same : (H : List Entry) (h : Open (Option ℕ)) (cursor : Option ℕ) → owed_in_seen (shown_handle H h) (seen_with h H cursor) ≡ cond (is_some cursor && not (is_full_style (style h.kind)) && not (is_past_limit h (owed h H cursor))) (Some (length (owed h H cursor))) None
+owed_in-same : (H : List Entry) (h : OpenHandle (Option ℕ)) (cursor : Option ℕ) → owed_in_seen (shown_handle H h) (seen_with h H cursor) ≡ cond (is_some cursor && not (is_full_style (style h.kind)) && not (is_past_limit h (owed h H cursor))) (Some (length (owed h H cursor))) None
 owed_in-same H h None = by (style h.kind)
   where
     by : (s : Style) → owed_in_seen (shown_handle H h) (unread s h.reads) ≡ None
@@ -160,7 +160,7 @@ owed_in-same H h (Some cursor) =
 pub owed_by-shown : (m : Machine) (n : ℕ) → owed_by_seen (content_of m) n ≡ owed_by m n
 owed_by-shown m n = ap (option_and_then (λ h. owed_in_seen h h.seen)) (find-shown m.history n m.handles) ∙ by (find (λ h. eqb h.number n) m.handles)
   where
-    by : (o : Option (Open (Option ℕ))) → option_and_then (λ h. owed_in_seen h h.seen) (option_map (shown_handle m.history) o) ≡ option_and_then (λ h. cond (is_some h.seen && not (is_full_style (style h.kind)) && not (is_past_limit h (owed h m.history h.seen))) (Some (length (owed h m.history h.seen))) None) o
+    by : (o : Option (OpenHandle (Option ℕ))) → option_and_then (λ h. owed_in_seen h h.seen) (option_map (shown_handle m.history) o) ≡ option_and_then (λ h. cond (is_some h.seen && not (is_full_style (style h.kind)) && not (is_past_limit h (owed h m.history h.seen))) (Some (length (owed h m.history h.seen))) None) o
     by None = refl
     by (Some h) = owed_in-same m.history h h.seen
 

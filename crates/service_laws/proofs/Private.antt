@@ -9,8 +9,8 @@ use Rattle.pps_types.specs.declared.outcome.Item.{Item}
 use Rattle.pps_types.specs.declared.refusal.Refusal.{Refusal}
 use Rattle.pps_types.specs.declared.refusal.Refusal.TheVariants.{Backlogged}
 use Rattle.pps_types.specs.Outcome.{Reply, is_marked}
-use Rattle.pps_types.specs.Reading.{Open}
-use Rattle.pps_types.specs.Rests.{Seen}
+use Rattle.pps_types.specs.Reading.{OpenHandle}
+use Rattle.pps_types.specs.Rests.{Progress}
 use Rattle.pps_types.specs.Content.{Content, handle_numbered, queue_of, handles_of}
 use Rattle.pps_types.specs.Checks.{first_refusal, checks, is_server, is_client}
 use Rattle.pps_types.specs.Plan.{apply_all_seen, plan, decided, effect, step_seen, passes_last_number}
@@ -70,7 +70,7 @@ took m made o x is unmarked =
 module _ (conn : ℕ) where
   -- ---- a shared event
 
-  queue-kind : (f : Option (Open Seen)) → option_map_or (λ h. is_queue_kind h.kind) f false ≡ true → option_map_or (λ h. is_server h.kind) f false ≡ false → option_map_or (λ h. is_client h.kind) f false ≡ true
+  queue-kind : (f : Option (OpenHandle Progress)) → option_map_or (λ h. is_queue_kind h.kind) f false ≡ true → option_map_or (λ h. is_server h.kind) f false ≡ false → option_map_or (λ h. is_client h.kind) f false ≡ true
   queue-kind None e s = e
   queue-kind (Some h) e s = by (is_server h.kind) (is_client h.kind) e s
     where

@@ -10,13 +10,13 @@ use Rattle.pps_types.specs.declared.refusal.Refusal.{Refusal}
 use Rattle.pps_types.specs.declared.refusal.Refusal.TheVariants.{NotAttached, BadMode, BadArgument, ReadPending, TableFull}
 use Rattle.pps_types.specs.Bytes.{is_empty}
 use Rattle.pps_types.specs.History.{Entry}
-use Rattle.pps_types.specs.Reading.{Open, reseen, style, is_full_style, block, idle_answer, owed_answer, whole_answer, Answer, Everything, Blocks, Needs, TargetGone, Waits, Nothing}
-use Rattle.pps_types.specs.Rests.{Seen}
+use Rattle.pps_types.specs.Reading.{OpenHandle, reseen, style, is_full_style, block, idle_answer, owed_answer, whole_answer, Answer, Everything, Blocks, Needs, TargetGone, Waits, Nothing}
+use Rattle.pps_types.specs.Rests.{Progress}
 use Rattle.pps_types.specs.Outbox.{park_refusal}
 use Rattle.pps_types.specs.Content.{Content, is_attached, outbox_of, read_answer}
 use Rattle.pps_types.specs.Checks.{Check, Refuse, Memory, refused, first_refusal, on_handle, checks, read_checks, answer_checks}
 use Rattle.pps_types.specs.Plan.{Move, CatchesUp, Advances, Parks, on_first, on_numbered, apply_all_seen, all_checks_of, passes_last_number, effect, read_effect, plan, decided, settling, fired, late_reply}
-use Rattle.pps_types.specs.WellFormed.{AreRising}
+use Rattle.pps_types.specs.WellFormed.{RiseBetween}
 use Rattle.pps_types.specs.Machine.{Machine, IsMachine, AreLawful, content_of, shown_handle, passed, step, apply_all, AreAlive}
 use Rattle.pps_types.specs.Owed.{has_news, owed, is_past_limit, answer_with, answer_of}
 use Rattle.service_laws.specs.ReadLaws.{own_handle, IsReadAs, ReadMoves, answer_refusal, read_refusal, ReadLeaves, had_news_of, gets_news, follows_for, CursorsMove}
@@ -44,7 +44,7 @@ not-idle false true n bytes e = cc
 not-idle false false n bytes e = cc
 
 -- is given to a handle that has read, is not in full mode and not past its limit
-pub blocks-owed : {S : Type 0} (h : Open S) (H : List Entry) (cursor : Option ℕ) (everything : List ℕ) (dead : Bool) (max n : ℕ) (bytes : List ℕ) → answer_with h H cursor everything dead max ≡ Blocks n bytes
+pub blocks-owed : {S : Type 0} (h : OpenHandle S) (H : List Entry) (cursor : Option ℕ) (everything : List ℕ) (dead : Bool) (max n : ℕ) (bytes : List ℕ) → answer_with h H cursor everything dead max ≡ Blocks n bytes
     → (is_none cursor ≡ false) × (is_full_style (style h.kind) ≡ false) × (is_past_limit h (owed h H cursor) ≡ false)
 blocks-owed h H cursor everything dead max n bytes e = by (is_none cursor) (is_past_limit h (owed h H cursor)) (is_full_style (style h.kind)) (owed h H cursor) e
   where
@@ -80,35 +80,35 @@ module _ {X : Type 0} (test : X → Bool) where
       go true t e rest = ap (λ b. cond b (Some y) (find other zs)) is
       go false t e rest = ap (λ b. cond b (Some z) (find other (on_first test (λ z. y) zs))) (less z t) ∙ rest e
 
-pub rising-handles : (H : List Entry) (low high : ℕ) (hs : List (Open (Option ℕ))) → AreRising low (map (λ (h : Open Seen). h.number) (map (shown_handle H) hs)) high → AreRising low (map (λ (h : Open (Option ℕ)). h.number) hs) high
+pub rising-handles : (H : List Entry) (low high : ℕ) (hs : List (OpenHandle (Option ℕ))) → RiseBetween low (map (λ (h : OpenHandle Progress). h.number) (map (shown_handle H) hs)) high → RiseBetween low (map (λ (h : OpenHandle (Option ℕ)). h.number) hs) high
 rising-handles H low high [] r = r
 rising-handles H low high (h ∷ hs) r = (r.0, rising-handles H (h.number + 1) high hs r.1)
 
 -- each handle is found by its number
-pub handles-found : (m : Machine) → IsMachine m → AllByRecursion (λ (g : Open (Option ℕ)). find (λ (h : Open (Option ℕ)). eqb h.number g.number) m.handles ≡ Some g) m.handles
-handles-found m made = found-each (λ (h : Open (Option ℕ)). h.number) 0 m.next_handle m.handles (rising-handles m.history 0 m.next_handle m.handles made.standing.order.handles_rise)
+pub handles-found : (m : Machine) → IsMachine m → AllByRecursion (λ (g : OpenHandle (Option ℕ)). find (λ (h : OpenHandle (Option ℕ)). eqb h.number g.number) m.handles ≡ Some g) m.handles
+handles-found m made = found-each (λ (h : OpenHandle (Option ℕ)). h.number) 0 m.next_handle m.handles (rising-handles m.history 0 m.next_handle m.handles made.standing.order.handles_rise)
 
 -- ---- nothing follows
 
-none-follow : (before now : Machine) (hs : List (Open (Option ℕ))) → AllByRecursion (λ g. gets_news before now g ≡ false) hs → flat_map (follows_for before now) hs ≡ []
+none-follow : (before now : Machine) (hs : List (OpenHandle (Option ℕ))) → AllByRecursion (λ g. gets_news before now g ≡ false) hs → flat_map (follows_for before now) hs ≡ []
 none-follow before now [] all = refl
 none-follow before now (h ∷ hs) all = ap (λ ys. ys ++ flat_map (follows_for before now) hs) (ap (λ b. cond b (fired h ++ option_map_or (λ size. late_reply h (answer_of now h size)) h.parked []) []) all.0) ∙ none-follow before now hs all.1
 
 -- where a handle has news only if it had some, none gets any
-quiet-handles : (m : Machine) → IsMachine m → (n : ℕ) (f : Open (Option ℕ) → Open (Option ℕ)) → ((g : Open (Option ℕ)) → (f g).number ≡ g.number)
-    → ((g : Open (Option ℕ)) → has_news g m.history g.seen ≡ false → has_news (f g) m.history (f g).seen ≡ false)
+quiet-handles : (m : Machine) → IsMachine m → (n : ℕ) (f : OpenHandle (Option ℕ) → OpenHandle (Option ℕ)) → ((g : OpenHandle (Option ℕ)) → (f g).number ≡ g.number)
+    → ((g : OpenHandle (Option ℕ)) → has_news g m.history g.seen ≡ false → has_news (f g) m.history (f g).seen ≡ false)
     → let now = record m { handles = on_numbered n f m.handles } in
     AllByRecursion (λ g. gets_news m now g ≡ false) now.handles
 quiet-handles m made n f number keeps =
     let now = record m { handles = on_numbered n f m.handles } in
     all-imp IsQuiet (λ g. gets_news m now g ≡ false) none now.handles
     (all-on_first IsQuiet (λ g. eqb g.number n) f (λ g q e. keeps g (q (ap (had_news_of m) (sym (number g)) ∙ e))) m.handles
-    (all-imp (λ g. find (λ (h : Open (Option ℕ)). eqb h.number g.number) m.handles ≡ Some g) IsQuiet (λ g is e. sym (ap (λ o. option_map_or (λ h. has_news h m.history h.seen) o false) is) ∙ e) m.handles (handles-found m made)))
+    (all-imp (λ g. find (λ (h : OpenHandle (Option ℕ)). eqb h.number g.number) m.handles ≡ Some g) IsQuiet (λ g is e. sym (ap (λ o. option_map_or (λ h. has_news h m.history h.seen) o false) is) ∙ e) m.handles (handles-found m made)))
   where
-    IsQuiet : Open (Option ℕ) → Type 0
+    IsQuiet : OpenHandle (Option ℕ) → Type 0
     IsQuiet g = had_news_of m g.number ≡ false → has_news g m.history g.seen ≡ false
 
-    none : (g : Open (Option ℕ)) → (had_news_of m g.number ≡ false → has_news g m.history g.seen ≡ false) → (not (had_news_of m g.number) && has_news g m.history g.seen) ≡ false
+    none : (g : OpenHandle (Option ℕ)) → (had_news_of m g.number ≡ false → has_news g m.history g.seen ≡ false) → (not (had_news_of m g.number) && has_news g m.history g.seen) ≡ false
     none g q = go (had_news_of m g.number) q
       where
         go : (b : Bool) → (b ≡ false → has_news g m.history g.seen ≡ false) → (not b && has_news g m.history g.seen) ≡ false
@@ -127,14 +127,14 @@ alone m made xs lawful alive none =
 -- ---- a read
 
 -- the handle in its place
-placed : (m : Machine) (h after : Open (Option ℕ)) → find (λ g. eqb g.number h.number) m.handles ≡ Some h → after.number ≡ h.number → after.connection ≡ h.connection
+placed : (m : Machine) (h after : OpenHandle (Option ℕ)) → find (λ g. eqb g.number h.number) m.handles ≡ Some h → after.number ≡ h.number → after.connection ≡ h.connection
     → own_handle (record m { handles = on_numbered h.number (λ g. after) m.handles }) h.connection h.number ≡ Some after
 placed m h after found number connection = find-placed (λ g. eqb g.number h.number) (λ g. eqb g.number h.number && eqb g.connection h.connection) after
     (λ g other. ap (λ b. b && eqb g.connection h.connection) other)
     (λ i. eq-eqb after.number h.number number i && eq-eqb after.connection h.connection connection i) m.handles h found
 
 -- a read that is not refused
-given : (m : Machine) → IsMachine m → (h : Open (Option ℕ)) (size : ℕ) → find (λ g. eqb g.number h.number) m.handles ≡ Some h → (a : Answer) → answer_of m h size ≡ a
+given : (m : Machine) → IsMachine m → (h : OpenHandle (Option ℕ)) (size : ℕ) → find (λ g. eqb g.number h.number) m.handles ≡ Some h → (a : Answer) → answer_of m h size ≡ a
     → let c = content_of m in
     let done = read_effect (shown_handle m.history h) size a in
     first_refusal (answer_checks c (shown_handle m.history h) a) ≡ None → ReadMoves m h size done.0 (apply_all (done.1 ++ settling c (apply_all_seen done.1 c)) m)
@@ -161,7 +161,7 @@ given m made h size here (Blocks n text) e fine =
       rest = rest;
     }
 given m made h size here Waits e fine =
-    let f = λ (g : Open (Option ℕ)). record g { parked = Some size } in
+    let f = λ (g : OpenHandle (Option ℕ)). record g { parked = Some size } in
     let rest = alone m made (Parks h.number (Some size) ∷ []) (tt, tt) (tt, tt) (quiet-handles m made h.number f (λ g. refl) (λ g quiet. quiet))
     ∙ ap (λ hs. record m { handles = hs }) (on-found (λ g. eqb g.number h.number) f m.handles h here) in
     record {
@@ -171,8 +171,8 @@ given m made h size here Waits e fine =
       rest = rest;
     }
 given m made h size here Nothing e fine =
-    let f = λ (g : Open (Option ℕ)). g in
-    let same = on-same (λ (g : Open (Option ℕ)). eqb g.number h.number) m.handles in
+    let f = λ (g : OpenHandle (Option ℕ)). g in
+    let same = on-same (λ (g : OpenHandle (Option ℕ)). eqb g.number h.number) m.handles in
     let quiet = subst (λ hs. AllByRecursion (λ g. gets_news m m g ≡ false) hs) same (quiet-handles m made h.number f (λ g. refl) (λ g quiet. quiet)) in
     let rest = alone m made [] tt tt quiet
     ∙ ap (λ hs. record m { handles = hs }) (sym same ∙ on-found (λ g. eqb g.number h.number) f m.handles h here) in
@@ -196,7 +196,7 @@ refusal-then (Refuse fails r ∷ xs) ys = by fails (refusal-then xs ys)
     by true rec = refl
     by false rec = rec
 
-answer-refusal : (m : Machine) (h : Open (Option ℕ)) (a : Answer) → first_refusal (answer_checks (content_of m) (shown_handle m.history h) a) ≡ answer_refusal m h a
+answer-refusal : (m : Machine) (h : OpenHandle (Option ℕ)) (a : Answer) → first_refusal (answer_checks (content_of m) (shown_handle m.history h) a) ≡ answer_refusal m h a
 answer-refusal m h (Everything text) = refl
 answer-refusal m h (Blocks n text) = refl
 answer-refusal m h (Needs need) = refl
@@ -209,7 +209,7 @@ answer-refusal m h Waits = by (park_refusal (outbox_of (content_of m) h.connecti
     by (Some r) = refl
 
 -- a read changes no number that the next record, object or directory gets
-same-last : (c : Content) (h : Open Seen) (size : ℕ) (a : Answer) → passes_last_number (apply_all_seen (read_effect h size a).1 c) ≡ passes_last_number c
+same-last : (c : Content) (h : OpenHandle Progress) (size : ℕ) (a : Answer) → passes_last_number (apply_all_seen (read_effect h size a).1 c) ≡ passes_last_number c
 same-last c h size (Everything text) = refl
 same-last c h size (Blocks n text) = refl
 same-last c h size (Needs need) = refl
@@ -218,25 +218,25 @@ same-last c h size Waits = refl
 same-last c h size Nothing = refl
 
 -- the connection's handle, of what stands
-record Asked (m : Machine) (conn number : ℕ) (h : Open (Option ℕ)) : Type 0 where
-  own : find (λ (h : Open Seen). eqb h.number number && eqb h.connection conn) (content_of m).handles ≡ Some (shown_handle m.history h)
+record Asked (m : Machine) (conn number : ℕ) (h : OpenHandle (Option ℕ)) : Type 0 where
+  own : find (λ (h : OpenHandle Progress). eqb h.number number && eqb h.connection conn) (content_of m).handles ≡ Some (shown_handle m.history h)
   attached : is_attached (content_of m) conn ≡ true
-  here : find (λ (g : Open (Option ℕ)). eqb g.number h.number) m.handles ≡ Some h
+  here : find (λ (g : OpenHandle (Option ℕ)). eqb g.number h.number) m.handles ≡ Some h
 
-asked : (m : Machine) → IsMachine m → (conn number : ℕ) (h : Open (Option ℕ)) → own_handle m conn number ≡ Some h → Asked m conn number h
+asked : (m : Machine) → IsMachine m → (conn number : ℕ) (h : OpenHandle (Option ℕ)) → own_handle m conn number ≡ Some h → Asked m conn number h
 asked m made conn number h found =
     let c = content_of m in
     let sh = shown_handle m.history h in
-    let test = λ (h : Open Seen). eqb h.number number && eqb h.connection conn in
+    let test = λ (h : OpenHandle Progress). eqb h.number number && eqb h.connection conn in
     let own : find test c.handles ≡ Some sh = find-seen (shown_handle m.history) (λ h. eqb h.number number && eqb h.connection conn) test (λ h. refl) m.handles ∙ ap (option_map (shown_handle m.history)) found in
     let both = and-both (eqb h.number number) (eqb h.connection conn) (find-true test c.handles sh own) in
     record {
       own = own;
-      attached = ap (is_attached c) (sym (eqb-true h.connection conn both.1)) ∙ all-find (λ (g : Open Seen). is_attached c g.connection ≡ true) test c.handles sh made.standing.held.owners own;
-      here = all-find (λ (g : Open (Option ℕ)). find (λ (h : Open (Option ℕ)). eqb h.number g.number) m.handles ≡ Some g) (λ h. eqb h.number number && eqb h.connection conn) m.handles h (handles-found m made) found;
+      attached = ap (is_attached c) (sym (eqb-true h.connection conn both.1)) ∙ all-find (λ (g : OpenHandle Progress). is_attached c g.connection ≡ true) test c.handles sh made.standing.held.owners own;
+      here = all-find (λ (g : OpenHandle (Option ℕ)). find (λ (h : OpenHandle (Option ℕ)). eqb h.number g.number) m.handles ≡ Some g) (λ h. eqb h.number number && eqb h.connection conn) m.handles h (handles-found m made) found;
     }
 
-refusal-read : (m : Machine) → IsMachine m → (conn number size : ℕ) (h : Open (Option ℕ)) → Asked m conn number h → first_refusal (all_checks_of (content_of m) (record { conn = conn; request = Read number size })) ≡ read_refusal m h size
+refusal-read : (m : Machine) → IsMachine m → (conn number size : ℕ) (h : OpenHandle (Option ℕ)) → Asked m conn number h → first_refusal (all_checks_of (content_of m) (record { conn = conn; request = Read number size })) ≡ read_refusal m h size
 unfolding effect checks
 refusal-read m made conn number size h a =
     let c = content_of m in
@@ -264,7 +264,7 @@ refusal-read m made conn number size h a =
 
 -- ---- the event
 
-pub read-leaves : (m : Machine) → IsMachine m → (conn number size : ℕ) (h : Open (Option ℕ)) → own_handle m conn number ≡ Some h
+pub read-leaves : (m : Machine) → IsMachine m → (conn number size : ℕ) (h : OpenHandle (Option ℕ)) → own_handle m conn number ≡ Some h
     → let done = step m (record { conn = conn; request = Read number size }) in
     ReadLeaves m h size done.0 done.1
 unfolding step plan effect checks

@@ -17,8 +17,8 @@ use Rattle.pps_types.specs.Outcome.{is_marked, item_has_bytes}
 use Rattle.pps_types.specs.Text.{WriteText, line_or, write_line, write_lines, with_header, text_after, text_of_lines, lines_of, write_text}
 use Rattle.pps_types.specs.Names.{Path, beyond, place, find_at, refusal_of, new_refusal}
 use Rattle.pps_types.specs.OpenText.{OpenPath, open_path, Options, options_text, OpenSpec, open_parts, open_spec, open_text, path_text}
-use Rattle.pps_types.specs.Reading.{Open, Answer, Everything, Blocks, Needs, TargetGone, Waits, Nothing}
-use Rattle.pps_types.specs.Rests.{Seen}
+use Rattle.pps_types.specs.Reading.{OpenHandle, Answer, Everything, Blocks, Needs, TargetGone, Waits, Nothing}
+use Rattle.pps_types.specs.Rests.{Progress}
 use Rattle.pps_types.specs.Outbox.{Outbox, arm_refusal, park_refusal, held, is_armed, is_parked, is_full, arms, first_of}
 use Rattle.pps_types.specs.Content.{Content, at, object_numbered, handle_numbered, outbox_of, queue_of, read_answer, news}
 use Rattle.pps_types.specs.Checks.{Check, Refuse, Memory, first_refusal, refused, parsed, handle_checks, all_checks, object_checks, name_checks, open_checks, on_handle, answer_checks, read_checks, Addressee, Everyone, OneClient, Nobody, addressee, meant, server_backlog, client_backlog, client_checks, where_lines, count_owed, is_message_of, text_checks, write_checks, close_checks, on_path, unlink_found, unlink_checks, mkdir_checks, list_checks, notify_checks, receive_checks, checks}
@@ -147,10 +147,10 @@ park-err box handle = go (is_parked box handle) (is_full (held box))
 
 -- ---- kinds of requests
 
-handle-wants : (c : Content) (conn handle : ℕ) (k : Open Seen → List Check) → ((h : Open Seen) → WantNothing (k h)) → WantNothing (on_handle c conn handle k)
+handle-wants : (c : Content) (conn handle : ℕ) (k : OpenHandle Progress → List Check) → ((h : OpenHandle Progress) → WantNothing (k h)) → WantNothing (on_handle c conn handle k)
 handle-wants c conn handle k w = go (find (λ h. (h.number == handle) && (h.connection == conn)) c.handles) refl
   where
-    go : (o : Option (Open Seen)) → find (λ h. (h.number == handle) && (h.connection == conn)) c.handles ≡ o → WantNothing (on_handle c conn handle k)
+    go : (o : Option (OpenHandle Progress)) → find (λ h. (h.number == handle) && (h.connection == conn)) c.handles ≡ o → WantNothing (on_handle c conn handle k)
     go None e = rw e (refl, tt)
     go (Some h) e = rw e (w h)
 
@@ -164,7 +164,7 @@ open-wants c mode spec = (
       (refl, (refl, (refl, both (handle_checks c) (cond (is_none found) (object_checks c spec.names) []) (refl, tt) (either (is_none found) (object_checks c spec.names) [] (refl, (refl, tt)) tt))))),
 )
 
-answer-wants : (c : Content) (h : Open Seen) (a : Answer) → WantNothing (answer_checks c h a)
+answer-wants : (c : Content) (h : OpenHandle Progress) (a : Answer) → WantNothing (answer_checks c h a)
 answer-wants c h (Needs need) = (refl, tt)
 answer-wants c h TargetGone = (refl, tt)
 answer-wants c h Waits = both (refused (park_refusal (outbox_of c h.connection) h.number)) (Memory ∷ []) (refused-wants (park_refusal (outbox_of c h.connection) h.number) (park-err (outbox_of c h.connection) h.number)) tt
@@ -172,18 +172,18 @@ answer-wants c h (Everything text) = tt
 answer-wants c h (Blocks count text) = tt
 answer-wants c h Nothing = tt
 
-backlog-wants : (hs : List (Open Seen)) → WantNothing (client_backlog hs)
+backlog-wants : (hs : List (OpenHandle Progress)) → WantNothing (client_backlog hs)
 backlog-wants [] = tt
 backlog-wants (h ∷ hs) = (refl, backlog-wants hs)
 
-server-wants : (c : Content) (h : Open Seen) → WantNothing (server_backlog c h)
+server-wants : (c : Content) (h : OpenHandle Progress) → WantNothing (server_backlog c h)
 server-wants c h = go (option_and_then (λ o. option_and_then (handle_numbered c) o.object.server) (object_numbered c h.target))
   where
-    go : (o : Option (Open Seen)) → WantNothing (option_map_or (λ s. Refuse (nat_le s.limit (count_owed (is_message_of h.number) s)) (Refusal.Backlogged s.number) ∷ []) o [])
+    go : (o : Option (OpenHandle Progress)) → WantNothing (option_map_or (λ s. Refuse (nat_le s.limit (count_owed (is_message_of h.number) s)) (Refusal.Backlogged s.number) ∷ []) o [])
     go None = tt
     go (Some s) = (refl, tt)
 
-text-wants : (c : Content) (h : Open Seen) (k : HandleKind) (text : WriteText) → WantNothing (text_checks c h k text)
+text-wants : (c : Content) (h : OpenHandle Progress) (k : HandleKind) (text : WriteText) → WantNothing (text_checks c h k text)
 text-wants c h (ObjectHandle delta) text = (refl, (refl, tt))
 text-wants c h ServerHandle text = both (client_checks c h.target (addressee h.name text.header)) (where_lines text (client_backlog (meant c h.target (addressee h.name text.header)))) (to (addressee h.name text.header))
     (either (is_empty text.lines) [] (client_backlog (meant c h.target (addressee h.name text.header))) tt (backlog-wants (meant c h.target (addressee h.name text.header))))
@@ -196,7 +196,7 @@ text-wants c h ClientHandle text = (refl, either (is_empty text.lines) [] (serve
 text-wants c h (DirectoryHandle delta) text = tt
 text-wants c h NamesHandle text = tt
 
-close-wants : (c : Content) (h : Open Seen) (k : HandleKind) → h.kind ≡ k → WantNothing (close_checks c h)
+close-wants : (c : Content) (h : OpenHandle Progress) (k : HandleKind) → h.kind ≡ k → WantNothing (close_checks c h)
 close-wants c h (ObjectHandle delta) e = rw e (either _ (Memory ∷ []) [] tt tt)
 close-wants c h ServerHandle e = rw e tt
 close-wants c h ClientHandle e = rw e tt

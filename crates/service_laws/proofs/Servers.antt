@@ -8,8 +8,8 @@ use Rattle.pps_types.specs.declared.record.Kind.TheVariants.{Created, Change, Tr
 use Rattle.pps_types.specs.declared.handle_kind.HandleKind.{HandleKind}
 use Rattle.pps_types.specs.declared.handle_kind.HandleKind.TheVariants.{Object as ObjectHandle, Directory as DirectoryHandle, Names as NamesHandle, Server as ServerHandle, Client as ClientHandle}
 use Rattle.pps_types.specs.History.{Entry}
-use Rattle.pps_types.specs.Reading.{Open, reseen, style, is_directory_kind}
-use Rattle.pps_types.specs.Rests.{Seen}
+use Rattle.pps_types.specs.Reading.{OpenHandle, reseen, style, is_directory_kind}
+use Rattle.pps_types.specs.Rests.{Progress}
 use Rattle.pps_types.specs.Content.{Object, LiveObject, Content, object_numbered, handle_numbered}
 use Rattle.pps_types.specs.Checks.{is_server}
 use Rattle.pps_types.specs.Plan.{Creates, AppendsRecord, Opens, apply_seen, touched, still_known, creation, offer, first_seen, on_numbered}
@@ -26,7 +26,7 @@ use Rattle.service_laws.proofs.Holders.{all-offered}
 abbrev pub Servers : Content → Type 0
 Servers c = AllByRecursion (λ (o : LiveObject). has_server c o.object ≡ true) c.objects
 
-abbrev pub MayBe : Content → Open Seen → Type 0
+abbrev pub MayBe : Content → OpenHandle Progress → Type 0
 MayBe c h = may_be_on h.kind h.number (server_of c h.target) ≡ true
 
 abbrev pub Users : Content → Type 0
@@ -44,27 +44,27 @@ server-mono c d more o = go o.server
     go None e = refl
     go (Some n) e = more n o.number e
 
-serving : ℕ → Open Seen → Bool
+serving : ℕ → OpenHandle Progress → Bool
 serving t h = is_server h.kind && eqb h.target t
 
 pub server-offered : (c : Content) (e : Entry) (n t : ℕ) → option_map_or (λ h. is_server h.kind && eqb h.target t) (find (λ h. eqb h.number n) (map (offer e) c.handles)) false ≡ is_server_of c t n
 server-offered c e n t = ap (λ o. option_map_or (λ h. is_server h.kind && eqb h.target t) o false) (find-map (offer e) (λ h. eqb h.number n) (λ h. refl) c.handles) ∙ go (find (λ h. eqb h.number n) c.handles)
   where
-    go : (o : Option (Open Seen)) → option_map_or (λ h. is_server h.kind && eqb h.target t) (option_map (offer e) o) false ≡ option_map_or (λ h. is_server h.kind && eqb h.target t) o false
+    go : (o : Option (OpenHandle Progress)) → option_map_or (λ h. is_server h.kind && eqb h.target t) (option_map (offer e) o) false ≡ option_map_or (λ h. is_server h.kind && eqb h.target t) o false
     go None = refl
     go (Some h) = refl
 
 -- a change of other fields of a handle
-pub record IsLike (f : Open Seen → Open Seen) : Type 0 where
-  pub number : (h : Open Seen) → (f h).number ≡ h.number
-  pub kind : (h : Open Seen) → (f h).kind ≡ h.kind
-  pub target : (h : Open Seen) → (f h).target ≡ h.target
+pub record IsLike (f : OpenHandle Progress → OpenHandle Progress) : Type 0 where
+  pub number : (h : OpenHandle Progress) → (f h).number ≡ h.number
+  pub kind : (h : OpenHandle Progress) → (f h).kind ≡ h.kind
+  pub target : (h : OpenHandle Progress) → (f h).target ≡ h.target
 
-server-changed : (f : Open Seen → Open Seen) → IsLike f → (k n t : ℕ) (hs : List (Open Seen)) → option_map_or (λ h. is_server h.kind && eqb h.target t) (find (λ h. eqb h.number n) (on_numbered k f hs)) false ≡ option_map_or (λ h. is_server h.kind && eqb h.target t) (find (λ h. eqb h.number n) hs) false
+server-changed : (f : OpenHandle Progress → OpenHandle Progress) → IsLike f → (k n t : ℕ) (hs : List (OpenHandle Progress)) → option_map_or (λ h. is_server h.kind && eqb h.target t) (find (λ h. eqb h.number n) (on_numbered k f hs)) false ≡ option_map_or (λ h. is_server h.kind && eqb h.target t) (find (λ h. eqb h.number n) hs) false
 server-changed f like k n t [] = refl
 server-changed f like k n t (h ∷ hs) = go (eqb h.number k) (server-changed f like k n t hs)
   where
-    look : Bool → Open Seen → List (Open Seen) → Bool
+    look : Bool → OpenHandle Progress → List (OpenHandle Progress) → Bool
     look b h rest = option_map_or (λ h. is_server h.kind && eqb h.target t) (cond b (Some h) (find (λ h. eqb h.number n) rest)) false
 
     both : (b : Bool) → look b (f h) hs ≡ look b h hs
@@ -81,7 +81,7 @@ server-changed f like k n t (h ∷ hs) = go (eqb h.number k) (server-changed f l
     go false e = rest (eqb h.number n) refl e
 
 -- the handle of a number changes in other fields
-pub served-changed : (c : Content) (k : ℕ) (f : Open Seen → Open Seen) → IsLike f → Served c → Served (record c { handles = on_numbered k f c.handles })
+pub served-changed : (c : Content) (k : ℕ) (f : OpenHandle Progress → OpenHandle Progress) → IsLike f → Served c → Served (record c { handles = on_numbered k f c.handles })
 served-changed c k f like s = (
   all-imp (λ (o : LiveObject). has_server c o.object ≡ true) (λ (o : LiveObject). has_server after o.object ≡ true) (λ o. server-mono c after (λ n t e. server-changed f like k n t c.handles ∙ e) o.object) c.objects s.0,
   all-on_first (MayBe c) (λ h. eqb h.number k) f (λ h p. (λ i. may_be_on (like.kind h i) (like.number h i) (server_of c (like.target h i))) ∙ p) c.handles s.1,
@@ -153,9 +153,9 @@ touched-server e t (x ∷ xs) = go (eqb e.record_of.object x.object.number) refl
     go false other a same rest = stays x refl (λ f. ap (λ b. b && is_deletion e.record_of.kind) (ap (eqb e.record_of.object) (sym (eqb-true x.object.number t f)) ∙ other)) a same rest
 
 pub users-happens : (c : Content) (e : Entry)
-    → AllByRecursion (λ (h : Open Seen). MayBe c h × ((is_server h.kind && (eqb e.record_of.object h.target && is_deletion e.record_of.kind)) ≡ false)) c.handles → Users (apply_seen (AppendsRecord e) c)
+    → AllByRecursion (λ (h : OpenHandle Progress). MayBe c h × ((is_server h.kind && (eqb e.record_of.object h.target && is_deletion e.record_of.kind)) ≡ false)) c.handles → Users (apply_seen (AppendsRecord e) c)
 users-happens c e users = all-offered (MayBe (apply_seen (AppendsRecord e) c)) e (λ h q. q) c.handles
-    (all-imp (λ (h : Open Seen). MayBe c h × ((is_server h.kind && (eqb e.record_of.object h.target && is_deletion e.record_of.kind)) ≡ false)) (MayBe (apply_seen (AppendsRecord e) c)) (λ h q. ap (may_be_on h.kind h.number) (touched-server e h.target c.objects) ∙ one h.kind h.number (eqb e.record_of.object h.target && is_deletion e.record_of.kind) (server_of c h.target) q.0 q.1) c.handles users)
+    (all-imp (λ (h : OpenHandle Progress). MayBe c h × ((is_server h.kind && (eqb e.record_of.object h.target && is_deletion e.record_of.kind)) ≡ false)) (MayBe (apply_seen (AppendsRecord e) c)) (λ h q. ap (may_be_on h.kind h.number) (touched-server e h.target c.objects) ∙ one h.kind h.number (eqb e.record_of.object h.target && is_deletion e.record_of.kind) (server_of c h.target) q.0 q.1) c.handles users)
   where
     one : (k : HandleKind) (n : ℕ) (b : Bool) (o : Option (Option ℕ)) → may_be_on k n o ≡ true → (is_server k && b) ≡ false → may_be_on k n (cond b None o) ≡ true
     one k n false o p q = p
@@ -167,7 +167,7 @@ users-happens c e users = all-offered (MayBe (apply_seen (AppendsRecord e) c)) e
 
 -- a record that takes no server's object
 pub served-happens : (c : Content) (e : Entry) → Servers c
-    → AllByRecursion (λ (h : Open Seen). MayBe c h × ((is_server h.kind && (eqb e.record_of.object h.target && is_deletion e.record_of.kind)) ≡ false)) c.handles → Served (apply_seen (AppendsRecord e) c)
+    → AllByRecursion (λ (h : OpenHandle Progress). MayBe c h × ((is_server h.kind && (eqb e.record_of.object h.target && is_deletion e.record_of.kind)) ≡ false)) c.handles → Served (apply_seen (AppendsRecord e) c)
 served-happens c e s users = (
   all-filter_map (λ (o : LiveObject). has_server (apply_seen (AppendsRecord e) c) o.object ≡ true) (touched e) (λ x. touched-of (λ o. has_server (apply_seen (AppendsRecord e) c) o ≡ true) e x) c.objects
       (all-imp (λ (o : LiveObject). has_server c o.object ≡ true) (λ (o : LiveObject). has_server (apply_seen (AppendsRecord e) c) o.object ≡ true) (λ o. server-mono c (apply_seen (AppendsRecord e) c) (λ n t q. server-offered c e n t ∙ q) o.object) c.objects s),
@@ -176,7 +176,7 @@ served-happens c e s users = (
 
 -- a record that deletes nothing
 pub served-stays : (c : Content) (e : Entry) → is_deletion e.record_of.kind ≡ false → Served c → Served (apply_seen (AppendsRecord e) c)
-served-stays c e plain s = served-happens c e s.0 (all-imp (MayBe c) (λ (h : Open Seen). MayBe c h × ((is_server h.kind && (eqb e.record_of.object h.target && is_deletion e.record_of.kind)) ≡ false))
+served-stays c e plain s = served-happens c e s.0 (all-imp (MayBe c) (λ (h : OpenHandle Progress). MayBe c h × ((is_server h.kind && (eqb e.record_of.object h.target && is_deletion e.record_of.kind)) ≡ false))
     (λ h p. (p, ap (λ b. is_server h.kind && (eqb e.record_of.object h.target && b)) plain ∙ off (is_server h.kind) (eqb e.record_of.object h.target))) c.handles s.1)
   where
     off : (a b : Bool) → (a && (b && false)) ≡ false
@@ -196,15 +196,15 @@ created-server c o t other = go (object_numbered c t) refl
 -- of handles on objects that were made
 users-created : (c : Content) (o : Object) → o.number ≡ c.next_object → Held c → Users c → Users (apply_seen (Creates o) c)
 users-created c o is held users = all-offered (MayBe (apply_seen (Creates o) c)) (creation o) (λ h q. q) c.handles
-    (all-imp (λ (h : Open Seen). IsTarget c h.target (is_directory_kind h.kind) × MayBe c h) (MayBe (apply_seen (Creates o) c)) (λ h q. one h h.kind refl q.0 q.1) c.handles (all-both _ _ c.handles held.1 users))
+    (all-imp (λ (h : OpenHandle Progress). IsTarget c h.target (is_directory_kind h.kind) × MayBe c h) (MayBe (apply_seen (Creates o) c)) (λ h q. one h h.kind refl q.0 q.1) c.handles (all-both _ _ c.handles held.1 users))
   where
-    same : (h : Open Seen) → h.target < c.next_object → may_be_on h.kind h.number (server_of c h.target) ≡ true → may_be_on h.kind h.number (server_of (apply_seen (Creates o) c) h.target) ≡ true
+    same : (h : OpenHandle Progress) → h.target < c.next_object → may_be_on h.kind h.number (server_of c h.target) ≡ true → may_be_on h.kind h.number (server_of (apply_seen (Creates o) c) h.target) ≡ true
     same h lt p = ap (may_be_on h.kind h.number) (created-server c o h.target (ne_eqb o.number h.target (λ e. absurd (omega arith)))) ∙ p
 
-    on : (h : Open Seen) (k : HandleKind) → h.kind ≡ k → is_directory_kind k ≡ false → IsTarget c h.target (is_directory_kind h.kind) → h.target < c.next_object
+    on : (h : OpenHandle Progress) (k : HandleKind) → h.kind ≡ k → is_directory_kind k ≡ false → IsTarget c h.target (is_directory_kind h.kind) → h.target < c.next_object
     on h k e plain p = subst (IsTarget c h.target) (ap is_directory_kind e ∙ plain) p
 
-    one : (h : Open Seen) (k : HandleKind) → h.kind ≡ k → IsTarget c h.target (is_directory_kind h.kind) → MayBe c h → may_be_on h.kind h.number (server_of (apply_seen (Creates o) c) h.target) ≡ true
+    one : (h : OpenHandle Progress) (k : HandleKind) → h.kind ≡ k → IsTarget c h.target (is_directory_kind h.kind) → MayBe c h → may_be_on h.kind h.number (server_of (apply_seen (Creates o) c) h.target) ≡ true
     one h ServerHandle e p q = same h (on h ServerHandle e refl p) q
     one h ClientHandle e p q = same h (on h ClientHandle e refl p) q
     one h (ObjectHandle d) e p q = same h (on h (ObjectHandle d) e refl p) q
@@ -223,14 +223,14 @@ served-created c o is none held s = (
 
 -- ---- a handle opens
 
-server-opened : (c : Content) (h : Open (Unit {0})) (n t : ℕ) → is_server_of c t n ≡ true → is_server_of (apply_seen (Opens h) c) t n ≡ true
+server-opened : (c : Content) (h : OpenHandle (Unit {0})) (n t : ℕ) → is_server_of c t n ≡ true → is_server_of (apply_seen (Opens h) c) t n ≡ true
 server-opened c h n t e = go (handle_numbered c n) refl e
   where
-    go : (o : Option (Open Seen)) → handle_numbered c n ≡ o → option_map_or (λ h. is_server h.kind && eqb h.target t) o false ≡ true → is_server_of (apply_seen (Opens h) c) t n ≡ true
+    go : (o : Option (OpenHandle Progress)) → handle_numbered c n ≡ o → option_map_or (λ h. is_server h.kind && eqb h.target t) o false ≡ true → is_server_of (apply_seen (Opens h) c) t n ≡ true
     go None f e = absurd (let h = e in cc)
     go (Some g) f e = ap (λ o. option_map_or (λ h. is_server h.kind && eqb h.target t) o false) (find-push (λ h. eqb h.number n) c.handles (reseen (λ h. first_seen h (style h.kind)) h) g f) ∙ e
 
-pub served-opened : (c : Content) (h : Open (Unit {0})) → may_be_on h.kind h.number (server_of c h.target) ≡ true → Served c → Served (apply_seen (Opens h) c)
+pub served-opened : (c : Content) (h : OpenHandle (Unit {0})) → may_be_on h.kind h.number (server_of c h.target) ≡ true → Served c → Served (apply_seen (Opens h) c)
 served-opened c h may s = (
   all-imp (λ (o : LiveObject). has_server c o.object ≡ true) (λ (o : LiveObject). has_server (apply_seen (Opens h) c) o.object ≡ true) (λ o. server-mono c (apply_seen (Opens h) c) (server-opened c h) o.object) c.objects s.0,
   all-push (MayBe c) c.handles (reseen (λ h. first_seen h (style h.kind)) h) s.1 may,
@@ -244,7 +244,7 @@ last-server c r o is = ap (option_map (λ (x : LiveObject). x.object.server))
     ∙ ap (λ b. cond b (Some (record { object = o; attributes = [] })) None) (eq-eqb o.number o.number refl))
 
 -- a server opens with its object
-pub served-server : (c : Content) → Order c → Held c → Served c → (o : Object) (h : Open (Unit {0})) → o.number ≡ c.next_object → o.server ≡ Some c.next_handle → h.number ≡ c.next_handle → h.kind ≡ ServerHandle → h.target ≡ o.number
+pub served-server : (c : Content) → Order c → Held c → Served c → (o : Object) (h : OpenHandle (Unit {0})) → o.number ≡ c.next_object → o.server ≡ Some c.next_handle → h.number ≡ c.next_handle → h.kind ≡ ServerHandle → h.target ≡ o.number
     → Served (apply_seen (Opens h) (apply_seen (Creates o) c))
 served-server c r held s o h number server own kind target = (
   all-push (λ (x : LiveObject). has_server after x.object ≡ true) c.objects (record { object = o; attributes = [] })
@@ -259,16 +259,16 @@ served-server c r held s o h number server own kind target = (
     after : Content
     after = apply_seen (Opens h) made
 
-    new : Open Seen
+    new : OpenHandle Progress
     new = reseen (λ h. first_seen h (style h.kind)) h
 
-    free : find (λ (g : Open Seen). eqb g.number c.next_handle) made.handles ≡ None
+    free : find (λ (g : OpenHandle Progress). eqb g.number c.next_handle) made.handles ≡ None
     free = find-map (offer (creation o)) (λ g. eqb g.number c.next_handle) (λ g. refl) c.handles
-        ∙ ap (option_map (offer (creation o))) (all-none (λ (g : Open Seen). eqb g.number c.next_handle) c.handles (none-numbered (λ (g : Open Seen). g.number) c.next_handle c.handles (rising-below (λ (g : Open Seen). g.number) 0 c.next_handle c.handles r.0)))
+        ∙ ap (option_map (offer (creation o))) (all-none (λ (g : OpenHandle Progress). eqb g.number c.next_handle) c.handles (none-numbered (λ (g : OpenHandle Progress). g.number) c.next_handle c.handles (rising-below (λ (g : OpenHandle Progress). g.number) 0 c.next_handle c.handles r.0)))
 
     new-server : is_server_of after o.number c.next_handle ≡ true
     new-server =
-        ap (λ f. option_map_or (λ (g : Open Seen). is_server g.kind && eqb g.target o.number) f false) (find-last (λ (g : Open Seen). eqb g.number c.next_handle) made.handles new free ∙ ap (λ b. cond b (Some new) None) (eq-eqb h.number c.next_handle own))
+        ap (λ f. option_map_or (λ (g : OpenHandle Progress). is_server g.kind && eqb g.target o.number) f false) (find-last (λ (g : OpenHandle Progress). eqb g.number c.next_handle) made.handles new free ∙ ap (λ b. cond b (Some new) None) (eq-eqb h.number c.next_handle own))
         ∙ (λ i. is_server (kind i) && eq-eqb h.target o.number target i)
 
     new-user : may_be_on h.kind h.number (server_of made h.target) ≡ true

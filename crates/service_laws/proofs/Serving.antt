@@ -25,12 +25,12 @@ use Rattle.pps_types.specs.Names.{Path, same_path, last_name, place, find_at, is
 use Rattle.pps_types.specs.OpenText.{OpenSpec, open_text, path_text}
 use Rattle.pps_types.specs.Text.{WriteText, write_text}
 use Rattle.pps_types.specs.Outbox.{first_of}
-use Rattle.pps_types.specs.Reading.{Open, reseen, is_directory_kind, Answer, Everything, Blocks, Needs, TargetGone, Waits, Nothing}
-use Rattle.pps_types.specs.Rests.{Seen}
+use Rattle.pps_types.specs.Reading.{OpenHandle, reseen, is_directory_kind, Answer, Everything, Blocks, Needs, TargetGone, Waits, Nothing}
+use Rattle.pps_types.specs.Rests.{Progress}
 use Rattle.pps_types.specs.Content.{Object, Directory, LiveObject, Content, at, directory_at, object_at, object_numbered, handle_numbered, handles_of, has_object_handle, is_attached, queue_of, news, read_answer, own_handle}
 use Rattle.pps_types.specs.Checks.{Refuse, Memory, first_refusal, parsed, is_server, Addressee, Everyone, OneClient, Nobody, addressee, found_as, is_used, handle_checks, object_checks, all_checks, name_checks, open_checks, letters_fit, mode_fits, on_path, unlink_checks, unlink_found, checks}
 use Rattle.pps_types.specs.Plan.{Move, Leaves, Creates, AppendsRecord, Opens, Closes, Queues, apply_seen, apply_all_seen, touched, entry_of, offer, caught_up, left, new_object, new_handle, kind_opened, target_of, found_object, opening, sent, written_kind, writing, on_target, parting, closing, closings, unlinking, received, read_effect, with_result, effect, settling, settling_handle, fired, late_replies, late_reply, had_news, all_checks_of, passes_last_number, decided, plan, step_seen}
-use Rattle.pps_types.specs.WellFormed.{AreRising, is_server_of, has_server, server_of, may_be_on}
+use Rattle.pps_types.specs.WellFormed.{RiseBetween, is_server_of, has_server, server_of, may_be_on}
 use Rattle.pps_types.proofs.Lists.{all-without_first}
 use Rattle.service_laws.proofs.Settlings.{all-append, all-or, all-cond, moves-append, find-map}
 use Rattle.service_laws.proofs.Finds.{OfSome, all-both, all-imp, all-left, all-filter, all-find, find-true, find-without, none-all}
@@ -65,10 +65,10 @@ calm-parks n size c s = served-changed c n (λ h. record h { parked = size }) (r
 calm-arms : (n : ℕ) (pulse : Option (ℕ × ℕ)) → IsCalm (Move.Arms n pulse)
 calm-arms n pulse c s = served-changed c n (λ h. record h { armed = pulse }) (record { number = λ h. refl; kind = λ h. refl; target = λ h. refl }) s
 
-calm-target : (c : Content) (h : Open Seen) (kind : Kind) (writer : Option ℕ) → is_deletion kind ≡ false → AreCalm (on_target c h kind writer)
+calm-target : (c : Content) (h : OpenHandle Progress) (kind : Kind) (writer : Option ℕ) → is_deletion kind ≡ false → AreCalm (on_target c h kind writer)
 calm-target c h kind writer e = all-or IsCalm _ (λ o. ((λ d s. served-stays d (entry_of o.object kind writer) e s), tt)) (object_numbered c h.target)
 
-late_reply-calm : (h : Open Seen) (a : Answer) → AreCalm (late_reply h a)
+late_reply-calm : (h : OpenHandle Progress) (a : Answer) → AreCalm (late_reply h a)
 late_reply-calm h (Everything text) = (calm-catches h.number, (calm-parks h.number None, ((λ c s. s), tt)))
 late_reply-calm h (Blocks count text) = (calm-passes h.number count, (calm-parks h.number None, ((λ c s. s), tt)))
 late_reply-calm h (Needs need) = (calm-parks h.number None, ((λ c s. s), tt))
@@ -85,7 +85,7 @@ unfolding settling
 settling-calm before c = calm-flat (settling_handle before c) (λ h. all-cond IsCalm (not (had_news before h) && news h) (fired h ++ late_replies c h) []
     (all-append IsCalm (fired h) (late_replies c h) (all-or IsCalm _ (λ pulse. (calm-arms h.number None, ((λ c s. s), tt))) h.armed) (all-or IsCalm _ (λ size. late_reply-calm h (read_answer c h size)) h.parked)) tt) c.handles
 
-read-calm : (h : Open Seen) (size : ℕ) (a : Answer) → AreCalm (read_effect h size a).1
+read-calm : (h : OpenHandle Progress) (size : ℕ) (a : Answer) → AreCalm (read_effect h size a).1
 read-calm h size (Everything text) = (calm-catches h.number, tt)
 read-calm h size (Blocks count text) = (calm-passes h.number count, tt)
 read-calm h size Waits = (calm-parks h.number (Some size), tt)
@@ -93,7 +93,7 @@ read-calm h size (Needs need) = tt
 read-calm h size TargetGone = tt
 read-calm h size Nothing = tt
 
-written-stays : (c : Content) (h : Open Seen) (k : HandleKind) (text : WriteText) → is_deletion (written_kind c h k text) ≡ false
+written-stays : (c : Content) (h : OpenHandle Progress) (k : HandleKind) (text : WriteText) → is_deletion (written_kind c h k text) ≡ false
 written-stays c h ServerHandle text = by (addressee h.name text.header) _
   where
     by : (a : Addressee) (lines : List _) → is_deletion (sent a lines) ≡ false
@@ -105,7 +105,7 @@ written-stays c h NamesHandle text = refl
 written-stays c h (ObjectHandle delta) text = refl
 written-stays c h (DirectoryHandle delta) text = refl
 
-writing-calm : (c : Content) (h : Open Seen) (text : WriteText) → AreCalm (writing c h text)
+writing-calm : (c : Content) (h : OpenHandle Progress) (text : WriteText) → AreCalm (writing c h text)
 writing-calm c h text = all-cond IsCalm (is_empty text.lines) [] _ tt (calm-target c h (written_kind c h h.kind text) (Some h.number) (written-stays c h h.kind text))
 
 calm-outcome : {X : Type 0} (f : X → Outcome × List Move) → ((x : X) → AreCalm (f x).1) → (o : Option X) → AreCalm (option_map_or f o (Done, [])).1
@@ -123,33 +123,33 @@ received-calm conn (Some i) = ((λ c s. s), tt)
 -- ---- Close
 
 -- the handle stands, whatever else is known of it by now
-record IsIn (c : Content) (h : Open Seen) : Type 0 where
-  pub now : Open Seen
+record IsIn (c : Content) (h : OpenHandle Progress) : Type 0 where
+  pub now : OpenHandle Progress
   pub found : handle_numbered c h.number ≡ Some now
   pub same_kind : now.kind ≡ h.kind
   pub same_target : now.target ≡ h.target
 
-in-may : (c : Content) → Served c → (h : Open Seen) → IsIn c h → may_be_on h.kind h.number (server_of c h.target) ≡ true
+in-may : (c : Content) → Served c → (h : OpenHandle Progress) → IsIn c h → may_be_on h.kind h.number (server_of c h.target) ≡ true
 in-may c s h i =
     let may = all-find (MayBe c) (λ g. eqb g.number h.number) c.handles i.now s.1 i.found in
-    let own : i.now.number ≡ h.number = eqb-true i.now.number h.number (find-true (λ (g : Open Seen). eqb g.number h.number) c.handles i.now i.found) in
+    let own : i.now.number ≡ h.number = eqb-true i.now.number h.number (find-true (λ (g : OpenHandle Progress). eqb g.number h.number) c.handles i.now i.found) in
     sym (λ k. may_be_on (i.same_kind k) (own k) (server_of c (i.same_target k))) ∙ may
 
 -- other numbers are found as before
-closed-other : (c : Content) (n k : ℕ) (g : Open Seen) → handle_numbered c k ≡ Some g → eqb k n ≡ false → handle_numbered (apply_seen (Closes n) c) k ≡ Some g
+closed-other : (c : Content) (n k : ℕ) (g : OpenHandle Progress) → handle_numbered c k ≡ Some g → eqb k n ≡ false → handle_numbered (apply_seen (Closes n) c) k ≡ Some g
 closed-other c n k g e other =
-    let own : g.number ≡ k = eqb-true g.number k (find-true (λ (h : Open Seen). eqb h.number k) c.handles g e) in
-    find-without (λ (h : Open Seen). eqb h.number k) (λ h. eqb h.number n) c.handles g e (ap (λ m. eqb m n) own ∙ other)
+    let own : g.number ≡ k = eqb-true g.number k (find-true (λ (h : OpenHandle Progress). eqb h.number k) c.handles g e) in
+    find-without (λ (h : OpenHandle Progress). eqb h.number k) (λ h. eqb h.number n) c.handles g e (ap (λ m. eqb m n) own ∙ other)
 
 closed-server : (c : Content) (n k t : ℕ) → is_server_of c t k ≡ true → eqb k n ≡ false → is_server_of (apply_seen (Closes n) c) t k ≡ true
 closed-server c n k t e other = go (handle_numbered c k) refl e
   where
-    go : (o : Option (Open Seen)) → handle_numbered c k ≡ o → option_map_or (λ h. is_server h.kind && eqb h.target t) o false ≡ true → is_server_of (apply_seen (Closes n) c) t k ≡ true
+    go : (o : Option (OpenHandle Progress)) → handle_numbered c k ≡ o → option_map_or (λ h. is_server h.kind && eqb h.target t) o false ≡ true → is_server_of (apply_seen (Closes n) c) t k ≡ true
     go None f e = absurd (let h = e in cc)
     go (Some g) f e = ap (λ o. option_map_or (λ h. is_server h.kind && eqb h.target t) o false) (closed-other c n k g f other) ∙ e
 
 -- a handle that is no server's goes
-closed-plain : (c : Content) (h : Open Seen) → IsIn c h → is_server h.kind ≡ false → Served c → Served (apply_seen (Closes h.number) c)
+closed-plain : (c : Content) (h : OpenHandle Progress) → IsIn c h → is_server h.kind ≡ false → Served c → Served (apply_seen (Closes h.number) c)
 closed-plain c h i plain s = (
   all-imp (λ (o : LiveObject). has_server c o.object ≡ true) (λ (o : LiveObject). has_server (apply_seen (Closes h.number) c) o.object ≡ true) (λ o. server-mono c (apply_seen (Closes h.number) c) (λ n t e. closed-server c h.number n t e (other n t e)) o.object) c.objects s.0,
   all-without_first (MayBe c) (λ g. eqb g.number h.number) c.handles s.1,
@@ -157,13 +157,13 @@ closed-plain c h i plain s = (
   where
     other : (n t : ℕ) → is_server_of c t n ≡ true → eqb n h.number ≡ false
     other n t e = ne_eqb n h.number (λ is.
-        let no : is_server_of c t n ≡ false = ap (is_server_of c t) is ∙ ap (λ o. option_map_or (λ (g : Open Seen). is_server g.kind && eqb g.target t) o false) i.found ∙ ap (λ b. b && eqb i.now.target t) (ap is_server i.same_kind ∙ plain) in
+        let no : is_server_of c t n ≡ false = ap (is_server_of c t) is ∙ ap (λ o. option_map_or (λ (g : OpenHandle Progress). is_server g.kind && eqb g.target t) o false) i.found ∙ ap (λ b. b && eqb i.now.target t) (ap is_server i.same_kind ∙ plain) in
         cc)
 
 -- what is left where a server's handle has gone and its object has not yet
-abbrev Parted : Content → Open Seen → Type 0
+abbrev Parted : Content → OpenHandle Progress → Type 0
 Parted d h = AllByRecursion (λ (o : LiveObject). eqb h.target o.object.number ≡ false → has_server d o.object ≡ true) d.objects
-    × AllByRecursion (λ (g : Open Seen). MayBe d g × ((is_server g.kind && eqb h.target g.target) ≡ false)) d.handles
+    × AllByRecursion (λ (g : OpenHandle Progress). MayBe d g × ((is_server g.kind && eqb h.target g.target) ≡ false)) d.handles
 
 named-server : (k : HandleKind) (n t : ℕ) (o : Option (Option ℕ)) → is_server k ≡ true → may_be_on k n o ≡ true → o ≡ Some (Some n)
 named-server ServerHandle n t (Some (Some s)) e p = ap (λ s. Some (Some s)) (eqb-true s n p)
@@ -174,11 +174,11 @@ named-server NamesHandle n t o e p = absurd (let h = e in cc)
 named-server (ObjectHandle d) n t o e p = absurd (let h = e in cc)
 named-server (DirectoryHandle d) n t o e p = absurd (let h = e in cc)
 
-closed-parted : (c : Content) (h : Open Seen) → Order c → IsIn c h → is_server h.kind ≡ true → Served c → Parted (apply_seen (Closes h.number) c) h
+closed-parted : (c : Content) (h : OpenHandle Progress) → Order c → IsIn c h → is_server h.kind ≡ true → Served c → Parted (apply_seen (Closes h.number) c) h
 closed-parted c h r i server s = (
   all-imp (λ (o : LiveObject). has_server c o.object ≡ true) (λ (o : LiveObject). eqb h.target o.object.number ≡ false → has_server after o.object ≡ true) one c.objects s.0,
-  all-imp (λ (g : Open Seen). MayBe c g × (eqb g.number h.number ≡ false)) (λ (g : Open Seen). MayBe after g × ((is_server g.kind && eqb h.target g.target) ≡ false)) (λ g p. (p.0, two g p.0 p.1 (is_server g.kind) refl (eqb h.target g.target) refl)) after.handles
-      (all-both _ _ after.handles (all-without_first (MayBe c) (λ g. eqb g.number h.number) c.handles s.1) (none-left (λ (g : Open Seen). g.number) h.number 0 c.next_handle c.handles r.0)),
+  all-imp (λ (g : OpenHandle Progress). MayBe c g × (eqb g.number h.number ≡ false)) (λ (g : OpenHandle Progress). MayBe after g × ((is_server g.kind && eqb h.target g.target) ≡ false)) (λ g p. (p.0, two g p.0 p.1 (is_server g.kind) refl (eqb h.target g.target) refl)) after.handles
+      (all-both _ _ after.handles (all-without_first (MayBe c) (λ g. eqb g.number h.number) c.handles s.1) (none-left (λ (g : OpenHandle Progress). g.number) h.number 0 c.next_handle c.handles r.0)),
 )
   where
     after : Content
@@ -193,12 +193,12 @@ closed-parted c h r i server s = (
         go : (k : Option ℕ) → option_map_or (is_server_of c o.object.number) k true ≡ true → option_map_or (is_server_of after o.object.number) k true ≡ true
         go None e = refl
         go (Some n) e = closed-server c h.number n o.object.number e (ne_eqb n h.number (λ is.
-            let found : is_server_of c o.object.number n ≡ (is_server i.now.kind && eqb i.now.target o.object.number) = ap (is_server_of c o.object.number) is ∙ ap (λ f. option_map_or (λ (g : Open Seen). is_server g.kind && eqb g.target o.object.number) f false) i.found in
+            let found : is_server_of c o.object.number n ≡ (is_server i.now.kind && eqb i.now.target o.object.number) = ap (is_server_of c o.object.number) is ∙ ap (λ f. option_map_or (λ (g : OpenHandle Progress). is_server g.kind && eqb g.target o.object.number) f false) i.found in
             let no : (is_server i.now.kind && eqb i.now.target o.object.number) ≡ (is_server h.kind && false) = (λ k. is_server (i.same_kind k) && (ap (λ t. eqb t o.object.number) i.same_target ∙ other) k) in
             let off : (is_server h.kind && false) ≡ false = ap (λ b. b && false) server in
             cc))
 
-    two : (g : Open Seen) → MayBe c g → eqb g.number h.number ≡ false → (a : Bool) → is_server g.kind ≡ a → (b : Bool) → eqb h.target g.target ≡ b → (a && b) ≡ false
+    two : (g : OpenHandle Progress) → MayBe c g → eqb g.number h.number ≡ false → (a : Bool) → is_server g.kind ≡ a → (b : Bool) → eqb h.target g.target ≡ b → (a && b) ≡ false
     two g may other false e b f = refl
     two g may other true e false f = refl
     two g may other true e true f =
@@ -209,10 +209,10 @@ closed-parted c h r i server s = (
         absurd (let no = other in cc)
 
 -- and its object goes
-parted-served : (d : Content) (h : Open Seen) (o : Object) → o.number ≡ h.target → Parted d h → Served (apply_seen (AppendsRecord (entry_of o Deleted None)) d)
+parted-served : (d : Content) (h : OpenHandle Progress) (o : Object) → o.number ≡ h.target → Parted d h → Served (apply_seen (AppendsRecord (entry_of o Deleted None)) d)
 parted-served d h o own p = (
   all-left (λ (x : LiveObject). eqb h.target x.object.number ≡ false → has_server d x.object ≡ true) (λ (x : LiveObject). has_server after x.object ≡ true) (touched e) one d.objects p.0,
-  users-happens d e (all-imp (λ (g : Open Seen). MayBe d g × ((is_server g.kind && eqb h.target g.target) ≡ false)) (λ (g : Open Seen). MayBe d g × ((is_server g.kind && (eqb e.record_of.object g.target && is_deletion e.record_of.kind)) ≡ false)) (λ g q. (q.0, by (is_server g.kind) (eqb o.number g.target) (eqb h.target g.target) (ap (λ n. eqb n g.target) own) q.1)) d.handles p.1),
+  users-happens d e (all-imp (λ (g : OpenHandle Progress). MayBe d g × ((is_server g.kind && eqb h.target g.target) ≡ false)) (λ (g : OpenHandle Progress). MayBe d g × ((is_server g.kind && (eqb e.record_of.object g.target && is_deletion e.record_of.kind)) ≡ false)) (λ g q. (q.0, by (is_server g.kind) (eqb o.number g.target) (eqb h.target g.target) (ap (λ n. eqb n g.target) own) q.1)) d.handles p.1),
 )
   where
     e : Entry
@@ -236,11 +236,11 @@ parted-served d h o own p = (
 
 -- ---- the whole close
 
-served-target : (c : Content) (h : Open Seen) (d : Content) → Parted d h → (o : Option LiveObject) → object_numbered c h.target ≡ o → is_some o ≡ true → Served (apply_all_seen (option_map_or (λ (o : LiveObject). AppendsRecord (entry_of o.object Deleted None) ∷ []) o []) d)
+served-target : (c : Content) (h : OpenHandle Progress) (d : Content) → Parted d h → (o : Option LiveObject) → object_numbered c h.target ≡ o → is_some o ≡ true → Served (apply_all_seen (option_map_or (λ (o : LiveObject). AppendsRecord (entry_of o.object Deleted None) ∷ []) o []) d)
 served-target c h d p None f some = absurd (let no = some in cc)
 served-target c h d p (Some o) f some = parted-served d h o.object (eqb-true o.object.number h.target (find-true (λ (x : LiveObject). eqb x.object.number h.target) c.objects o f)) p
 
-closing-by : (c : Content) (h : Open Seen) → Order c → Served c → IsIn c h → (k : HandleKind) → h.kind ≡ k → (q : List Move) → ((d : Content) → Served d → Served (apply_all_seen q d)) → ((d : Content) → Parted d h → Parted (apply_all_seen q d) h)
+closing-by : (c : Content) (h : OpenHandle Progress) → Order c → Served c → IsIn c h → (k : HandleKind) → h.kind ≡ k → (q : List Move) → ((d : Content) → Served d → Served (apply_all_seen q d)) → ((d : Content) → Parted d h → Parted (apply_all_seen q d) h)
     → Served (apply_all_seen (parting c h k) (apply_all_seen q (apply_seen (Closes h.number) c)))
 closing-by c h r s i ServerHandle e q keeps parts =
     served-target c h (apply_all_seen q (apply_seen (Closes h.number) c)) (parts (apply_seen (Closes h.number) c) (closed-parted c h r i (ap is_server e) s)) (object_numbered c h.target) refl (stands (object_numbered c h.target) (named-server h.kind h.number h.target (server_of c h.target) (ap is_server e) (in-may c s h i)))
@@ -254,7 +254,7 @@ closing-by c h r s i (DirectoryHandle delta) e q keeps parts = keeps _ (closed-p
 closing-by c h r s i (ObjectHandle delta) e q keeps parts =
     calm-after (cond (h.options.critical && h.writes) (on_target c h Dropped None) []) (all-cond IsCalm (h.options.critical && h.writes) (on_target c h Dropped None) [] (calm-target c h Dropped None refl) tt) _ (keeps _ (closed-plain c h i (ap is_server e) s))
 
-closing-served : (c : Content) (h : Open Seen) → Order c → Served c → IsIn c h → Served (apply_all_seen (closing c h) c)
+closing-served : (c : Content) (h : OpenHandle Progress) → Order c → Served c → IsIn c h → Served (apply_all_seen (closing c h) c)
 closing-served c h r s i = go (is_some h.parked)
   where
     queue : Bool → List Move
@@ -266,9 +266,9 @@ closing-served c h r s i = go (is_some h.parked)
 
 -- others stand as before
 abbrev IsLoose : Move → Type 0
-IsLoose x = (c : Content) (h : Open Seen) → IsIn c h → IsIn (apply_seen x c) h
+IsLoose x = (c : Content) (h : OpenHandle Progress) → IsIn c h → IsIn (apply_seen x c) h
 
-loose-after : (xs : List Move) → AllByRecursion IsLoose xs → (c : Content) (h : Open Seen) → IsIn c h → IsIn (apply_all_seen xs c) h
+loose-after : (xs : List Move) → AllByRecursion IsLoose xs → (c : Content) (h : OpenHandle Progress) → IsIn c h → IsIn (apply_all_seen xs c) h
 loose-after [] loose c h i = i
 loose-after (x ∷ xs) loose c h i = loose-after xs loose.1 (apply_seen x c) h (loose.0 c h i)
 
@@ -283,39 +283,39 @@ loose-happens e c h i = record {
 loose-queues : (conn : ℕ) (item : Item) → IsLoose (Queues conn item)
 loose-queues conn item c h i = record { now = i.now; found = i.found; same_kind = i.same_kind; same_target = i.same_target }
 
-loose-target : (c : Content) (h : Open Seen) (kind : Kind) (writer : Option ℕ) → AllByRecursion IsLoose (on_target c h kind writer)
+loose-target : (c : Content) (h : OpenHandle Progress) (kind : Kind) (writer : Option ℕ) → AllByRecursion IsLoose (on_target c h kind writer)
 loose-target c h kind writer = all-or IsLoose _ (λ o. (loose-happens (entry_of o.object kind writer), tt)) (object_numbered c h.target)
 
-loose-parting : (c : Content) (h : Open Seen) (k : HandleKind) → AllByRecursion IsLoose (parting c h k)
+loose-parting : (c : Content) (h : OpenHandle Progress) (k : HandleKind) → AllByRecursion IsLoose (parting c h k)
 loose-parting c h ServerHandle = loose-target c h _ None
 loose-parting c h ClientHandle = loose-target c h _ None
 loose-parting c h NamesHandle = tt
 loose-parting c h (ObjectHandle delta) = all-cond IsLoose (h.options.critical && h.writes) _ [] (loose-target c h Dropped None) tt
 loose-parting c h (DirectoryHandle delta) = tt
 
-closing-in : (c : Content) (h g : Open Seen) → h.number < g.number → IsIn c g → IsIn (apply_all_seen (closing c h) c) g
+closing-in : (c : Content) (h g : OpenHandle Progress) → h.number < g.number → IsIn c g → IsIn (apply_all_seen (closing c h) c) g
 closing-in c h g lt i = loose-after ((cond (is_some h.parked) (Queues h.connection (ReadDone h.number (Err BadHandle)) ∷ []) []) ++ parting c h h.kind)
     (all-append IsLoose _ (parting c h h.kind) (all-cond IsLoose (is_some h.parked) (Queues h.connection (ReadDone h.number (Err BadHandle)) ∷ []) [] (loose-queues h.connection (ReadDone h.number (Err BadHandle)), tt) tt) (loose-parting c h h.kind))
     (apply_seen (Closes h.number) c) g
     (record { now = i.now; found = closed-other c h.number g.number i.now i.found (ne_eqb g.number h.number (λ is. absurd (omega arith))); same_kind = i.same_kind; same_target = i.same_target })
 
-closings-served : (hs : List (Open Seen)) (c : Content) (low high : ℕ) → Basis c → Served c → AreRising low (map (λ (h : Open Seen). h.number) hs) high → AllByRecursion (IsIn c) hs → Served (apply_all_seen (closings c hs) c)
+closings-served : (hs : List (OpenHandle Progress)) (c : Content) (low high : ℕ) → Basis c → Served c → RiseBetween low (map (λ (h : OpenHandle Progress). h.number) hs) high → AllByRecursion (IsIn c) hs → Served (apply_all_seen (closings c hs) c)
 closings-served [] c low high b s r all = s
 closings-served (h ∷ hs) c low high b s r all =
     let next = apply_all_seen (closing c h) c in
     subst Served (sym (moves-append (closing c h) (closings next hs) c))
     (closings-served hs next (h.number + 1) high (basis-after (closing c h) c b (safe-fit (closing c h) c (closing-safe c h))) (closing-served c h b.order s all.0) r.1
-    (all-imp (λ (g : Open Seen). (h.number + 1 ≤ g.number) × IsIn c g) (IsIn next) (λ g p. closing-in c h g (let le = p.0 in omega arith) p.1) hs (all-both _ _ hs (rising-above (λ (h : Open Seen). h.number) (h.number + 1) high hs r.1) all.1)))
+    (all-imp (λ (g : OpenHandle Progress). (h.number + 1 ≤ g.number) × IsIn c g) (IsIn next) (λ g p. closing-in c h g (let le = p.0 in omega arith) p.1) hs (all-both _ _ hs (rising-above (λ (h : OpenHandle Progress). h.number) (h.number + 1) high hs r.1) all.1)))
 
-rising-filter : (test : Open Seen → Bool) (low high : ℕ) (xs : List (Open Seen)) → AreRising low (map (λ (h : Open Seen). h.number) xs) high → AreRising low (map (λ (h : Open Seen). h.number) (filter test xs)) high
+rising-filter : (test : OpenHandle Progress → Bool) (low high : ℕ) (xs : List (OpenHandle Progress)) → RiseBetween low (map (λ (h : OpenHandle Progress). h.number) xs) high → RiseBetween low (map (λ (h : OpenHandle Progress). h.number) (filter test xs)) high
 rising-filter test low high [] r = r
-rising-filter test low high (x ∷ xs) r = elim (test x) as (λ b. AreRising low (map (λ (h : Open Seen). h.number) (cond b (x ∷ filter test xs) (filter test xs))) high)
-    [ true ↦ (r.0, rising-filter test (x.number + 1) high xs r.1) | false ↦ rising-lower (x.number + 1) low high (map (λ (h : Open Seen). h.number) (filter test xs)) (omega (arith, r.0)) (rising-filter test (x.number + 1) high xs r.1) ]
+rising-filter test low high (x ∷ xs) r = elim (test x) as (λ b. RiseBetween low (map (λ (h : OpenHandle Progress). h.number) (cond b (x ∷ filter test xs) (filter test xs))) high)
+    [ true ↦ (r.0, rising-filter test (x.number + 1) high xs r.1) | false ↦ rising-lower (x.number + 1) low high (map (λ (h : OpenHandle Progress). h.number) (filter test xs)) (omega (arith, r.0)) (rising-filter test (x.number + 1) high xs r.1) ]
 
 leaving-served : (c : Content) (conn : ℕ) → Basis c → Served c → Served (apply_all_seen (closings c (handles_of c conn) ++ Leaves conn ∷ []) c)
 leaving-served c conn b s = subst Served (sym (moves-append (closings c (handles_of c conn)) (Leaves conn ∷ []) c))
     (closings-served (handles_of c conn) c 0 c.next_handle b s (rising-filter (λ h. eqb h.connection conn) 0 c.next_handle c.handles b.order.0)
-    (all-filter (IsIn c) (λ h. eqb h.connection conn) c.handles (all-imp (λ (h : Open Seen). handle_numbered c h.number ≡ Some h) (IsIn c) (λ h e. record { now = h; found = e; same_kind = refl; same_target = refl }) c.handles (found-each (λ (h : Open Seen). h.number) 0 c.next_handle c.handles b.order.0))))
+    (all-filter (IsIn c) (λ h. eqb h.connection conn) c.handles (all-imp (λ (h : OpenHandle Progress). handle_numbered c h.number ≡ Some h) (IsIn c) (λ h e. record { now = h; found = e; same_kind = refl; same_target = refl }) c.handles (found-each (λ (h : OpenHandle Progress). h.number) 0 c.next_handle c.handles b.order.0))))
 
 -- ---- Unlink
 
@@ -328,15 +328,15 @@ at-own c r names o e = let f = object-found c names o e in object-own c r (of_na
 
 -- no server's handle is on it
 abbrev Unserved : Content → ℕ → Type 0
-Unserved c t = AllByRecursion (λ (h : Open Seen). (is_server h.kind && (eqb t h.target && true)) ≡ false) c.handles
+Unserved c t = AllByRecursion (λ (h : OpenHandle Progress). (is_server h.kind && (eqb t h.target && true)) ≡ false) c.handles
 
 deleted-served : (c : Content) (o : LiveObject) → Served c → Unserved c o.object.number → Served (apply_seen (AppendsRecord (entry_of o.object Deleted None)) c)
 deleted-served c o s none = served-happens c (entry_of o.object Deleted None) s.0 (all-both _ _ c.handles s.1 none)
 
 plain-unserved : (c : Content) (o : LiveObject) → object_numbered c o.object.number ≡ Some o → is_some o.object.server ≡ false → Users c → Unserved c o.object.number
-plain-unserved c o own plain users = all-imp (MayBe c) (λ (h : Open Seen). (is_server h.kind && (eqb o.object.number h.target && true)) ≡ false) (λ h may. go h may (is_server h.kind) refl (eqb o.object.number h.target) refl) c.handles users
+plain-unserved c o own plain users = all-imp (MayBe c) (λ (h : OpenHandle Progress). (is_server h.kind && (eqb o.object.number h.target && true)) ≡ false) (λ h may. go h may (is_server h.kind) refl (eqb o.object.number h.target) refl) c.handles users
   where
-    go : (h : Open Seen) → MayBe c h → (a : Bool) → is_server h.kind ≡ a → (b : Bool) → eqb o.object.number h.target ≡ b → (a && (b && true)) ≡ false
+    go : (h : OpenHandle Progress) → MayBe c h → (a : Bool) → is_server h.kind ≡ a → (b : Bool) → eqb o.object.number h.target ≡ b → (a && (b && true)) ≡ false
     go h may false e b f = refl
     go h may true e false f = refl
     go h may true e true f =
@@ -405,10 +405,10 @@ first-false true b e = e
 first-false false b e = refl
 
 unused : (c : Content) (t : ℕ) → has_object_handle c t ≡ false → Unserved c t
-unused c t e = all-imp (λ (h : Open Seen). (not (is_directory_kind h.kind) && eqb h.target t) ≡ false) (λ (h : Open Seen). (is_server h.kind && (eqb t h.target && true)) ≡ false) (λ h q. by h.target h.kind (eqb h.target t) refl (eqb t h.target) refl q) c.handles
-    (none-all (λ (h : Open Seen). not (is_directory_kind h.kind) && eqb h.target t) c.handles (go (find (λ (h : Open Seen). not (is_directory_kind h.kind) && eqb h.target t) c.handles) e))
+unused c t e = all-imp (λ (h : OpenHandle Progress). (not (is_directory_kind h.kind) && eqb h.target t) ≡ false) (λ (h : OpenHandle Progress). (is_server h.kind && (eqb t h.target && true)) ≡ false) (λ h q. by h.target h.kind (eqb h.target t) refl (eqb t h.target) refl q) c.handles
+    (none-all (λ (h : OpenHandle Progress). not (is_directory_kind h.kind) && eqb h.target t) c.handles (go (find (λ (h : OpenHandle Progress). not (is_directory_kind h.kind) && eqb h.target t) c.handles) e))
   where
-    go : (o : Option (Open Seen)) → is_some o ≡ false → o ≡ None
+    go : (o : Option (OpenHandle Progress)) → is_some o ≡ false → o ≡ None
     go None e = refl
     go (Some h) e = absurd (let no = e in cc)
 
@@ -426,7 +426,7 @@ module _ (c : Content) (b : Basis c) (s : Served c) (conn : ℕ) (mode : Mode) (
       → Served (apply_seen (Opens (new_handle c conn mode spec found)) (apply_seen (Creates (new_object c spec)) d))
   open-new-served d db ds next number found all only = go spec.options.server refl
     where
-      H : Open (Unit {0})
+      H : OpenHandle (Unit {0})
       H = new_handle c conn mode spec found
 
       N : Object
@@ -449,7 +449,7 @@ module _ (c : Content) (b : Basis c) (s : Served c) (conn : ℕ) (mode : Mode) (
   open-found-served : spec.all ≡ false → (o : LiveObject) → object_at c spec.names ≡ Some o → (spec.options.server ≡ true → Unserved c o.object.number) → Served (apply_all_seen (opening c conn mode spec (Some o)) c)
   open-found-served all o found unserved = go spec.options.server refl (is_some o.object.server) refl mode.t
     where
-      H : Open (Unit {0})
+      H : OpenHandle (Unit {0})
       H = new_handle c conn mode spec (Some o)
 
       its : server_of c o.object.number ≡ Some o.object.server
@@ -520,9 +520,9 @@ module _ (c : Content) (b : Basis c) (s : Served c) (conn : ℕ) (mode : Mode) (
 close-served : (c : Content) (conn handle : ℕ) → Basis c → Served c → Served (apply_all_seen (option_map_or {U = Outcome × List Move} (λ h. (Done, closing c h)) (own_handle c conn handle) (Done, [])).1 c)
 close-served c conn handle b s = go (own_handle c conn handle) refl
   where
-    go : (o : Option (Open Seen)) → own_handle c conn handle ≡ o → Served (apply_all_seen (option_map_or {U = Outcome × List Move} (λ h. (Done, closing c h)) o (Done, [])).1 c)
+    go : (o : Option (OpenHandle Progress)) → own_handle c conn handle ≡ o → Served (apply_all_seen (option_map_or {U = Outcome × List Move} (λ h. (Done, closing c h)) o (Done, [])).1 c)
     go None e = s
-    go (Some h) e = closing-served c h b.order s (record { now = h; found = all-find (λ (g : Open Seen). handle_numbered c g.number ≡ Some g) (λ g. eqb g.number handle && eqb g.connection conn) c.handles h (found-each (λ (g : Open Seen). g.number) 0 c.next_handle c.handles b.order.0) e; same_kind = refl; same_target = refl })
+    go (Some h) e = closing-served c h b.order s (record { now = h; found = all-find (λ (g : OpenHandle Progress). handle_numbered c g.number ≡ Some g) (λ g. eqb g.number handle && eqb g.connection conn) c.handles h (found-each (λ (g : OpenHandle Progress). g.number) 0 c.next_handle c.handles b.order.0) e; same_kind = refl; same_target = refl })
 
 pub effect-served : (c : Content) (conn : ℕ) (request : Request) → Basis c → Served c → first_refusal (checks c conn request) ≡ None → Served (apply_all_seen (effect c conn request).1 c)
 unfolding checks effect

@@ -5,8 +5,8 @@ use Rattle.std.proofs.lemmas.Grind.{flat_map-append}
 use Rattle.std.specs.Option.{option_map_or}
 use Rattle.std.specs.List.{filter_map, flat_map, AllByRecursion, list_any, list_all}
 use Rattle.pps_types.specs.History.{Entry}
-use Rattle.pps_types.specs.Reading.{Open, visible}
-use Rattle.pps_types.specs.Rests.{Seen}
+use Rattle.pps_types.specs.Reading.{OpenHandle, visible}
+use Rattle.pps_types.specs.Rests.{Progress}
 use Rattle.pps_types.specs.Content.{Content, news, handle_numbered, read_answer, is_waiting, learns}
 use Rattle.pps_types.specs.Plan.{Move, apply_all_seen, settling, settling_handle, had_news, fired, late_replies, late_reply, Arms, Queues}
 use Rattle.pps_types.specs.declared.outcome.Item.TheVariants.{Pulse}
@@ -19,19 +19,19 @@ use Rattle.service_laws.proofs.SettlingHandles.{handles-after, handle_after-numb
 use Rattle.service_laws.proofs.SettlingSight.{idle-made, handle_after-telling, news-given}
 
 -- it waits for nothing
-abbrev pub IsIdle : Open Seen → Type 0
+abbrev pub IsIdle : OpenHandle Progress → Type 0
 IsIdle h = is_waiting h ≡ false
 
 -- what follows for a handle that moves wake, by what stands after them
-abbrev pub woken : Content → List Entry → Open Seen → List Move
+abbrev pub woken : Content → List Entry → OpenHandle Progress → List Move
 woken d es h = fired h ++ late_replies d (offer_all es h)
 
 -- what follows for a handle that stood before
-abbrev settled_one : Content → List Move → Open Seen → List Move
+abbrev settled_one : Content → List Move → OpenHandle Progress → List Move
 settled_one d ms h = option_map_or (λ g. cond (not (news h) && news g) (fired g ++ late_replies d g) []) (handle_after ms h) []
 
 -- nothing follows for a handle that waits for nothing
-idle-none : (d : Content) (g : Open Seen) → IsIdle g → fired g ++ late_replies d g ≡ []
+idle-none : (d : Content) (g : OpenHandle Progress) → IsIdle g → fired g ++ late_replies d g ≡ []
 idle-none d g idle = go (λ pulse. Arms g.number None ∷ Queues g.connection (Pulse pulse.0 pulse.1) ∷ []) (λ size. late_reply g (read_answer d g size)) g.armed g.parked idle
   where
     go : (f : ℕ × ℕ → List Move) (k : ℕ → List Move) (a : Option (ℕ × ℕ)) (p : Option ℕ) → (is_some p || is_some a) ≡ false → option_map_or f a [] ++ option_map_or k p [] ≡ []
@@ -40,7 +40,7 @@ idle-none d g idle = go (λ pulse. Arms g.number None ∷ Queues g.connection (P
     go f k None (Some p) e = absurd (let no = e in cc)
     go f k (Some a) (Some p) e = absurd (let no = e in cc)
 
-idle-one : (before d : Content) (g : Open Seen) → IsIdle g → settling_handle before d g ≡ []
+idle-one : (before d : Content) (g : OpenHandle Progress) → IsIdle g → settling_handle before d g ≡ []
 idle-one before d g idle = by (not (had_news before g) && news g)
   where
     by : (b : Bool) → cond b (fired g ++ late_replies d g) [] ≡ []
@@ -48,22 +48,22 @@ idle-one before d g idle = by (not (had_news before g) && news g)
     by false = refl
 
 -- a handle that stood before: had_news is by its own news
-one-known : (before d : Content) (ms : List Move) (h : Open Seen) → handle_numbered before h.number ≡ Some h → option_map_or (settling_handle before d) (handle_after ms h) [] ≡ settled_one d ms h
+one-known : (before d : Content) (ms : List Move) (h : OpenHandle Progress) → handle_numbered before h.number ≡ Some h → option_map_or (settling_handle before d) (handle_after ms h) [] ≡ settled_one d ms h
 one-known before d ms h found = go (handle_after ms h) (handle_after-number ms h)
   where
-    go : (o : Option (Open Seen)) → OfSome (λ g. g.number ≡ h.number) o → option_map_or (settling_handle before d) o [] ≡ option_map_or (λ g. cond (not (news h) && news g) (fired g ++ late_replies d g) []) o []
+    go : (o : Option (OpenHandle Progress)) → OfSome (λ g. g.number ≡ h.number) o → option_map_or (settling_handle before d) o [] ≡ option_map_or (λ g. cond (not (news h) && news g) (fired g ++ late_replies d g) []) o []
     go None same = refl
     go (Some g) same = ap (λ b. cond (not b && news g) (fired g ++ late_replies d g) []) (ap (λ n. option_map_or news (handle_numbered before n) false) same ∙ ap (λ o. option_map_or news o false) found)
 
 -- who had news, or sees none of the records, plays no part
-one-untold : (d : Content) (ms : List Move) (h : Open Seen) → learns (entries_told ms) h ≡ false → settled_one d ms h ≡ []
+one-untold : (d : Content) (ms : List Move) (h : OpenHandle Progress) → learns (entries_told ms) h ≡ false → settled_one d ms h ≡ []
 one-untold d ms h e = by (news h) refl (list_any (visible h) (entries_told ms)) refl e
   where
-    quiet : (o : Option (Open Seen)) → OfSome (λ g. news g ≡ false) o → option_map_or (λ g. cond (news g) (fired g ++ late_replies d g) []) o [] ≡ []
+    quiet : (o : Option (OpenHandle Progress)) → OfSome (λ g. news g ≡ false) o → option_map_or (λ g. cond (news g) (fired g ++ late_replies d g) []) o [] ≡ []
     quiet None same = refl
     quiet (Some g) same = ap (λ b. cond b (fired g ++ late_replies d g) []) same
 
-    had : (o : Option (Open Seen)) → option_map_or {U = List Move} (λ g. []) o [] ≡ []
+    had : (o : Option (OpenHandle Progress)) → option_map_or {U = List Move} (λ g. []) o [] ≡ []
     had None = refl
     had (Some g) = refl
 
@@ -81,7 +81,7 @@ settling-each ms c r n idle =
     ∙ (λ i. flat_map-filter_map (settling_handle c d) (handle_after ms) c.handles i ++ flat_map-none (settling_handle c d) (handles_opened ms) (all-weaken {P = IsIdle} {Q = λ g. settling_handle c d g ≡ []} (idle-one c d) (handles_opened ms) idle) i)
     ∙ append-nil (flat_map (λ h. option_map_or (settling_handle c d) (handle_after ms h) []) c.handles)
     ∙ flat_map-same (λ h. option_map_or (settling_handle c d) (handle_after ms h) []) (settled_one d ms) c.handles
-    (all-weaken {P = λ h. handle_numbered c h.number ≡ Some h} {Q = λ h. option_map_or (settling_handle c d) (handle_after ms h) [] ≡ settled_one d ms h} (λ h found. one-known c d ms h found) c.handles (found-each (λ (h : Open Seen). h.number) 0 c.next_handle c.handles r))
+    (all-weaken {P = λ h. handle_numbered c h.number ≡ Some h} {Q = λ h. option_map_or (settling_handle c d) (handle_after ms h) [] ≡ settled_one d ms h} (λ h found. one-known c d ms h found) c.handles (found-each (λ (h : OpenHandle Progress). h.number) 0 c.next_handle c.handles r))
   where
     d : Content
     d = apply_all_seen ms c
@@ -99,7 +99,7 @@ settling-silent ms c r n idle silent =
 -- ---- moves that only tell
 
 -- a woken handle has news now
-one-woken : (d : Content) (ms : List Move) (h : Open Seen) → list_all only_tells ms ≡ true → is_woken ms h ≡ true → settled_one d ms h ≡ woken d (entries_told ms) h
+one-woken : (d : Content) (ms : List Move) (h : OpenHandle Progress) → list_all only_tells ms ≡ true → is_woken ms h ≡ true → settled_one d ms h ≡ woken d (entries_told ms) h
 one-woken d ms h tells wakes_up =
     let outer = and-both (is_waiting h && learns (entries_told ms) h) (not (list_any (closes_handle h.number) ms)) wakes_up in
     let inner = and-both (not (news h)) (list_any (visible h) (entries_told ms)) (and-both (is_waiting h) (learns (entries_told ms) h) outer.0).1 in
@@ -113,10 +113,10 @@ one-woken d ms h tells wakes_up =
     turned true e = absurd (let no = e in cc)
     turned false e = refl
 
-one-asleep : (d : Content) (ms : List Move) (h : Open Seen) → list_all only_tells ms ≡ true → is_woken ms h ≡ false → settled_one d ms h ≡ []
+one-asleep : (d : Content) (ms : List Move) (h : OpenHandle Progress) → list_all only_tells ms ≡ true → is_woken ms h ≡ false → settled_one d ms h ≡ []
 one-asleep d ms h tells e = by (is_waiting h) refl (learns (entries_told ms) h) refl (list_any (closes_handle h.number) ms) refl e
   where
-    g : Open Seen
+    g : OpenHandle Progress
     g = offer_all (entries_told ms) h
 
     either : (b : Bool) → IsIdle h → cond b (fired g ++ late_replies d g) [] ≡ []

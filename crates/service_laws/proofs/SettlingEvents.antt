@@ -18,8 +18,8 @@ use Rattle.pps_types.specs.declared.handle_kind.HandleKind.TheVariants.{Object a
 use Rattle.pps_types.specs.OpenText.{OpenSpec, open_text, path_text}
 use Rattle.pps_types.specs.Text.{write_text}
 use Rattle.pps_types.specs.Outbox.{first_of}
-use Rattle.pps_types.specs.Reading.{Open, style, visible, Answer, Everything, Blocks, Needs, TargetGone, Waits, Nothing}
-use Rattle.pps_types.specs.Rests.{Seen}
+use Rattle.pps_types.specs.Reading.{OpenHandle, style, visible, Answer, Everything, Blocks, Needs, TargetGone, Waits, Nothing}
+use Rattle.pps_types.specs.Rests.{Progress}
 use Rattle.pps_types.specs.Content.{Content, LiveObject, Directory, object_numbered, object_at, directory_at, own_handle, handles_of, queue_of, news, read_answer, is_waiting, learns}
 use Rattle.pps_types.specs.WellFormed.{fits}
 use Rattle.pps_types.specs.Plan.{Move, Attaches, Leaves, Creates, AppendsRecord, Opens, Closes, CatchesUp, Advances, Parks, Arms, Queues, Takes, MakesDirectory, RemovesDirectory, apply_seen, apply_all_seen, effect, settling, preparing, new_handle, written_kind, on_target, closing, closings, parting, unlinking, received, read_effect, with_result, found_object}
@@ -121,20 +121,20 @@ telling-all : (xs : List Move) → AreTelling xs → list_all only_tells xs ≡ 
 telling-all [] p = refl
 telling-all (x ∷ xs) p = rw p.0 (telling-all xs p.1)
 
-on_target-telling : (c : Content) (h : Open Seen) (kind : Kind) (writer : Option ℕ) → AreTelling (on_target c h kind writer)
+on_target-telling : (c : Content) (h : OpenHandle Progress) (kind : Kind) (writer : Option ℕ) → AreTelling (on_target c h kind writer)
 on_target-telling c h kind writer = of-option AreTelling tt _ (λ o. (refl, tt)) (object_numbered c h.target)
 
-parting-telling : (c : Content) (h : Open Seen) (k : HandleKind) → AreTelling (parting c h k)
+parting-telling : (c : Content) (h : OpenHandle Progress) (k : HandleKind) → AreTelling (parting c h k)
 parting-telling c h ServerHandle = on_target-telling c h _ None
 parting-telling c h ClientHandle = on_target-telling c h _ None
 parting-telling c h NamesHandle = tt
 parting-telling c h (ObjectHandle delta) = of-either AreTelling (h.options.critical && h.writes) _ [] (on_target-telling c h Dropped None) tt
 parting-telling c h (DirectoryHandle delta) = tt
 
-closing-telling : (c : Content) (h : Open Seen) → AreTelling (closing c h)
+closing-telling : (c : Content) (h : OpenHandle Progress) → AreTelling (closing c h)
 closing-telling c h = (refl, all-append IsTelling _ (parting c h h.kind) (of-either AreTelling (is_some h.parked) _ [] (refl, tt) tt) (parting-telling c h h.kind))
 
-closings-telling : (c : Content) (hs : List (Open Seen)) → AreTelling (closings c hs)
+closings-telling : (c : Content) (hs : List (OpenHandle Progress)) → AreTelling (closings c hs)
 closings-telling c [] = tt
 closings-telling c (h ∷ hs) = all-append IsTelling (closing c h) (closings (apply_all_seen (closing c h) c) hs) (closing-telling c h) (closings-telling (apply_all_seen (closing c h) c) hs)
 
@@ -155,7 +155,7 @@ received-telling conn (Some i) = (refl, tt)
 abbrev IsSilent : List Move → Type 0
 IsSilent xs = entries_told xs ≡ []
 
-pub read_effect-silent : (h : Open Seen) (size : ℕ) (a : Answer) → entries_told (read_effect h size a).1 ≡ []
+pub read_effect-silent : (h : OpenHandle Progress) (size : ℕ) (a : Answer) → entries_told (read_effect h size a).1 ≡ []
 read_effect-silent h size (Everything text) = refl
 read_effect-silent h size (Blocks count text) = refl
 read_effect-silent h size Waits = refl
@@ -164,7 +164,7 @@ read_effect-silent h size TargetGone = refl
 read_effect-silent h size Nothing = refl
 
 -- who wakes where no record is told
-pub nobody : (ms : List Move) (hs : List (Open Seen)) → entries_told ms ≡ [] → filter (is_woken ms) hs ≡ []
+pub nobody : (ms : List Move) (hs : List (OpenHandle Progress)) → entries_told ms ≡ [] → filter (is_woken ms) hs ≡ []
 nobody ms [] e = refl
 nobody ms (h ∷ hs) e = ap (λ b. cond b (h ∷ filter (is_woken ms) hs) (filter (is_woken ms) hs)) (ap (λ es. is_waiting h && (not (news h) && list_any (visible h) es) && not (list_any (closes_handle h.number) ms)) e ∙ by (is_waiting h) (not (news h)) (not (list_any (closes_handle h.number) ms))) ∙ nobody ms hs e
   where
@@ -207,7 +207,7 @@ pub turned : (b : Bool) → not b ≡ true → b ≡ false
 turned true e = absurd (let bad = e in cc)
 turned false e = refl
 
-pub woken-parts : (ms : List Move) (h : Open Seen) → is_woken ms h ≡ true → (is_waiting h ≡ true) × (news h ≡ false) × (list_any (visible h) (entries_told ms) ≡ true) × (list_any (closes_handle h.number) ms ≡ false)
+pub woken-parts : (ms : List Move) (h : OpenHandle Progress) → is_woken ms h ≡ true → (is_waiting h ≡ true) × (news h ≡ false) × (list_any (visible h) (entries_told ms) ≡ true) × (list_any (closes_handle h.number) ms ≡ false)
 woken-parts ms h e =
     let outer = and-both (is_waiting h && learns (entries_told ms) h) (not (list_any (closes_handle h.number) ms)) e in
     let inner = and-both (is_waiting h) (learns (entries_told ms) h) outer.0 in

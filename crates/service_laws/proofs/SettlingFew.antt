@@ -16,8 +16,8 @@ use Rattle.pps_types.specs.Names.{last_name}
 use Rattle.pps_types.specs.OpenText.{OpenSpec, open_text, path_text}
 use Rattle.pps_types.specs.Text.{write_text}
 use Rattle.pps_types.specs.Outbox.{first_of}
-use Rattle.pps_types.specs.Reading.{Open, Answer}
-use Rattle.pps_types.specs.Rests.{Seen}
+use Rattle.pps_types.specs.Reading.{OpenHandle, Answer}
+use Rattle.pps_types.specs.Rests.{Progress}
 use Rattle.pps_types.specs.Content.{Content, LiveObject, Directory, object_numbered, object_at, directory_at, parent_number, own_handle, queue_of, read_answer}
 use Rattle.pps_types.specs.Plan.{Move, Creates, AppendsRecord, Opens, Closes, Queues, entry_of, effect, opening, new_object, new_handle, written_kind, on_target, closing, parting, unlinking, received, read_effect, found_object}
 use Rattle.service_laws.proofs.Finds.{and-both, find-true}
@@ -31,17 +31,17 @@ module _ (c : Content) where
   abbrev Few : List Move → Type 0
   Few xs = AreFew c (entries_told xs)
 
-  few-target : (h : Open Seen) (kind : Kind) (writer : Option ℕ) → Few (on_target c h kind writer)
+  few-target : (h : OpenHandle Progress) (kind : Kind) (writer : Option ℕ) → Few (on_target c h kind writer)
   few-target h kind writer = of-option Few tt _ (λ o. tt) (object_numbered c h.target)
 
-  few-parting : (h : Open Seen) (k : HandleKind) → Few (parting c h k)
+  few-parting : (h : OpenHandle Progress) (k : HandleKind) → Few (parting c h k)
   few-parting h ServerHandle = few-target h _ None
   few-parting h ClientHandle = few-target h _ None
   few-parting h NamesHandle = tt
   few-parting h (ObjectHandle delta) = of-either Few (h.options.critical && h.writes) _ [] (few-target h Dropped None) tt
   few-parting h (DirectoryHandle delta) = tt
 
-  few-closing : (h : Open Seen) → Few (closing c h)
+  few-closing : (h : OpenHandle Progress) → Few (closing c h)
   few-closing h = by (is_some h.parked)
     where
       by : (b : Bool) → Few (Closes h.number ∷ (cond b (Queues h.connection (Item.ReadDone h.number (Err BadHandle)) ∷ []) []) ++ parting c h h.kind)
@@ -80,7 +80,7 @@ module _ (c : Content) where
           by false false true = tt
           by false false false = tt
 
-  few-read : (h : Open Seen) (size : ℕ) (a : Answer) → Few (read_effect h size a).1
+  few-read : (h : OpenHandle Progress) (size : ℕ) (a : Answer) → Few (read_effect h size a).1
   few-read h size a = rw (read_effect-silent h size a) tt
 
   few-unlinking : (o : Option LiveObject) (d : Option Directory) → Few (unlinking o d)

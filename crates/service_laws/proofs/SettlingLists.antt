@@ -3,7 +3,7 @@ use Rattle.std.proofs.Common.{◌≡◌, ℕ, ◌+◌, ◌≤◌, ◌<◌, Bool,
 use Rattle.std.specs.Prelude.{filter}
 use Rattle.std.specs.Option.{option_map_or}
 use Rattle.std.specs.List.{filter_map, flat_map, cons_option, AllByRecursion}
-use Rattle.pps_types.specs.WellFormed.{AreRising}
+use Rattle.pps_types.specs.WellFormed.{RiseBetween}
 use Rattle.pps_types.proofs.Lists.{all-weaken}
 use Rattle.service_laws.proofs.Rising.{rising-above}
 
@@ -55,5 +55,5 @@ module _ {X : Type 0} where
   filter-same p q (x ∷ xs) all = λ i. cond (all.0 i) (x ∷ filter-same p q xs all.1 i) (filter-same p q xs all.1 i)
 
   -- behind the first all numbers are higher
-  pub rising-behind : (number : X → ℕ) (n high : ℕ) (xs : List X) → AreRising (n + 1) (map number xs) high → AllByRecursion (λ x. n < number x) xs
+  pub rising-behind : (number : X → ℕ) (n high : ℕ) (xs : List X) → RiseBetween (n + 1) (map number xs) high → AllByRecursion (λ x. n < number x) xs
   rising-behind number n high xs r = all-weaken {P = λ x. n + 1 ≤ number x} {Q = λ x. n < number x} (λ x le. omega (arith, le)) xs (rising-above number (n + 1) high xs r)

@@ -8,10 +8,10 @@ use Rattle.pps_types.specs.declared.event.Request.{Request}
 use Rattle.pps_types.specs.declared.event.Request.TheVariants.{Detach}
 use Rattle.pps_types.specs.History.{Entry}
 use Rattle.pps_types.specs.Outbox.{put_rising}
-use Rattle.pps_types.specs.Reading.{Open, visible, concerns, is_directory_kind}
-use Rattle.pps_types.specs.Rests.{Seen}
+use Rattle.pps_types.specs.Reading.{OpenHandle, visible, concerns, is_directory_kind}
+use Rattle.pps_types.specs.Rests.{Progress}
 use Rattle.pps_types.specs.Content.{Content}
-use Rattle.pps_types.specs.WellFormed.{AreRising, IsContent, IsTarget}
+use Rattle.pps_types.specs.WellFormed.{RiseBetween, IsContent, IsTarget}
 use Rattle.pps_types.specs.Plan.{Move, effect}
 use Rattle.pps_types.proofs.Lists.{all-all, all-weaken}
 use Rattle.service_laws.proofs.Finds.{and-both, all-filter}
@@ -23,7 +23,7 @@ use Rattle.service_laws.proofs.SettlingFew.{effect-few}
 
 -- ---- whom a plan looks up
 
-filter-within : (p q : Open Seen → Bool) → ((h : Open Seen) → p h ≡ true → q h ≡ true) → (hs : List (Open Seen)) → filter p hs ≡ filter p (filter q hs)
+filter-within : (p q : OpenHandle Progress → Bool) → ((h : OpenHandle Progress) → p h ≡ true → q h ≡ true) → (hs : List (OpenHandle Progress)) → filter p hs ≡ filter p (filter q hs)
 filter-within p q into [] = refl
 filter-within p q into (h ∷ hs) = by (p h) refl (q h) refl (filter-within p q into hs)
   where
@@ -42,40 +42,40 @@ any-into p q into (x ∷ xs) e = by (p x) refl (q x) refl e (any-into p q into x
     by true ea false eb e rest = absurd (let yes = into x ea in cc)
     by false ea false eb e rest = rest e
 
-visible-concerns : (h : Open Seen) (e : Entry) → visible h e ≡ true → concerns h e ≡ true
+visible-concerns : (h : OpenHandle Progress) (e : Entry) → visible h e ≡ true → concerns h e ≡ true
 visible-concerns h e v = (and-both (concerns h e) _ v).0
 
-woken-concerned : (ms : List Move) (h : Open Seen) → is_woken ms h ≡ true → is_concerned (entries_told ms) h ≡ true
+woken-concerned : (ms : List Move) (h : OpenHandle Progress) → is_woken ms h ≡ true → is_concerned (entries_told ms) h ≡ true
 woken-concerned ms h e = any-into (visible h) (concerns h) (visible-concerns h) (entries_told ms) (woken-parts ms h e).2
 
 -- Only handles on the objects of the records, and on their directories, wake.
-pub woken-among : (ms : List Move) (hs : List (Open Seen)) → filter (is_woken ms) hs ≡ filter (is_woken ms) (filter (is_concerned (entries_told ms)) hs)
+pub woken-among : (ms : List Move) (hs : List (OpenHandle Progress)) → filter (is_woken ms) hs ≡ filter (is_woken ms) (filter (is_concerned (entries_told ms)) hs)
 woken-among ms hs = filter-within (is_woken ms) (is_concerned (entries_told ms)) (woken-concerned ms) hs
 
 -- ---- two lists of handles as one
 
-put-first : (h : Open Seen) (ys : List (Open Seen)) → AllByRecursion (λ y. h.number < y.number) ys → put_rising (λ g. g.number) h ys ≡ h ∷ ys
+put-first : (h : OpenHandle Progress) (ys : List (OpenHandle Progress)) → AllByRecursion (λ y. h.number < y.number) ys → put_rising (λ g. g.number) h ys ≡ h ∷ ys
 put-first h [] all = refl
 put-first h (y ∷ ys) all = ap (λ b. cond b (h ∷ y ∷ ys) (y ∷ put_rising (λ g. g.number) h ys)) (lower h.number y.number all.0)
   where
     lower : (a b : ℕ) → a < b → nat_lt a b ≡ true
     lower a b lt = grind (arith, nat_tests, lt)
 
-merged-behind : (h : Open Seen) (xs ys : List (Open Seen)) → AllByRecursion (λ x. h.number < x.number) xs → merged xs (h ∷ ys) ≡ h ∷ merged xs ys
+merged-behind : (h : OpenHandle Progress) (xs ys : List (OpenHandle Progress)) → AllByRecursion (λ x. h.number < x.number) xs → merged xs (h ∷ ys) ≡ h ∷ merged xs ys
 merged-behind h [] ys all = refl
 merged-behind h (x ∷ xs) ys all = ap (λ b. merged xs (cond b (x ∷ h ∷ ys) (h ∷ put_rising (λ g. g.number) x ys))) (higher x.number h.number all.0) ∙ merged-behind h xs (put_rising (λ g. g.number) x ys) all.1
   where
     higher : (a b : ℕ) → b < a → nat_lt a b ≡ false
     higher a b lt = grind (arith, nat_tests, lt)
 
-filter-merged : (p q both : Open Seen → Bool) → ((h : Open Seen) → both h ≡ (p h || q h)) → ((h : Open Seen) → p h ≡ true → q h ≡ false) → (low high : ℕ) (hs : List (Open Seen)) → AreRising low (map (λ h. h.number) hs) high
+filter-merged : (p q both : OpenHandle Progress → Bool) → ((h : OpenHandle Progress) → both h ≡ (p h || q h)) → ((h : OpenHandle Progress) → p h ≡ true → q h ≡ false) → (low high : ℕ) (hs : List (OpenHandle Progress)) → RiseBetween low (map (λ h. h.number) hs) high
     → filter both hs ≡ merged (filter p hs) (filter q hs)
 filter-merged p q both either apart low high [] r = refl
 filter-merged p q both either apart low high (h ∷ hs) r =
     ap (λ b. cond b (h ∷ filter both hs) (filter both hs)) (either h) ∙ by (p h) refl (q h) refl (filter-merged p q both either apart (h.number + 1) high hs r.1)
   where
-    above : (test : Open Seen → Bool) → AllByRecursion (λ x. h.number < x.number) (filter test hs)
-    above test = all-filter (λ x. h.number < x.number) test hs (rising-behind (λ (h : Open Seen). h.number) h.number high hs r.1)
+    above : (test : OpenHandle Progress → Bool) → AllByRecursion (λ x. h.number < x.number) (filter test hs)
+    above test = all-filter (λ x. h.number < x.number) test hs (rising-behind (λ (h : OpenHandle Progress). h.number) h.number high hs r.1)
 
     by : (a : Bool) → p h ≡ a → (b : Bool) → q h ≡ b → filter both hs ≡ merged (filter p hs) (filter q hs) → cond (a || b) (h ∷ filter both hs) (filter both hs) ≡ merged (cond a (h ∷ filter p hs) (filter p hs)) (cond b (h ∷ filter q hs) (filter q hs))
     by true ea true eb rest = absurd (let bad = apart h ea in cc)
@@ -84,12 +84,12 @@ filter-merged p q both either apart low high (h ∷ hs) r =
     by false ea false eb rest = rest
 
 -- The handles that records concern: those on their objects, and those on their directories, in rising number.
-pub concerned-merged : (es : List Entry) (low high : ℕ) (hs : List (Open Seen)) → AreRising low (map (λ h. h.number) hs) high
+pub concerned-merged : (es : List Entry) (low high : ℕ) (hs : List (OpenHandle Progress)) → RiseBetween low (map (λ h. h.number) hs) high
     → filter (is_concerned es) hs ≡ merged (filter (λ h. list_any (λ e. is_on_object e.record_of.object h) es) hs) (filter (λ h. list_any (λ e. is_on_directory e.directory h) es) hs)
 concerned-merged es low high hs r =
     filter-merged (λ h. list_any (λ e. is_on_object e.record_of.object h) es) (λ h. list_any (λ e. is_on_directory e.directory h) es) (is_concerned es) (either es) (apart es) low high hs r
   where
-    either : (es : List Entry) (h : Open Seen) → is_concerned es h ≡ (list_any (λ e. is_on_object e.record_of.object h) es || list_any (λ e. is_on_directory e.directory h) es)
+    either : (es : List Entry) (h : OpenHandle Progress) → is_concerned es h ≡ (list_any (λ e. is_on_object e.record_of.object h) es || list_any (λ e. is_on_directory e.directory h) es)
     either es h = go (is_directory_kind h.kind) es
       where
         or-false : (k a b : Bool) → (cond k b a || false) ≡ (cond k b a)
@@ -110,7 +110,7 @@ concerned-merged es low high hs r =
             right true = refl
             right false = refl
 
-    apart : (es : List Entry) (h : Open Seen) → list_any (λ e. is_on_object e.record_of.object h) es ≡ true → list_any (λ e. is_on_directory e.directory h) es ≡ false
+    apart : (es : List Entry) (h : OpenHandle Progress) → list_any (λ e. is_on_object e.record_of.object h) es ≡ true → list_any (λ e. is_on_directory e.directory h) es ≡ false
     apart es h = go (is_directory_kind h.kind) es
       where
         none : (p : Entry → Bool) (es : List Entry) → list_any (λ e. false && p e) es ≡ false
@@ -141,7 +141,7 @@ one-record ms c e r one =
 none-on : (c : Content) → IsContent c → (n : ℕ) → c.next_object ≤ n → AllByRecursion (λ h. is_on_object n h ≡ false) c.handles
 none-on c w n new = all-weaken {P = λ h. IsTarget c h.target (is_directory_kind h.kind)} {Q = λ h. is_on_object n h ≡ false} (λ h p. by h (is_directory_kind h.kind) p) c.handles w.held.targets
   where
-    by : (h : Open Seen) (b : Bool) → IsTarget c h.target b → (not b && (n == h.target)) ≡ false
+    by : (h : OpenHandle Progress) (b : Bool) → IsTarget c h.target b → (not b && (n == h.target)) ≡ false
     by h true p = refl
     by h false p = ne_eqb n h.target (λ is. absurd (omega (arith, is, new, p)))
 

@@ -8,8 +8,8 @@ use Rattle.std.specs.Option.{option_map_or}
 use Rattle.std.specs.List.{flat_map, list_any, list_all}
 use Rattle.pps_types.specs.declared.outcome.Item.{Item}
 use Rattle.pps_types.specs.History.{Entry}
-use Rattle.pps_types.specs.Reading.{Open, Member, visible, Answer, Everything, Blocks, Needs, TargetGone, Waits, Nothing}
-use Rattle.pps_types.specs.Rests.{Seen}
+use Rattle.pps_types.specs.Reading.{OpenHandle, Member, visible, Answer, Everything, Blocks, Needs, TargetGone, Waits, Nothing}
+use Rattle.pps_types.specs.Rests.{Progress}
 use Rattle.pps_types.specs.Content.{Connection, Content, connection_numbered, queue_of}
 use Rattle.pps_types.specs.Outbox.{behind_first}
 use Rattle.pps_types.specs.Runs.{queued_by}
@@ -118,7 +118,7 @@ queue-after xs c conn e = ap (λ o. option_map_or (λ (x : Connection). x.queue)
 
 -- ---- what a woken handle is given
 
-module _ (h : Open Seen) (es : List Entry) (dead : Bool) (members : List Member) where
+module _ (h : OpenHandle Progress) (es : List Entry) (dead : Bool) (members : List Member) where
   abbrev pulses : Option (ℕ × ℕ) → List Move
   pulses a = option_map_or (λ pulse. Arms h.number None ∷ Queues h.connection (Item.Pulse pulse.0 pulse.1) ∷ []) a []
 

@@ -6,8 +6,8 @@ use Rattle.std.specs.Option.{option_map_or}
 use Rattle.std.specs.List.{list_any}
 use Rattle.pps_types.specs.Bytes.{is_empty}
 use Rattle.pps_types.specs.History.{Entry}
-use Rattle.pps_types.specs.Reading.{Open, style, visible, block, Member, is_full_style, is_delta_style, owed_answer, whole_answer, blocks_answer, fitting, Answer, Everything, Blocks, Needs, TargetGone, Waits, Nothing, everything_of}
-use Rattle.pps_types.specs.Rests.{Seen, seen_of, seen_with, rest_of, is_over, answer}
+use Rattle.pps_types.specs.Reading.{OpenHandle, style, visible, block, Member, is_full_style, is_delta_style, owed_answer, whole_answer, blocks_answer, fitting, Answer, Everything, Blocks, Needs, TargetGone, Waits, Nothing, everything_of}
+use Rattle.pps_types.specs.Rests.{Progress, seen_of, seen_with, rest_of, is_over, answer}
 use Rattle.pps_types.specs.Content.{Content, news, read_answer, target_is_dead, target_members}
 use Rattle.pps_types.specs.Owed.{is_past_limit}
 use Rattle.pps_types.specs.WellFormed.{fits}
@@ -30,11 +30,11 @@ map-some f [] = refl
 map-some f (x ∷ xs) = refl
 
 -- what a read answers that finds this seen
-abbrev answered : Open Seen → Seen → Bool → List Member → ℕ → Answer
+abbrev answered : OpenHandle Progress → Progress → Bool → List Member → ℕ → Answer
 answered h s dead members size = answer h s (everything_of h.kind h.options.filter (is_over s) (not dead) members) dead size
 
 -- the records stand behind all that it has read
-answered-rest : (h : Open Seen) (es : List Entry) (dead : Bool) (members : List Member) (size : ℕ) → h.reads ≡ true → list_any (visible h) es ≡ true → answered h (seen_of h (rest_of h es)) dead members size ≡ late_answer h es dead members size
+answered-rest : (h : OpenHandle Progress) (es : List Entry) (dead : Bool) (members : List Member) (size : ℕ) → h.reads ≡ true → list_any (visible h) es ≡ true → answered h (seen_of h (rest_of h es)) dead members size ≡ late_answer h es dead members size
 answered-rest h es dead members size reads any =
     ap (λ over. answer h (seen_with h es (Some 0)) (everything_of h.kind h.options.filter over (not dead) members) dead size) (over-same h es (Some 0))
     ∙ answer-same h es (Some 0) everything dead size reads
@@ -52,13 +52,13 @@ answered-rest h es dead members size reads any =
     both false = refl
 
 -- The answer to the parked read of a handle that had no news and sees one of the records.
-pub late-answer : (c : Content) (h : Open Seen) (es : List Entry) (size : ℕ) → fits (style h.kind) h.seen ≡ true → news h ≡ false → list_any (visible h) es ≡ true
+pub late-answer : (c : Content) (h : OpenHandle Progress) (es : List Entry) (size : ℕ) → fits (style h.kind) h.seen ≡ true → news h ≡ false → list_any (visible h) es ≡ true
     → read_answer c (offer_all es h) size ≡ late_answer h es (target_is_dead c h) (target_members c h) size
 late-answer c h es size fit none any =
     ap (λ s. answered h s (target_is_dead c h) (target_members c h) size) (seen-given h es fit none any)
     ∙ answered-rest h es (target_is_dead c h) (target_members c h) size (any-reads h es any) any
 
-late-moves : (h : Open Seen) (es : List Entry) (a : Answer) → late_reply (offer_all es h) a ≡ late_reply h a
+late-moves : (h : OpenHandle Progress) (es : List Entry) (a : Answer) → late_reply (offer_all es h) a ≡ late_reply h a
 late-moves h es (Everything text) = refl
 late-moves h es (Blocks count text) = refl
 late-moves h es (Needs need) = refl
@@ -67,7 +67,7 @@ late-moves h es Waits = refl
 late-moves h es Nothing = refl
 
 -- What follows for a woken handle.
-pub woken-follows : (c : Content) (h : Open Seen) (es : List Entry) → fits (style h.kind) h.seen ≡ true → news h ≡ false → list_any (visible h) es ≡ true → woken c es h ≡ follows_in c es h
+pub woken-follows : (c : Content) (h : OpenHandle Progress) (es : List Entry) → fits (style h.kind) h.seen ≡ true → news h ≡ false → list_any (visible h) es ≡ true → woken c es h ≡ follows_in c es h
 woken-follows c h es fit none any = ap (λ ms. fired h ++ ms) (go h.parked)
   where
     go : (p : Option ℕ) → option_map_or (λ size. late_reply (offer_all es h) (read_answer c (offer_all es h) size)) p [] ≡ option_map_or (λ size. late_reply h (late_answer h es (target_is_dead c h) (target_members c h) size)) p []
@@ -88,7 +88,7 @@ given-owed : (wait : Bool) (bs : List (List ℕ)) (dead : Bool) (size : ℕ) →
 given-owed wait [] dead size some = absurd (let no = some in cc)
 given-owed wait (b ∷ bs) dead size some = elim (nat_le (length b) size) as (λ k. is_given (cond k (blocks_answer (fitting size (b ∷ bs))) (Needs (length b))) ≡ true) [ true ↦ refl | false ↦ refl ]
 
-pub late-given : (h : Open Seen) (es : List Entry) (dead : Bool) (members : List Member) (size : ℕ) → list_any (visible h) es ≡ true → is_given (late_answer h es dead members size) ≡ true
+pub late-given : (h : OpenHandle Progress) (es : List Entry) (dead : Bool) (members : List Member) (size : ℕ) → list_any (visible h) es ≡ true → is_given (late_answer h es dead members size) ≡ true
 late-given h es dead members size any = by (gives_everything h es)
   where
     everything : List ℕ
@@ -99,7 +99,7 @@ late-given h es dead members size any = by (gives_everything h es)
     by false = given-owed h.options.wait (map (block h) (visible_to h es)) false size (map-some (block h) (visible_to h es) ∙ any-some (visible h) es ∙ any)
 
 -- one record alone passes no limit of 1 or more
-pub one-within : (h : Open Seen) (e : Entry) → 1 ≤ h.limit → is_past_limit h (visible_to h (e ∷ [])) ≡ false
+pub one-within : (h : OpenHandle Progress) (e : Entry) → 1 ≤ h.limit → is_past_limit h (visible_to h (e ∷ [])) ≡ false
 one-within h e le = by (is_delta_style (style h.kind)) (visible h e)
   where
     within : (n m : ℕ) → m ≤ n → nat_lt n m ≡ false

@@ -6,8 +6,8 @@ use Rattle.std.specs.Option.{option_map_or}
 use Rattle.std.specs.List.{flat_map, AllByRecursion}
 use Rattle.pps_types.specs.declared.outcome.Item.{Item}
 use Rattle.pps_types.specs.History.{Entry}
-use Rattle.pps_types.specs.Reading.{Open, Member, Answer, Everything, Blocks, Needs, TargetGone, Waits, Nothing}
-use Rattle.pps_types.specs.Rests.{Seen}
+use Rattle.pps_types.specs.Reading.{OpenHandle, Member, Answer, Everything, Blocks, Needs, TargetGone, Waits, Nothing}
+use Rattle.pps_types.specs.Rests.{Progress}
 use Rattle.pps_types.specs.Content.{Content, read_answer}
 use Rattle.pps_types.specs.Plan.{Move, Arms, Queues, apply_all_seen, fired, late_reply}
 use Rattle.service_laws.proofs.Settlings.{all-append, all-or}
@@ -21,15 +21,15 @@ use Rattle.service_laws.proofs.SettlingObjects.{objects-after, silent-objects}
 objects-stay : (ms : List Move) (c : Content) → entries_told ms ≡ [] → (apply_all_seen ms c).objects ≡ c.objects
 objects-stay ms c silent = objects-after ms c ∙ silent-objects ms c.objects silent
 
-pub answer-stays : (ms : List Move) (c : Content) (h : Open Seen) (size : ℕ) → entries_told ms ≡ [] → read_answer (apply_all_seen ms c) h size ≡ read_answer c h size
+pub answer-stays : (ms : List Move) (c : Content) (h : OpenHandle Progress) (size : ℕ) → entries_told ms ≡ [] → read_answer (apply_all_seen ms c) h size ≡ read_answer c h size
 answer-stays ms c h size silent = ap (λ os. read_answer (record c { objects = os }) h size) (objects-stay ms c silent)
 
-follows-stays : (ms : List Move) (c : Content) (es : List Entry) (h : Open Seen) → entries_told ms ≡ [] → follows_in (apply_all_seen ms c) es h ≡ follows_in c es h
+follows-stays : (ms : List Move) (c : Content) (es : List Entry) (h : OpenHandle Progress) → entries_told ms ≡ [] → follows_in (apply_all_seen ms c) es h ≡ follows_in c es h
 follows-stays ms c es h silent = ap (λ os. follows_in (record c { objects = os }) es h) (objects-stay ms c silent)
 
 -- ---- what follows for a handle tells no record
 
-reply-silent : (h : Open Seen) (a : Answer) → entries_told (late_reply h a) ≡ []
+reply-silent : (h : OpenHandle Progress) (a : Answer) → entries_told (late_reply h a) ≡ []
 reply-silent h (Everything text) = refl
 reply-silent h (Blocks count text) = refl
 reply-silent h (Needs need) = refl
@@ -37,7 +37,7 @@ reply-silent h TargetGone = refl
 reply-silent h Waits = refl
 reply-silent h Nothing = refl
 
-follows-silent : (h : Open Seen) (es : List Entry) (dead : Bool) (members : List Member) → entries_told (pulse_and_reply h es dead members) ≡ []
+follows-silent : (h : OpenHandle Progress) (es : List Entry) (dead : Bool) (members : List Member) → entries_told (pulse_and_reply h es dead members) ≡ []
 follows-silent h es dead members = filter_map-append entry_told (fired h) (option_map_or (λ size. late_reply h (late_answer h es dead members size)) h.parked []) ∙ (λ i. pulses h.armed i ++ replies h.parked i)
   where
     pulses : (a : Option (ℕ × ℕ)) → entries_told (option_map_or (λ pulse. Arms h.number None ∷ Queues h.connection (Item.Pulse pulse.0 pulse.1) ∷ []) a []) ≡ []
@@ -49,31 +49,31 @@ follows-silent h es dead members = filter_map-append entry_told (fired h) (optio
     replies (Some size) = reply-silent h (late_answer h es dead members size)
 
 -- Each reply may be worked out where those before it were carried out: it is the same.
-pub in-turn : (hs : List (Open Seen)) (c : Content) (es : List Entry) → follows_in_turn c es hs ≡ flat_map (follows_in c es) hs
+pub in-turn : (hs : List (OpenHandle Progress)) (c : Content) (es : List Entry) → follows_in_turn c es hs ≡ flat_map (follows_in c es) hs
 in-turn [] c es = refl
 in-turn (h ∷ hs) c es = ap (λ ms. follows_in c es h ++ ms) (in-turn hs (apply_all_seen (follows_in c es h) c) es ∙ same hs)
   where
-    same : (gs : List (Open Seen)) → flat_map (follows_in (apply_all_seen (follows_in c es h) c) es) gs ≡ flat_map (follows_in c es) gs
+    same : (gs : List (OpenHandle Progress)) → flat_map (follows_in (apply_all_seen (follows_in c es h) c) es) gs ≡ flat_map (follows_in c es) gs
     same [] = refl
     same (g ∷ gs) = λ i. follows-stays (follows_in c es h) c es g (follows-silent h es _ _) i ++ same gs i
 
 -- ---- it leaves every other handle
 
-abbrev IsLeft : Open Seen → Move → Type 0
+abbrev IsLeft : OpenHandle Progress → Move → Type 0
 IsLeft g x = handle_by x g ≡ Some g
 
-left-all : (xs : List Move) (g : Open Seen) → AllByRecursion (IsLeft g) xs → handle_after xs g ≡ Some g
+left-all : (xs : List Move) (g : OpenHandle Progress) → AllByRecursion (IsLeft g) xs → handle_after xs g ≡ Some g
 left-all [] g left = refl
 left-all (x ∷ xs) g left = ap (option_and_then (handle_after xs)) left.0 ∙ left-all xs g left.1
 
-pub others-left : (g h : Open Seen) (es : List Entry) (dead : Bool) (members : List Member) → (g.number == h.number) ≡ false → handle_after (pulse_and_reply h es dead members) g ≡ Some g
+pub others-left : (g h : OpenHandle Progress) (es : List Entry) (dead : Bool) (members : List Member) → (g.number == h.number) ≡ false → handle_after (pulse_and_reply h es dead members) g ≡ Some g
 others-left g h es dead members other =
     left-all (pulse_and_reply h es dead members) g
     (all-append (IsLeft g) (fired h) (option_map_or (λ size. late_reply h (late_answer h es dead members size)) h.parked [])
     (all-or (IsLeft g) (λ pulse. Arms h.number None ∷ Queues h.connection (Item.Pulse pulse.0 pulse.1) ∷ []) (λ pulse. (stays _, (refl, tt))) h.armed)
     (all-or (IsLeft g) (λ size. late_reply h (late_answer h es dead members size)) (λ size. replies (late_answer h es dead members size)) h.parked))
   where
-    stays : (k : Open Seen) → Some (cond (g.number == h.number) k g) ≡ Some g
+    stays : (k : OpenHandle Progress) → Some (cond (g.number == h.number) k g) ≡ Some g
     stays k = ap (λ b. Some (cond b k g)) other
 
     replies : (a : Answer) → AllByRecursion (IsLeft g) (late_reply h a)

@@ -5,8 +5,8 @@ use Rattle.std.proofs.lemmas.Bool.{eqb-true}
 use Rattle.std.specs.Option.{option_map_or}
 use Rattle.pps_types.specs.Names.{name_cmp, insert_by}
 use Rattle.pps_types.specs.History.{line_of}
-use Rattle.pps_types.specs.Reading.{Open, is_directory_kind}
-use Rattle.pps_types.specs.Rests.{Seen}
+use Rattle.pps_types.specs.Reading.{OpenHandle, is_directory_kind}
+use Rattle.pps_types.specs.Rests.{Progress}
 use Rattle.pps_types.specs.Content.{LiveObject, Content, members, member, target_members, target_is_dead}
 use Rattle.pps_types.specs.Plan.{Move, Attaches, Leaves, Creates, AppendsRecord, Opens, Closes, CatchesUp, Advances, Parks, Arms, Queues, Takes, MakesDirectory, RemovesDirectory, apply_seen, apply_all_seen}
 use Rattle.service_laws.proofs.Holders.{Basis, basis-kept}
@@ -45,14 +45,14 @@ members-all [] c directory new = refl
 members-all (x ∷ xs) c directory new = members-all xs (apply_seen x c) directory new.1 ∙ ap (members_after xs directory) (members-by c x directory new.0)
 
 -- The target of a handle after moves.
-pub target-all : (xs : List Move) (c : Content) (h : Open Seen) → NamesAreFree c xs → target_members (apply_all_seen xs c) h ≡ target_members_after c xs h
+pub target-all : (xs : List Move) (c : Content) (h : OpenHandle Progress) → NamesAreFree c xs → target_members (apply_all_seen xs c) h ≡ target_members_after c xs h
 target-all xs c h new = λ i. cond (is_directory_kind h.kind) (map member (members-all xs c h.target new i)) (record { name = h.name; lines = map line_of (option_map_or (λ (o : LiveObject). o.attributes) (found-all xs c h.target i) []) } ∷ [])
 
-pub dead-all : (xs : List Move) (c : Content) (h : Open Seen) → target_is_dead (apply_all_seen xs c) h ≡ target_is_dead_after c xs h
+pub dead-all : (xs : List Move) (c : Content) (h : OpenHandle Progress) → target_is_dead (apply_all_seen xs c) h ≡ target_is_dead_after c xs h
 dead-all xs c h = ap (λ o. not (is_directory_kind h.kind) && is_none o) (found-all xs c h.target)
 
 -- What follows for a handle, by what stood before.
-pub follows-before : (xs : List Move) (c : Content) (h : Open Seen) → NamesAreFree c xs → follows_in (apply_all_seen xs c) (entries_told xs) h ≡ follows c xs h
+pub follows-before : (xs : List Move) (c : Content) (h : OpenHandle Progress) → NamesAreFree c xs → follows_in (apply_all_seen xs c) (entries_told xs) h ≡ follows c xs h
 follows-before xs c h new = λ i. pulse_and_reply h (entries_told xs) (dead-all xs c h i) (target-all xs c h new i)
 
 -- ---- names that are free

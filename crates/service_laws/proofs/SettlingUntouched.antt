@@ -4,8 +4,8 @@ use Rattle.std.specs.Prelude.{◌==◌, option_and_then}
 use Rattle.std.specs.Option.{option_map_or}
 use Rattle.std.specs.List.{list_any}
 use Rattle.pps_types.specs.History.{Entry}
-use Rattle.pps_types.specs.Reading.{Open, reseen, concerns, visible, sees, is_chained}
-use Rattle.pps_types.specs.Rests.{pushed, Seen, News, Unread, Over, Owed, seen_of}
+use Rattle.pps_types.specs.Reading.{OpenHandle, reseen, concerns, visible, sees, is_chained}
+use Rattle.pps_types.specs.Rests.{pushed, Progress, News, Unread, Over, Owed, seen_of}
 use Rattle.pps_types.specs.Content.{Content}
 use Rattle.pps_types.specs.WellFormed.{AreTold, IsWhole}
 use Rattle.pps_types.specs.Plan.{Move, Attaches, Leaves, Creates, AppendsRecord, Opens, Closes, CatchesUp, Advances, Parks, Arms, Queues, Takes, MakesDirectory, RemovesDirectory, apply_seen, apply_all_seen, offered, creation, caught_up, left}
@@ -31,13 +31,13 @@ none-or : (b : Bool) → (b || false) ≡ b
 none-or true = refl
 none-or false = refl
 
-offered-untouched : (h : Open Seen) (e : Entry) → concerns h e ≡ false → (s : Seen) → IsWhole h s → offered h e s ≡ s
+offered-untouched : (h : OpenHandle Progress) (e : Entry) → concerns h e ≡ false → (s : Progress) → IsWhole h s → offered h e s ≡ s
 offered-untouched h e no-concern (News b) w = ap (λ v. News (b || (v && sees h e.record_of))) no-concern ∙ ap News (none-or b)
 offered-untouched h e no-concern Unread w = refl
 offered-untouched h e no-concern Over w = refl
 offered-untouched h e no-concern (Owed rest) w = ap (λ v. seen_of h (cond ((v && sees h e.record_of) || (v && is_chained h.kind e.record_of.kind)) (pushed (visible h) e rest) rest)) no-concern ∙ w
 
-pub offer_all-untouched : (es : List Entry) (h : Open Seen) → IsWhole h h.seen → is_concerned es h ≡ false → offer_all es h ≡ h
+pub offer_all-untouched : (es : List Entry) (h : OpenHandle Progress) → IsWhole h h.seen → is_concerned es h ≡ false → offer_all es h ≡ h
 offer_all-untouched es h w none = ap (λ s. record h { seen = s }) (go es none)
   where
     go : (es : List Entry) → list_any (concerns h) es ≡ false → seen_after h es h.seen ≡ h.seen
@@ -50,10 +50,10 @@ offer_all-untouched es h w none = ap (λ s. record h { seen = s }) (go es none)
 
 -- ---- moves that are not of a handle
 
-left-cond : (b : Bool) (g h : Open Seen) → b ≡ false → Some (cond b g h) ≡ Some h
+left-cond : (b : Bool) (g h : OpenHandle Progress) → b ≡ false → Some (cond b g h) ≡ Some h
 left-cond b g h e = ap (λ b. Some (cond b g h)) e
 
-left-by : (x : Move) (h : Open Seen) → IsWhole h h.seen → option_map_or (concerns h) (entry_told x) false ≡ false → names_handle h.number x ≡ false → handle_by x h ≡ Some h
+left-by : (x : Move) (h : OpenHandle Progress) → IsWhole h h.seen → option_map_or (concerns h) (entry_told x) false ≡ false → names_handle h.number x ≡ false → handle_by x h ≡ Some h
 left-by (Creates o) h w none other = ap (λ s. Some (record h { seen = s })) (offered-untouched h (creation o) none h.seen w)
 left-by (AppendsRecord e) h w none other = ap (λ s. Some (record h { seen = s })) (offered-untouched h e none h.seen w)
 left-by (Closes number) h w none other = ap (λ b. cond b None (Some h)) other
@@ -70,7 +70,7 @@ left-by (MakesDirectory path) h w none other = refl
 left-by (RemovesDirectory number) h w none other = refl
 
 -- A handle that no record concerns and no move is of, stays.
-pub handle_after-left : (xs : List Move) (h : Open Seen) → IsWhole h h.seen → is_concerned (entries_told xs) h ≡ false → list_any (names_handle h.number) xs ≡ false → handle_after xs h ≡ Some h
+pub handle_after-left : (xs : List Move) (h : OpenHandle Progress) → IsWhole h h.seen → is_concerned (entries_told xs) h ≡ false → list_any (names_handle h.number) xs ≡ false → handle_after xs h ≡ Some h
 handle_after-left [] h w none other = refl
 handle_after-left (x ∷ xs) h w none other =
     let concern = any-parts (concerns h) (entry_told x) (entries_told xs) none in

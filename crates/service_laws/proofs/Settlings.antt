@@ -4,8 +4,8 @@ use Rattle.std.specs.Prelude.{find, option_map}
 use Rattle.std.specs.Option.{option_map_or}
 use Rattle.std.specs.List.{flat_map, AllByRecursion}
 use Rattle.std.proofs.lemmas.Grind.{flat_map-append}
-use Rattle.pps_types.specs.Reading.{Open, Answer, Everything, Blocks, Needs, TargetGone, Waits, Nothing}
-use Rattle.pps_types.specs.Rests.{Seen}
+use Rattle.pps_types.specs.Reading.{OpenHandle, Answer, Everything, Blocks, Needs, TargetGone, Waits, Nothing}
+use Rattle.pps_types.specs.Rests.{Progress}
 use Rattle.pps_types.specs.Content.{Content, handle_numbered, news, read_answer}
 use Rattle.pps_types.specs.Plan.{Move, apply_all_seen, fired, late_reply, late_replies, had_news, settling_handle, settling}
 use Rattle.pps_types.specs.Runs.{queued_by}
@@ -38,7 +38,7 @@ find-map see test same (x ∷ xs) = ap (λ b. cond b (Some (see x)) (find test (
 
 module _ (conn : ℕ) (mine : ℕ → Bool) where
   -- a handle of the connection is found as it is
-  pub find-own : (n : ℕ) → mine n ≡ true → (hs : List (Open Seen)) → Owns conn mine hs → find (λ h. eqb h.number n) (map (masked conn) hs) ≡ find (λ h. eqb h.number n) hs
+  pub find-own : (n : ℕ) → mine n ≡ true → (hs : List (OpenHandle Progress)) → Owns conn mine hs → find (λ h. eqb h.number n) (map (masked conn) hs) ≡ find (λ h. eqb h.number n) hs
   find-own n own [] owns = refl
   find-own n own (h ∷ hs) owns = by (eqb h.number n) refl (find-own n own hs owns.1)
     where
@@ -46,7 +46,7 @@ module _ (conn : ℕ) (mine : ℕ → Bool) where
       by true e rec = ap Some (masked-own conn h (owns.0 ∙ ap mine (eqb-true h.number n e) ∙ own))
       by false e rec = rec
 
-  late_reply-of : (b : Bool) (h : Open Seen) → mine h.number ≡ b → eqb h.connection conn ≡ b → (a : Answer) → AllByRecursion (MoveOf conn mine b) (late_reply h a)
+  late_reply-of : (b : Bool) (h : OpenHandle Progress) → mine h.number ≡ b → eqb h.connection conn ≡ b → (a : Answer) → AllByRecursion (MoveOf conn mine b) (late_reply h a)
   late_reply-of b h m o (Everything text) = (m, (m, (o, tt)))
   late_reply-of b h m o (Blocks count text) = (m, (m, (o, tt)))
   late_reply-of b h m o (Needs need) = (m, (o, tt))
@@ -54,7 +54,7 @@ module _ (conn : ℕ) (mine : ℕ → Bool) where
   late_reply-of b h m o Waits = tt
   late_reply-of b h m o Nothing = tt
 
-  pub settling_handle-of : (b : Bool) (before after : Content) (h : Open Seen) → mine h.number ≡ b → eqb h.connection conn ≡ b → AllByRecursion (MoveOf conn mine b) (settling_handle before after h)
+  pub settling_handle-of : (b : Bool) (before after : Content) (h : OpenHandle Progress) → mine h.number ≡ b → eqb h.connection conn ≡ b → AllByRecursion (MoveOf conn mine b) (settling_handle before after h)
   settling_handle-of b before after h m o = all-cond (MoveOf conn mine b) (not (had_news before h) && news h) (fired h ++ late_replies after h) []
       (all-append (MoveOf conn mine b) (fired h) (late_replies after h) (all-or (MoveOf conn mine b) _ (λ pulse. (m, (o, tt))) h.armed) (all-or (MoveOf conn mine b) _ (λ size. late_reply-of b h m o (read_answer after h size)) h.parked)) tt
 
@@ -63,10 +63,10 @@ module _ (conn : ℕ) (mine : ℕ → Bool) where
   cond-nil false = refl
 
   -- what is masked settles nothing
-  blank-settles : (before after : Content) (h : Open Seen) → settling_handle before after (blank conn h) ≡ []
+  blank-settles : (before after : Content) (h : OpenHandle Progress) → settling_handle before after (blank conn h) ≡ []
   blank-settles before after h = cond-nil (not (had_news before (blank conn h)) && news (blank conn h))
 
-  pub own-settles : (before after : Content) (h : Open Seen) → eqb h.connection conn ≡ true → mine h.number ≡ true → Owns conn mine before.handles → settling_handle (view conn before) (view conn after) (masked conn h) ≡ settling_handle before after h
+  pub own-settles : (before after : Content) (h : OpenHandle Progress) → eqb h.connection conn ≡ true → mine h.number ≡ true → Owns conn mine before.handles → settling_handle (view conn before) (view conn after) (masked conn h) ≡ settling_handle before after h
   own-settles before after h own is owns =
       ap (settling_handle (view conn before) (view conn after)) (masked-own conn h own)
       ∙ ap (λ found. cond (not (option_map_or news found false) && news h) (fired h ++ late_replies after h) []) (find-own h.number is before.handles owns)
@@ -75,7 +75,7 @@ module _ (conn : ℕ) (mine : ℕ → Bool) where
     pub seen : view conn (apply_all_seen xs d) ≡ view conn (apply_all_seen ys d)
     pub items : flat_map (queued_by conn) xs ≡ flat_map (queued_by conn) ys
 
-  settles-as : (before after : Content) → Owns conn mine before.handles → (hs : List (Open Seen)) → Owns conn mine hs → (d : Content) → Owns conn mine d.handles
+  settles-as : (before after : Content) → Owns conn mine before.handles → (hs : List (OpenHandle Progress)) → Owns conn mine hs → (d : Content) → Owns conn mine d.handles
       → SettlesAs (flat_map (settling_handle before after) hs) (flat_map (settling_handle (view conn before) (view conn after)) (map (masked conn) hs)) d
   settles-as before after all [] owns d owned = record { seen = refl; items = refl }
   settles-as before after all (h ∷ hs) owns d owned = by (settles-as before after all hs owns.1) (eqb h.connection conn) refl
@@ -126,14 +126,14 @@ module _ (conn : ℕ) (mine : ℕ → Bool) where
 -- ---- where nothing happened, nothing follows
 
 -- each handle is found by its number
-abbrev pub AreFound : Content → List (Open Seen) → Type 0
+abbrev pub AreFound : Content → List (OpenHandle Progress) → Type 0
 AreFound c hs = AllByRecursion (λ h. handle_numbered c h.number ≡ Some h) hs
 
 both-not : {X : Type 0} (b : Bool) (xs : List X) → cond (not b && b) xs [] ≡ []
 both-not true xs = refl
 both-not false xs = refl
 
-nothing-settles : (c after : Content) (hs : List (Open Seen)) → AreFound c hs → flat_map (settling_handle c after) hs ≡ []
+nothing-settles : (c after : Content) (hs : List (OpenHandle Progress)) → AreFound c hs → flat_map (settling_handle c after) hs ≡ []
 nothing-settles c after [] found = refl
 nothing-settles c after (h ∷ hs) found =
     ap (λ xs. xs ++ flat_map (settling_handle c after) hs) (ap (λ f. cond (not (option_map_or news f false) && news h) (fired h ++ late_replies after h) []) found.0 ∙ both-not (news h) (fired h ++ late_replies after h))

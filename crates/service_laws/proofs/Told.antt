@@ -10,8 +10,8 @@ use Rattle.pps_types.specs.declared.outcome.Item.{Item}
 use Rattle.pps_types.specs.declared.refusal.Refusal.{Refusal}
 use Rattle.pps_types.specs.declared.refusal.Refusal.TheVariants.{BadHandle, NotAttached, TableFull}
 use Rattle.pps_types.specs.Outcome.{Reply}
-use Rattle.pps_types.specs.Reading.{Open, Answer, Everything, Blocks, Needs, TargetGone, Waits, Nothing}
-use Rattle.pps_types.specs.Rests.{Seen}
+use Rattle.pps_types.specs.Reading.{OpenHandle, Answer, Everything, Blocks, Needs, TargetGone, Waits, Nothing}
+use Rattle.pps_types.specs.Rests.{Progress}
 use Rattle.pps_types.specs.Outbox.{first_of}
 use Rattle.pps_types.specs.Content.{Content, handle_numbered, is_attached, queue_of, read_answer}
 use Rattle.pps_types.specs.Checks.{Check, Refuse, Memory, first_refusal, on_handle, checks, read_checks, notify_checks}
@@ -158,7 +158,7 @@ module _ (conn : ℕ) where
     pub items : flat_map (queued_by conn) (plan c e).1 ≡ []
     pub next : view conn (apply_all_seen (plan c e).1 c) ≡ view conn c
 
-  found-view : (c : Content) (hs : List (Open Seen)) → AreFound c hs → AreFound (view conn c) (map (masked conn) hs)
+  found-view : (c : Content) (hs : List (OpenHandle Progress)) → AreFound c hs → AreFound (view conn c) (map (masked conn) hs)
   found-view c [] all = tt
   found-view c (h ∷ hs) all = (handle-seen conn c h.number ∙ ap (option_map (masked conn)) all.0, found-view c hs all.1)
 
@@ -192,7 +192,7 @@ module _ (conn : ℕ) where
                 ∙ view-twice conn c;
           }
 
-  read-moves : (own : ℕ → Bool) (h : Open Seen) (size : ℕ) (a : Answer) → own h.number ≡ false → AllByRecursion (MoveOf conn own false) (read_effect h size a).1
+  read-moves : (own : ℕ → Bool) (h : OpenHandle Progress) (size : ℕ) (a : Answer) → own h.number ≡ false → AllByRecursion (MoveOf conn own false) (read_effect h size a).1
   read-moves own h size (Everything text) m = (m, tt)
   read-moves own h size (Blocks count text) m = (m, tt)
   read-moves own h size Waits m = (m, tt)
@@ -205,7 +205,7 @@ module _ (conn : ℕ) where
   received-moves own who (Some i) m = (m, tt)
 
   -- others' handles are not the connection's
-  others' : (c : Content) (who n : ℕ) (h : Open Seen) → IsOrdered c → handle_numbered c n ≡ Some h → eqb h.connection conn ≡ false → mine conn c who h.number ≡ false
+  others' : (c : Content) (who n : ℕ) (h : OpenHandle Progress) → IsOrdered c → handle_numbered c n ≡ Some h → eqb h.connection conn ≡ false → mine conn c who h.number ≡ false
   others' c who n h o is other = sym (find-all (λ h. eqb h.number n) (λ h. eqb h.connection conn ≡ mine conn c who h.number) c.handles h (owns conn c who o) is) ∙ other
 
   other-who : (who : ℕ) → (b : Bool) → (not (eqb who conn) && b) ≡ true → eqb who conn ≡ false

@@ -17,8 +17,8 @@ use Rattle.pps_types.specs.Filter.{Part}
 use Rattle.pps_types.specs.Bytes.{is_empty}
 use Rattle.pps_types.specs.Text.{WriteText, lines_of, header_of, with_header, text_after, text_of_lines, write_lines, write_text}
 use Rattle.pps_types.specs.History.{Entry, message_line}
-use Rattle.pps_types.specs.Reading.{Open, Style, Full, Delta, Queue, style, visible, concerns, is_chained, is_writer, is_object_kind, Shown, shown}
-use Rattle.pps_types.specs.Rests.{Seen, News, Unread, Over, Owed, stand, unread, seen_of, seen_with, over_limit, rest_of, keeps, pushed}
+use Rattle.pps_types.specs.Reading.{OpenHandle, Style, Full, Delta, Queue, style, visible, concerns, is_chained, is_writer, is_object_kind, Shown, shown}
+use Rattle.pps_types.specs.Rests.{Progress, News, Unread, Over, Owed, stand, unread, seen_of, seen_with, over_limit, rest_of, keeps, pushed}
 use Rattle.pps_types.specs.Content.{LiveObject, Content, object_numbered, handle_numbered, own_handle}
 use Rattle.pps_types.specs.Checks.{Addressee, Everyone, OneClient, Nobody, addressee, is_client, is_server}
 use Rattle.pps_types.specs.Plan.{Move, AppendsRecord, apply_seen, apply_all_seen, entry_of, offered, offer, touched, still_known, sent, written_kind, on_target, writing, effect, with_result}
@@ -32,11 +32,11 @@ use Rattle.service_laws.proofs.Effects.{own-numbered}
 
 -- ---- what a handle has seen stays as it is, where a record isn't for it
 
-abbrev pub renewed : Open Seen → Seen → Seen
+abbrev pub renewed : OpenHandle Progress → Progress → Progress
 renewed h (Owed rest) = seen_of h rest
 renewed h seen = seen
 
-abbrev pub IsSettled : Open Seen → Type 0
+abbrev pub IsSettled : OpenHandle Progress → Type 0
 IsSettled h = renewed h h.seen ≡ h.seen
 
 or-false : (b v : Bool) → v ≡ false → (b || v) ≡ b
@@ -47,7 +47,7 @@ and-false : (b v : Bool) → v ≡ false → (b && v) ≡ false
 and-false true v e = e
 and-false false v e = refl
 
-unseen-visible : (h : Open Seen) (e : Entry) → is_some (shown h.kind h.number h.options.filter e.record_of.kind) ≡ false → visible h e ≡ false
+unseen-visible : (h : OpenHandle Progress) (e : Entry) → is_some (shown h.kind h.number h.options.filter e.record_of.kind) ≡ false → visible h e ≡ false
 unseen-visible h e none = by (concerns h e) h.reads (not (is_writer h.number e.record_of.writer) || (h.options.reflect && is_object_kind h.kind)) (is_some (shown h.kind h.number h.options.filter e.record_of.kind)) none
   where
     by : (a b c d : Bool) → d ≡ false → (a && (b && c && d)) ≡ false
@@ -56,41 +56,41 @@ unseen-visible h e none = by (concerns h e) h.reads (not (is_writer h.number e.r
     by true false c d is = refl
     by false b c d is = refl
 
-unseen-keeps : (h : Open Seen) (e : Entry) → visible h e ≡ false → is_chained h.kind e.record_of.kind ≡ false → keeps h e ≡ false
+unseen-keeps : (h : OpenHandle Progress) (e : Entry) → visible h e ≡ false → is_chained h.kind e.record_of.kind ≡ false → keeps h e ≡ false
 unseen-keeps h e v k = or-false (visible h e) (concerns h e && is_chained h.kind e.record_of.kind) (and-false (concerns h e) (is_chained h.kind e.record_of.kind) k) ∙ v
 
-offered-same : (h : Open Seen) (e : Entry) → visible h e ≡ false → keeps h e ≡ false → (s : Seen) → renewed h s ≡ s → offered h e s ≡ s
+offered-same : (h : OpenHandle Progress) (e : Entry) → visible h e ≡ false → keeps h e ≡ false → (s : Progress) → renewed h s ≡ s → offered h e s ≡ s
 offered-same h e v k (News b) is = ap News (or-false b (visible h e) v)
 offered-same h e v k Unread is = refl
 offered-same h e v k Over is = refl
 offered-same h e v k (Owed rest) is = ap (λ b. seen_of h (cond b (pushed (visible h) e rest) rest)) k ∙ is
 
-offer-same : (h : Open Seen) (e : Entry) → is_some (shown h.kind h.number h.options.filter e.record_of.kind) ≡ false → is_chained h.kind e.record_of.kind ≡ false → IsSettled h → offer e h ≡ h
+offer-same : (h : OpenHandle Progress) (e : Entry) → is_some (shown h.kind h.number h.options.filter e.record_of.kind) ≡ false → is_chained h.kind e.record_of.kind ≡ false → IsSettled h → offer e h ≡ h
 offer-same h e none chained settled =
     let v = unseen-visible h e none in
     ap (λ s. record h { seen = s }) (offered-same h e v (unseen-keeps h e v chained) h.seen settled)
 
 -- ---- what stands of a machine is settled
 
-unread-settled : (h : Open Seen) (s : Style) (reads : Bool) → renewed h (unread s reads) ≡ unread s reads
+unread-settled : (h : OpenHandle Progress) (s : Style) (reads : Bool) → renewed h (unread s reads) ≡ unread s reads
 unread-settled h Full reads = refl
 unread-settled h Delta reads = refl
 unread-settled h Queue reads = refl
 
-stand-settled : (h : Open Seen) (rest : List Entry) (s : Style) → style h.kind ≡ s → (b : Bool) → over_limit h rest ≡ b → renewed h (stand s h.reads b rest) ≡ stand s h.reads b rest
+stand-settled : (h : OpenHandle Progress) (rest : List Entry) (s : Style) → style h.kind ≡ s → (b : Bool) → over_limit h rest ≡ b → renewed h (stand s h.reads b rest) ≡ stand s h.reads b rest
 stand-settled h rest Full is b over = refl
 stand-settled h rest Delta is true over = refl
 stand-settled h rest Delta is false over = λ i. stand (is i) h.reads (over i) rest
 stand-settled h rest Queue is b over = λ i. stand (is i) h.reads (over i) rest
 
-settled-shown : (H : List Entry) (h : Open (Option ℕ)) → IsSettled (shown_handle H h)
+settled-shown : (H : List Entry) (h : OpenHandle (Option ℕ)) → IsSettled (shown_handle H h)
 settled-shown H h = by h.seen
   where
     by : (cursor : Option ℕ) → renewed (shown_handle H h) (seen_with h H cursor) ≡ seen_with h H cursor
     by None = unread-settled (shown_handle H h) (style h.kind) h.reads
     by (Some cursor) = stand-settled (shown_handle H h) (rest_of h (drop cursor H)) (style h.kind) refl (over_limit h (rest_of h (drop cursor H))) refl
 
-pub all-settled : (H : List Entry) (hs : List (Open (Option ℕ))) → AllByRecursion IsSettled (map (shown_handle H) hs)
+pub all-settled : (H : List Entry) (hs : List (OpenHandle (Option ℕ))) → AllByRecursion IsSettled (map (shown_handle H) hs)
 all-settled H [] = tt
 all-settled H (h ∷ hs) = (settled-shown H h, all-settled H hs)
 
@@ -126,7 +126,7 @@ to-shown (DirectoryHandle delta) n parts id lines e = refl
 
 module _ (conn : ℕ) where
   -- none of the connection's handles is told of that kind of record
-  abbrev IsNotTold : Kind → Open Seen → Type 0
+  abbrev IsNotTold : Kind → OpenHandle Progress → Type 0
   IsNotTold kind h = eqb h.connection conn ≡ true → (is_some (shown h.kind h.number h.options.filter kind) ≡ false) × IsSettled h
 
   -- changes nothing of an object, and is kept for no handle
@@ -142,7 +142,7 @@ module _ (conn : ℕ) where
       by true = note.changes o
       by false = refl
 
-  handles-same : (e : Entry) → IsNote e.record_of.kind → (hs : List (Open Seen)) → AllByRecursion (IsNotTold e.record_of.kind) hs → map (masked conn) (map (offer e) hs) ≡ map (masked conn) hs
+  handles-same : (e : Entry) → IsNote e.record_of.kind → (hs : List (OpenHandle Progress)) → AllByRecursion (IsNotTold e.record_of.kind) hs → map (masked conn) (map (offer e) hs) ≡ map (masked conn) hs
   handles-same e note [] all = refl
   handles-same e note (h ∷ hs) all = λ i. by (eqb h.connection conn) refl i ∷ handles-same e note hs all.1 i
     where
@@ -157,7 +157,7 @@ module _ (conn : ℕ) where
     pub seen : view conn (apply_all_seen xs c) ≡ view conn c
     pub items : flat_map (queued_by conn) xs ≡ []
 
-  message-unseen : (c : Content) (h : Open Seen) (kind : Kind) (b : Bool) → IsNote kind → AllByRecursion (IsNotTold kind) c.handles → IsUnseen (cond b [] (on_target c h kind (Some h.number))) c
+  message-unseen : (c : Content) (h : OpenHandle Progress) (kind : Kind) (b : Bool) → IsNote kind → AllByRecursion (IsNotTold kind) c.handles → IsUnseen (cond b [] (on_target c h kind (Some h.number))) c
   message-unseen c h kind true note all = record { seen = refl; items = refl }
   message-unseen c h kind false note all = by (object_numbered c h.target)
     where
@@ -167,7 +167,7 @@ module _ (conn : ℕ) where
 
   -- ---- whom a message isn't for
 
-  no-server : (id : ℕ) (lines : List Line) (hs : List (Open Seen)) → list_any (λ h. eqb h.connection conn && is_server h.kind) hs ≡ false → AllByRecursion IsSettled hs → AllByRecursion (IsNotTold (FromClient id lines)) hs
+  no-server : (id : ℕ) (lines : List Line) (hs : List (OpenHandle Progress)) → list_any (λ h. eqb h.connection conn && is_server h.kind) hs ≡ false → AllByRecursion IsSettled hs → AllByRecursion (IsNotTold (FromClient id lines)) hs
   no-server id lines [] e settled = tt
   no-server id lines (h ∷ hs) e settled = ((λ own. (from-shown h.kind h.number h.options.filter id lines (first (eqb h.connection conn) (is_server h.kind) (list_any (λ h. eqb h.connection conn && is_server h.kind) hs) e own), settled.0)), no-server id lines hs (rest (eqb h.connection conn && is_server h.kind) (list_any (λ h. eqb h.connection conn && is_server h.kind) hs) e) settled.1)
     where
@@ -182,11 +182,11 @@ module _ (conn : ℕ) where
 
   -- an open client of that number is another connection's
   record Elsewhere (c : Content) (id : ℕ) : Type 0 where
-    pub h : Open Seen
+    pub h : OpenHandle Progress
     pub numbered : handle_numbered c id ≡ Some h
     pub other : eqb h.connection conn ≡ false
 
-  elsewhere : (c : Content) (object id : ℕ) (hs : List (Open Seen)) → AreFound c hs → list_any (λ h. not (eqb h.connection conn)) (filter (λ h. eqb h.number id) (filter (λ h. is_client h.kind && eqb h.target object) hs)) ≡ true → Elsewhere c id
+  elsewhere : (c : Content) (object id : ℕ) (hs : List (OpenHandle Progress)) → AreFound c hs → list_any (λ h. not (eqb h.connection conn)) (filter (λ h. eqb h.number id) (filter (λ h. is_client h.kind && eqb h.target object) hs)) ≡ true → Elsewhere c id
   elsewhere c object id [] all e = absurd cc
   elsewhere c object id (h ∷ hs) all e = by (is_client h.kind && eqb h.target object) (eqb h.number id) refl (eqb h.connection conn) refl (elsewhere c object id hs all.1) e
     where
@@ -199,7 +199,7 @@ module _ (conn : ℕ) where
       by true true is true who rec e = rec (ap (λ b. not b || list_any (λ h. not (eqb h.connection conn)) (filter (λ h. eqb h.number id) (filter (λ h. is_client h.kind && eqb h.target object) hs))) (sym who)
           ∙ ap (λ b. list_any (λ h. not (eqb h.connection conn)) (cond b (h ∷ filter (λ h. eqb h.number id) (filter (λ h. is_client h.kind && eqb h.target object) hs)) (filter (λ h. eqb h.number id) (filter (λ h. is_client h.kind && eqb h.target object) hs)))) (sym is) ∙ e)
 
-  not-addressed : (c : Content) (id : ℕ) (lines : List Line) → Elsewhere c id → (hs : List (Open Seen)) → AreFound c hs → AllByRecursion IsSettled hs → AllByRecursion (IsNotTold (ToClient id lines)) hs
+  not-addressed : (c : Content) (id : ℕ) (lines : List Line) → Elsewhere c id → (hs : List (OpenHandle Progress)) → AreFound c hs → AllByRecursion IsSettled hs → AllByRecursion (IsNotTold (ToClient id lines)) hs
   not-addressed c id lines there [] all settled = tt
   not-addressed c id lines there (h ∷ hs) all settled = ((λ own. (to-shown h.kind h.number h.options.filter id lines (by (eqb id h.number) refl own), settled.0)), not-addressed c id lines there hs all.1 settled.1)
     where
@@ -232,7 +232,7 @@ module _ (conn : ℕ) where
       by (Some header) is = headed (write_lines 2 ls) (Some header) text is
       by None is = headed (write_lines 1 (l ∷ ls)) None text is
 
-  writing-unseen : (c : Content) (h : Open Seen) (text : WriteText) → IsOrdered c → holds_server conn c ≡ false → AllByRecursion IsSettled c.handles
+  writing-unseen : (c : Content) (h : OpenHandle Progress) (text : WriteText) → IsOrdered c → holds_server conn c ≡ false → AllByRecursion IsSettled c.handles
       → (is_client h.kind || (is_server h.kind && is_elsewhere c conn h.target (addressee h.name text.header))) ≡ true → IsUnseen (writing c h text) c
   writing-unseen c h text o none settled foreign = by h.kind foreign
     where
@@ -255,15 +255,15 @@ module _ (conn : ℕ) where
   unfolding effect
   foreign-write c who handle bytes o none settled foreign = by (own_handle c who handle) refl
     where
-      text-by : (h : Open Seen) (r : Result WriteText Refusal) → write_text bytes ≡ r → (is_client h.kind || names_other c conn bytes h) ≡ true → IsUnseen (with_result r (λ text. (Wrote 0, writing c h text))).1 c
+      text-by : (h : OpenHandle Progress) (r : Result WriteText Refusal) → write_text bytes ≡ r → (is_client h.kind || names_other c conn bytes h) ≡ true → IsUnseen (with_result r (λ text. (Wrote 0, writing c h text))).1 c
       text-by h (Err e) is foreign = record { seen = refl; items = refl }
       text-by h (Ok text) is foreign = writing-unseen c h text o none settled (subst (λ (header : Option (List ℕ)). (is_client h.kind || (is_server h.kind && is_elsewhere c conn h.target (addressee h.name header))) ≡ true) (sym (text-header (lines_of bytes) text is)) foreign)
 
-      same-moves : (h : Open Seen) (n : ℕ) (r : Result WriteText Refusal) → (with_result r (λ text. (Wrote n, writing c h text))).1 ≡ (with_result r (λ text. (Wrote 0, writing c h text))).1
+      same-moves : (h : OpenHandle Progress) (n : ℕ) (r : Result WriteText Refusal) → (with_result r (λ text. (Wrote n, writing c h text))).1 ≡ (with_result r (λ text. (Wrote 0, writing c h text))).1
       same-moves h n (Err e) = refl
       same-moves h n (Ok text) = refl
 
-      by : (f : Option (Open Seen)) → own_handle c who handle ≡ f → IsUnseen (effect c who (Write handle bytes)).1 c
+      by : (f : Option (OpenHandle Progress)) → own_handle c who handle ≡ f → IsUnseen (effect c who (Write handle bytes)).1 c
       by None is = rw is (record { seen = refl; items = refl })
       by (Some h) is =
           let known : effect c who (Write handle bytes) ≡ with_result (write_text bytes) (λ text. (Wrote (length bytes), writing c h text)) = rw is refl in

@@ -4,8 +4,8 @@ use Rattle.std.specs.Prelude.{nat_lt}
 use Rattle.std.specs.List.{flat_map, AllByRecursion}
 use Rattle.pps_types.specs.declared.outcome.Item.{Item}
 use Rattle.pps_types.specs.History.{Entry}
-use Rattle.pps_types.specs.Reading.{Open, reseen, style}
-use Rattle.pps_types.specs.Rests.{Seen, Unread}
+use Rattle.pps_types.specs.Reading.{OpenHandle, reseen, style}
+use Rattle.pps_types.specs.Rests.{Progress, Unread}
 use Rattle.pps_types.specs.Outbox.{put_rising, behind_first}
 use Rattle.pps_types.specs.Content.{Connection, Content}
 use Rattle.pps_types.specs.Plan.{Move, Attaches, Leaves, Creates, AppendsRecord, Opens, Closes, CatchesUp, Advances, Parks, Arms, Queues, Takes, MakesDirectory, RemovesDirectory, on_first, without_first, on_numbered, on_connection, requeued, creation, offer, caught_up, left, first_seen, apply_seen, apply_all_seen}
@@ -58,14 +58,14 @@ module _ {X : Type 0} (see : X → X) (twice : (x : X) → see (see x) ≡ see x
 -- ---- the view
 
 module _ (conn : ℕ) where
-  abbrev pub is_own : Open Seen → Bool
+  abbrev pub is_own : OpenHandle Progress → Bool
   is_own h = eqb h.connection conn
 
   -- a handle of another connection, without what only that connection is told
-  abbrev pub blank : Open Seen → Open Seen
+  abbrev pub blank : OpenHandle Progress → OpenHandle Progress
   blank h = record h { limit = 1; seen = Unread; parked = None; armed = None }
 
-  abbrev pub masked : Open Seen → Open Seen
+  abbrev pub masked : OpenHandle Progress → OpenHandle Progress
   masked h = record h { limit = cond (is_own h) h.limit 1; seen = cond (is_own h) h.seen Unread; parked = cond (is_own h) h.parked None; armed = cond (is_own h) h.armed None }
 
   abbrev pub masked_queue : Connection → Connection
@@ -74,21 +74,21 @@ module _ (conn : ℕ) where
   abbrev pub view : Content → Content
   view c = record c { records = 0; handles = map masked c.handles; connections = map masked_queue c.connections }
 
-  pub masked-own : (h : Open Seen) → is_own h ≡ true → masked h ≡ h
+  pub masked-own : (h : OpenHandle Progress) → is_own h ≡ true → masked h ≡ h
   masked-own h e = ap (λ b. record h { limit = cond b h.limit 1; seen = cond b h.seen Unread; parked = cond b h.parked None; armed = cond b h.armed None }) e
 
-  pub masked-other : (h : Open Seen) → is_own h ≡ false → masked h ≡ blank h
+  pub masked-other : (h : OpenHandle Progress) → is_own h ≡ false → masked h ≡ blank h
   masked-other h e = ap (λ b. record h { limit = cond b h.limit 1; seen = cond b h.seen Unread; parked = cond b h.parked None; armed = cond b h.armed None }) e
 
   -- a change that reads, for others, nothing that is masked, and changes nothing else
-  pub masked-change : (f : Open Seen → Open Seen) → ((h : Open Seen) → is_own (f h) ≡ is_own h) → ((h : Open Seen) → blank (f (masked h)) ≡ blank (f h)) → (h : Open Seen) → masked (f (masked h)) ≡ masked (f h)
+  pub masked-change : (f : OpenHandle Progress → OpenHandle Progress) → ((h : OpenHandle Progress) → is_own (f h) ≡ is_own h) → ((h : OpenHandle Progress) → blank (f (masked h)) ≡ blank (f h)) → (h : OpenHandle Progress) → masked (f (masked h)) ≡ masked (f h)
   masked-change f same blanks h = by (is_own h) refl
     where
       by : (b : Bool) → is_own h ≡ b → masked (f (masked h)) ≡ masked (f h)
       by true e = ap (λ g. masked (f g)) (masked-own h e)
       by false e = masked-other (f (masked h)) (same (masked h) ∙ e) ∙ blanks h ∙ sym (masked-other (f h) (same h ∙ e))
 
-  pub masked-twice : (h : Open Seen) → masked (masked h) ≡ masked h
+  pub masked-twice : (h : OpenHandle Progress) → masked (masked h) ≡ masked h
   masked-twice h = masked-change (λ g. g) (λ g. refl) (λ g. refl) h
 
   pub queue-change : (f : List Item → List Item) (x : Connection) → masked_queue (requeued f (masked_queue x)) ≡ masked_queue (requeued f x)
@@ -106,22 +106,22 @@ module _ (conn : ℕ) where
 
   -- ---- moves and the view
 
-  handles-on : (f : Open Seen → Open Seen) → ((h : Open Seen) → is_own (f h) ≡ is_own h) → ((h : Open Seen) → blank (f (masked h)) ≡ blank (f h)) → (n : ℕ) (hs : List (Open Seen)) → map masked (on_numbered n f (map masked hs)) ≡ map masked (on_numbered n f hs)
+  handles-on : (f : OpenHandle Progress → OpenHandle Progress) → ((h : OpenHandle Progress) → is_own (f h) ≡ is_own h) → ((h : OpenHandle Progress) → blank (f (masked h)) ≡ blank (f h)) → (n : ℕ) (hs : List (OpenHandle Progress)) → map masked (on_numbered n f (map masked hs)) ≡ map masked (on_numbered n f hs)
   handles-on f same blanks n hs = see-on_first masked masked-twice (λ h. eqb h.number n) (λ h. refl) f (masked-change f same blanks) hs
 
-  handles-offered : (e : Entry) (hs : List (Open Seen)) → map masked (map (offer e) (map masked hs)) ≡ map masked (map (offer e) hs)
+  handles-offered : (e : Entry) (hs : List (OpenHandle Progress)) → map masked (map (offer e) (map masked hs)) ≡ map masked (map (offer e) hs)
   handles-offered e hs = see-map masked masked-twice (offer e) (masked-change (offer e) (λ h. refl) (λ h. refl)) hs
 
   queues-twice : (xs : List Connection) → map masked_queue (map masked_queue xs) ≡ map masked_queue xs
   queues-twice xs = see-twice masked_queue queue-twice xs
 
-  view-of : (c : Content) {hs gs : List (Open Seen)} {xs ys : List Connection} → hs ≡ gs → xs ≡ ys → ◌≡◌ {A = Content} (record c { records = 0; handles = hs; connections = xs }) (record c { records = 0; handles = gs; connections = ys })
+  view-of : (c : Content) {hs gs : List (OpenHandle Progress)} {xs ys : List Connection} → hs ≡ gs → xs ≡ ys → ◌≡◌ {A = Content} (record c { records = 0; handles = hs; connections = xs }) (record c { records = 0; handles = gs; connections = ys })
   view-of c p q = λ i. record c { records = 0; handles = p i; connections = q i }
 
   pub view-twice : (c : Content) → view (view c) ≡ view c
   view-twice c = view-of c (see-twice masked masked-twice c.handles) (queues-twice c.connections)
 
-  handles-twice : (hs : List (Open Seen)) → map masked (map masked hs) ≡ map masked hs
+  handles-twice : (hs : List (OpenHandle Progress)) → map masked (map masked hs) ≡ map masked hs
   handles-twice hs = see-twice masked masked-twice hs
 
   -- a move does the same to what is seen
@@ -153,7 +153,7 @@ module _ (conn : ℕ) where
 
 module _ (conn : ℕ) (mine : ℕ → Bool) where
   -- mine says which handles are the connection's
-  abbrev pub Owns : List (Open Seen) → Type 0
+  abbrev pub Owns : List (OpenHandle Progress) → Type 0
   Owns hs = AllByRecursion (λ h. eqb h.connection conn ≡ mine h.number) hs
 
   -- a move of a handle or a queue, of the connection's (b) or not
@@ -187,10 +187,10 @@ module _ (conn : ℕ) (mine : ℕ → Bool) where
   moves-fit b (MakesDirectory path) m = tt
   moves-fit b (RemovesDirectory n) m = tt
 
-  owns-on : (f : Open Seen → Open Seen) → ((h : Open Seen) → (eqb h.connection conn ≡ mine h.number) → eqb (f h).connection conn ≡ mine (f h).number) → (n : ℕ) (hs : List (Open Seen)) → Owns hs → Owns (on_numbered n f hs)
+  owns-on : (f : OpenHandle Progress → OpenHandle Progress) → ((h : OpenHandle Progress) → (eqb h.connection conn ≡ mine h.number) → eqb (f h).connection conn ≡ mine (f h).number) → (n : ℕ) (hs : List (OpenHandle Progress)) → Owns hs → Owns (on_numbered n f hs)
   owns-on f keeps n hs owns = all-on_first (λ h. eqb h.connection conn ≡ mine h.number) (λ h. eqb h.number n) f keeps hs owns
 
-  owns-offered : (e : Entry) (hs : List (Open Seen)) → Owns hs → Owns (map (offer e) hs)
+  owns-offered : (e : Entry) (hs : List (OpenHandle Progress)) → Owns hs → Owns (map (offer e) hs)
   owns-offered e [] owns = tt
   owns-offered e (h ∷ hs) owns = (owns.0, owns-offered e hs owns.1)
 
@@ -214,11 +214,11 @@ module _ (conn : ℕ) (mine : ℕ → Bool) where
   owns-moves [] c fits owns = owns
   owns-moves (x ∷ xs) c fits owns = owns-moves xs (apply_seen x c) fits.1 (owns-move x c fits.0 owns)
 
-  pub owns-masked : (hs : List (Open Seen)) → Owns hs → Owns (map (masked conn) hs)
+  pub owns-masked : (hs : List (OpenHandle Progress)) → Owns hs → Owns (map (masked conn) hs)
   owns-masked [] owns = tt
   owns-masked (h ∷ hs) owns = (owns.0, owns-masked hs owns.1)
 
-  other-on : (f : Open Seen → Open Seen) → ((h : Open Seen) → eqb (f h).connection conn ≡ eqb h.connection conn) → ((h : Open Seen) → blank conn (f h) ≡ blank conn h) → (n : ℕ) → mine n ≡ false → (hs : List (Open Seen)) → Owns hs → map (masked conn) (on_numbered n f hs) ≡ map (masked conn) hs
+  other-on : (f : OpenHandle Progress → OpenHandle Progress) → ((h : OpenHandle Progress) → eqb (f h).connection conn ≡ eqb h.connection conn) → ((h : OpenHandle Progress) → blank conn (f h) ≡ blank conn h) → (n : ℕ) → mine n ≡ false → (hs : List (OpenHandle Progress)) → Owns hs → map (masked conn) (on_numbered n f hs) ≡ map (masked conn) hs
   other-on f same blanks n other [] owns = refl
   other-on f same blanks n other (h ∷ hs) owns = by (eqb h.number n) refl (other-on f same blanks n other hs owns.1)
     where

@@ -2,8 +2,8 @@
 use Rattle.std.specs.Prelude.{◌≡◌, ◌≤◌, ◌<◌, ℕ, ◌^◌, Some}
 use Rattle.pps_types.specs.declared.event.Event.{Event}
 use Rattle.pps_types.specs.Outcome.{IsSendable}
-use Rattle.pps_types.specs.Reading.{Open, Needs}
-use Rattle.pps_types.specs.Rests.{Seen}
+use Rattle.pps_types.specs.Reading.{OpenHandle, Needs}
+use Rattle.pps_types.specs.Rests.{Progress}
 use Rattle.pps_types.specs.Content.{Content, handle_numbered, read_answer}
 use Rattle.pps_types.specs.Plan.{step_seen}
 use Rattle.pps_types.specs.WellFormed.{IsContent}
@@ -15,5 +15,5 @@ pub record BoundsStay : Type 0 where
   pub stays : (c : Content) → IsContent c → IsBound c → (e : Event) → IsBound (step_seen c e).1
 
 pub record SizesFit : Type 0 where
-  pub needs : (c : Content) → IsBound c → (number : ℕ) (h : Open Seen) → handle_numbered c number ≡ Some h → (max need : ℕ) → read_answer c h max ≡ Needs need → need < 2 ^ 32
+  pub needs : (c : Content) → IsBound c → (number : ℕ) (h : OpenHandle Progress) → handle_numbered c number ≡ Some h → (max need : ℕ) → read_answer c h max ≡ Needs need → need < 2 ^ 32
   pub answers : (c : Content) → IsBound c → (e : Event) → IsSendable (step_seen c e).0

@@ -9,8 +9,8 @@ use Rattle.pps_types.specs.declared.record.Kind.TheVariants.{Change, Opened, Clo
 use Rattle.pps_types.specs.Text.{print_lines}
 use Rattle.pps_types.specs.Names.{Path, last_name}
 use Rattle.pps_types.specs.History.{Entry, text_length}
-use Rattle.pps_types.specs.Reading.{Open, is_directory_kind}
-use Rattle.pps_types.specs.Rests.{Seen, Owed}
+use Rattle.pps_types.specs.Reading.{OpenHandle, is_directory_kind}
+use Rattle.pps_types.specs.Rests.{Progress, Owed}
 use Rattle.pps_types.specs.Content.{LiveObject, Connection, Content, subdirectories}
 
 -- ---- records
@@ -33,7 +33,7 @@ client_of _ = 0
 abbrev pub IsShort : Entry → Type 0
 IsShort e = (length e.name ≤ 255) × (length (print_lines (lines_of e.record_of.kind)) ≤ 400000) × (client_of e.record_of.kind < 2 ^ 32)
 
-abbrev pub AreShort : Seen → Type 0
+abbrev pub AreShort : Progress → Type 0
 AreShort (Owed rest) = AllByRecursion IsShort rest
 AreShort _ = Unit {0}
 
@@ -49,7 +49,7 @@ IsReadSize None = Unit {0}
 IsReadSize (Some size) = size ≤ 17000000
 
 -- a handle on a directory does not write
-pub record IsBoundHandle (h : Open Seen) : Type 0 where
+pub record IsBoundHandle (h : OpenHandle Progress) : Type 0 where
   pub name : length h.name ≤ 255
   pub parked : IsReadSize h.parked
   pub owed : AreShort h.seen

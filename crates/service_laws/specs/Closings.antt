@@ -3,23 +3,23 @@ use Rattle.std.specs.Prelude.{ℕ, List, [], ◌∷◌, ◌++◌, Bool, ◌&&◌
 use Rattle.std.specs.List.{list_any}
 use Rattle.pps_types.specs.declared.refusal.Refusal.TheVariants.{BadHandle}
 use Rattle.pps_types.specs.declared.outcome.Item.TheVariants.{ReadDone}
-use Rattle.pps_types.specs.Reading.{Open}
-use Rattle.pps_types.specs.Rests.{Seen}
+use Rattle.pps_types.specs.Reading.{OpenHandle}
+use Rattle.pps_types.specs.Rests.{Progress}
 use Rattle.pps_types.specs.Content.{Content}
 use Rattle.pps_types.specs.Checks.{is_server}
 use Rattle.pps_types.specs.Plan.{Move, Closes, Queues, parting}
 
 -- the object's server is among the handles that closed before, and so it is dead
-abbrev pub server_closed : List (Open Seen) → ℕ → Bool
+abbrev pub server_closed : List (OpenHandle Progress) → ℕ → Bool
 server_closed before object = list_any (λ h. is_server h.kind && (h.target == object)) before
 
 -- the closing of a handle behind these others
-abbrev pub closing_behind : Content → List (Open Seen) → Open Seen → List Move
+abbrev pub closing_behind : Content → List (OpenHandle Progress) → OpenHandle Progress → List Move
 closing_behind c before h =
     Closes h.number ∷ (if is_some h.parked then Queues h.connection (ReadDone h.number (Err BadHandle)) ∷ [] else [])
     ++ (if server_closed before h.target then [] else parting c h h.kind)
 
 -- the closings of handles, each behind those before it and behind these others
-abbrev pub closings_behind : Content → List (Open Seen) → List (Open Seen) → List Move
+abbrev pub closings_behind : Content → List (OpenHandle Progress) → List (OpenHandle Progress) → List Move
 closings_behind c before [] = []
 closings_behind c before (h ∷ hs) = closing_behind c before h ++ closings_behind c (h ∷ before) hs

@@ -3,24 +3,24 @@ use Rattle.std.specs.Prelude.{◌≡◌, ℕ, List, [], ◌∷◌, Bool, not, �
 use Rattle.std.specs.List.{list_any}
 use Rattle.pps_types.specs.History.{Entry}
 use Rattle.pps_types.specs.Outbox.{put_rising}
-use Rattle.pps_types.specs.Reading.{Open, concerns, is_directory_kind}
-use Rattle.pps_types.specs.Rests.{Seen}
+use Rattle.pps_types.specs.Reading.{OpenHandle, concerns, is_directory_kind}
+use Rattle.pps_types.specs.Rests.{Progress}
 use Rattle.pps_types.specs.Content.{Content}
 
 -- it is on the object of one of the records, or on its directory
-abbrev pub is_concerned : List Entry → Open Seen → Bool
+abbrev pub is_concerned : List Entry → OpenHandle Progress → Bool
 is_concerned es h = list_any (concerns h) es
 
 -- it is on that object
-abbrev pub is_on_object : ℕ → Open Seen → Bool
+abbrev pub is_on_object : ℕ → OpenHandle Progress → Bool
 is_on_object n h = not (is_directory_kind h.kind) && (n == h.target)
 
 -- it is on that directory
-abbrev pub is_on_directory : ℕ → Open Seen → Bool
+abbrev pub is_on_directory : ℕ → OpenHandle Progress → Bool
 is_on_directory n h = is_directory_kind h.kind && (n == h.target)
 
 -- two lists of handles in rising number as one
-abbrev pub merged : List (Open Seen) → List (Open Seen) → List (Open Seen)
+abbrev pub merged : List (OpenHandle Progress) → List (OpenHandle Progress) → List (OpenHandle Progress)
 merged gs hs = fold (λ all h. put_rising (λ h. h.number) h all) hs gs
 
 -- One record, or none; or two, where an object takes the place of another in its directory.

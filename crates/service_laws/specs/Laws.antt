@@ -5,7 +5,7 @@ use Rattle.pps_types.specs.declared.refusal.Refusal.{Refusal}
 use Rattle.pps_types.specs.Outcome.{Reply}
 use Rattle.pps_types.specs.Names.{Path}
 use Rattle.pps_types.specs.History.{Entry}
-use Rattle.pps_types.specs.Reading.{Open, visible, style, is_full_style}
+use Rattle.pps_types.specs.Reading.{OpenHandle, visible, style, is_full_style}
 use Rattle.pps_types.specs.Rests.{seen_with, news_in, is_over, owed_in}
 use Rattle.pps_types.specs.Content.{Content, queue_of, handles_of, read_answer}
 use Rattle.pps_types.specs.Checks.{first_refusal}
@@ -56,15 +56,15 @@ pub record ImagesStart : Type 0 where
 
 -- what stands of a handle says whether it has news and is past its limit, and what it is owed
 pub record HandlesAreTold : Type 0 where
-  pub news : (h : Open (Option ℕ)) (history : List Entry) → news_in h.reads (seen_with h history h.seen) ≡ has_news h history h.seen
-  pub over : (h : Open (Option ℕ)) (history : List Entry) → is_over (seen_with h history h.seen) ≡ is_past_limit h (owed h history h.seen)
-  pub owes : (h : Open (Option ℕ)) (history : List Entry) → is_full_style (style h.kind) ≡ false → is_past_limit h (owed h history h.seen) ≡ false
+  pub news : (h : OpenHandle (Option ℕ)) (history : List Entry) → news_in h.reads (seen_with h history h.seen) ≡ has_news h history h.seen
+  pub over : (h : OpenHandle (Option ℕ)) (history : List Entry) → is_over (seen_with h history h.seen) ≡ is_past_limit h (owed h history h.seen)
+  pub owes : (h : OpenHandle (Option ℕ)) (history : List Entry) → is_full_style (style h.kind) ≡ false → is_past_limit h (owed h history h.seen) ≡ false
       → owed_in h (seen_with h history h.seen) ≡ owed h history h.seen
   pub count : (m : Machine) (number : ℕ) → owed_by_seen (content_of m) number ≡ owed_by m number
 
 -- what stands says what each read answers
 abbrev pub AnswersAreTold : Type 0
-AnswersAreTold = (m : Machine) (h : Open (Option ℕ)) (max : ℕ) → h.reads ≡ true → read_answer (content_of m) (shown_handle m.history h) max ≡ answer_of m h max
+AnswersAreTold = (m : Machine) (h : OpenHandle (Option ℕ)) (max : ℕ) → h.reads ≡ true → read_answer (content_of m) (shown_handle m.history h) max ≡ answer_of m h max
 
 -- what stands says how many records have to be kept
 abbrev pub KeptIsTold : Type 0
@@ -85,9 +85,9 @@ RefusalsKeep = (m : Machine) (e : Event) (r : Refusal) → (step m e).0 ≡ Err 
 
 -- one more record is owed to the handles that see it, behind all else; and without a cursor nothing is owed
 pub record DebtsGrow : Type 0 where
-  pub record_more : (h : Open (Option ℕ)) (history : List Entry) (e : Entry) (cursor : ℕ) → cursor ≤ length history
+  pub record_more : (h : OpenHandle (Option ℕ)) (history : List Entry) (e : Entry) (cursor : ℕ) → cursor ≤ length history
       → owed h (history ++ e ∷ []) (Some cursor) ≡ owed h history (Some cursor) ++ (if visible h e then e ∷ [] else [])
-  pub no_cursor : (h : Open (Option ℕ)) (history : List Entry) → owed h history None ≡ []
+  pub no_cursor : (h : OpenHandle (Option ℕ)) (history : List Entry) → owed h history None ≡ []
 
 -- ---- private traffic
 

@@ -9,8 +9,8 @@ use Rattle.pps_types.specs.declared.handle_kind.HandleKind.TheVariants.{Server a
 use Rattle.pps_types.specs.Text.{WriteText, write_text}
 use Rattle.pps_types.specs.Names.{parent}
 use Rattle.pps_types.specs.OpenText.{OpenSpec, open_text, path_text}
-use Rattle.pps_types.specs.Reading.{Open, Answer, Needs, TargetGone}
-use Rattle.pps_types.specs.Rests.{Seen}
+use Rattle.pps_types.specs.Reading.{OpenHandle, Answer, Needs, TargetGone}
+use Rattle.pps_types.specs.Rests.{Progress}
 use Rattle.pps_types.specs.Content.{Content, directory_at, object_at, own_handle, target_is_dead, read_answer}
 use Rattle.pps_types.specs.WellFormed.{IsContent}
 use Rattle.pps_types.specs.Checks.{Addressee, Nobody, addressee, first_refusal, checks}
@@ -39,7 +39,7 @@ is_addressed ServerHandle name text = is_somebody (addressee name text.header)
 is_addressed kind name text = true
 
 -- the object that is written is alive
-pub record IsWritten (c : Content) (h : Open Seen) (text : WriteText) : Type 0 where
+pub record IsWritten (c : Content) (h : OpenHandle Progress) (text : WriteText) : Type 0 where
   pub alive : target_is_dead c h ≡ false
   pub addressed : is_addressed h.kind h.name text ≡ true
 

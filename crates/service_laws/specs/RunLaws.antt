@@ -14,7 +14,7 @@ use Rattle.pps_types.specs.Runs.{Answered, IsReply, IsRun, answered, events_of, 
 use Rattle.pps_types.specs.Stands.{StepsSeen, RunsSeen, Runs, marked_seen}
 use Rattle.pps_types.specs.Merge.{Session, IsMerge, with_event}
 use Rattle.pps_types.specs.History.{Entry}
-use Rattle.pps_types.specs.Reading.{Open, visible}
+use Rattle.pps_types.specs.Reading.{OpenHandle, visible}
 use Rattle.pps_types.specs.Owed.{owed, is_past_limit, is_of, kept_records, kept_records_seen, longest}
 
 -- ---- which records have to be kept
@@ -24,7 +24,7 @@ use Rattle.pps_types.specs.Owed.{owed, is_past_limit, is_of, kept_records, kept_
 pub record RecordsAreKept : Type 0 where
   pub records : (m : Machine) (directory : Bool) (target : ℕ) → kept_records_seen (content_of m) directory target ≡ kept_records m directory target
   pub count : (c : Content) (directory : Bool) (target : ℕ) → length (kept_records_seen c directory target) ≡ longest directory target c.handles
-  pub owed_are_kept : (m : Machine) (directory : Bool) (target number : ℕ) (h : Open (Option ℕ)) → find (λ h. h.number == number) m.handles ≡ Some h
+  pub owed_are_kept : (m : Machine) (directory : Bool) (target number : ℕ) (h : OpenHandle (Option ℕ)) → find (λ h. h.number == number) m.handles ≡ Some h
       → is_of directory target h ≡ true → is_past_limit h (owed h m.history h.seen) ≡ false
       → (read : List Entry) × (filter (visible h) (kept_records m directory target) ≡ read ++ owed h m.history h.seen)
 

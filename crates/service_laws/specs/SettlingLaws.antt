@@ -6,8 +6,8 @@ use Rattle.pps_types.specs.declared.event.Event.{Event}
 use Rattle.pps_types.specs.declared.event.Request.{Request}
 use Rattle.pps_types.specs.declared.event.Request.TheVariants.{Detach}
 use Rattle.pps_types.specs.History.{Entry}
-use Rattle.pps_types.specs.Reading.{Open, Member, style, visible}
-use Rattle.pps_types.specs.Rests.{Seen, News, seen_of, rest_of}
+use Rattle.pps_types.specs.Reading.{OpenHandle, Member, style, visible}
+use Rattle.pps_types.specs.Rests.{Progress, News, seen_of, rest_of}
 use Rattle.pps_types.specs.Content.{Content, news, object_numbered, members, target_members, target_is_dead, handles_of, connection_numbered, queue_of, read_answer, is_waiting}
 use Rattle.pps_types.specs.Owed.{is_past_limit}
 use Rattle.pps_types.specs.Runs.{queued_by}
@@ -38,33 +38,33 @@ pub record MovesAreSettled : Type 0 where
 -- the rest that it keeps of them. A handle without news that reads and fits its mode is owed nothing; and one that sees a record
 -- has news by it.
 pub record SeenIsTold : Type 0 where
-  pub full : (h : Open Seen) (es : List Entry) (b : Bool) → seen_after h es (News b) ≡ News (b || list_any (visible h) es)
-  pub caught_up : (h : Open Seen) (es : List Entry) → seen_after h es (seen_of h []) ≡ seen_of h (rest_of h es)
-  pub no_news : (h : Open Seen) → fits (style h.kind) h.seen ≡ true → news h ≡ false → h.reads ≡ true → h.seen ≡ seen_of h []
-  pub wakes : (h : Open Seen) (es : List Entry) → news h ≡ false → list_any (visible h) es ≡ true → news (offer_all es h) ≡ true
+  pub full : (h : OpenHandle Progress) (es : List Entry) (b : Bool) → seen_after h es (News b) ≡ News (b || list_any (visible h) es)
+  pub caught_up : (h : OpenHandle Progress) (es : List Entry) → seen_after h es (seen_of h []) ≡ seen_of h (rest_of h es)
+  pub no_news : (h : OpenHandle Progress) → fits (style h.kind) h.seen ≡ true → news h ≡ false → h.reads ≡ true → h.seen ≡ seen_of h []
+  pub wakes : (h : OpenHandle Progress) (es : List Entry) → news h ≡ false → list_any (visible h) es ≡ true → news (offer_all es h) ≡ true
 
 -- Records leave each handle as it is that they do not concern, and moves each that they are not of either; and whatever the moves,
 -- what handles have seen stays fitting.
 pub record OthersStay : Type 0 where
-  pub untouched : (es : List Entry) (h : Open Seen) → IsWhole h h.seen → is_concerned es h ≡ false → offer_all es h ≡ h
-  pub left : (ms : List Move) (h : Open Seen) → IsWhole h h.seen → is_concerned (entries_told ms) h ≡ false
+  pub untouched : (es : List Entry) (h : OpenHandle Progress) → IsWhole h h.seen → is_concerned es h ≡ false → offer_all es h ≡ h
+  pub left : (ms : List Move) (h : OpenHandle Progress) → IsWhole h h.seen → is_concerned (entries_told ms) h ≡ false
       → list_any (names_handle h.number) ms ≡ false → handle_after ms h ≡ Some h
   pub stays : (ms : List Move) (c : Content) → AreTold c → AreTold (apply_all_seen ms c)
 
 -- The answer to a parked read behind records, by its handle before them and by its target. One record passes no limit of 1 or more.
 -- And what moves leave of the objects, of a directory's members and of a handle's target, by what stood before.
 pub record RepliesAreTold : Type 0 where
-  pub answer : (c : Content) (h : Open Seen) (es : List Entry) (size : ℕ) → fits (style h.kind) h.seen ≡ true → news h ≡ false
+  pub answer : (c : Content) (h : OpenHandle Progress) (es : List Entry) (size : ℕ) → fits (style h.kind) h.seen ≡ true → news h ≡ false
       → list_any (visible h) es ≡ true → read_answer c (offer_all es h) size ≡ late_answer h es (target_is_dead c h) (target_members c h) size
-  pub within : (h : Open Seen) (e : Entry) → 1 ≤ h.limit → is_past_limit h (visible_to h (e ∷ [])) ≡ false
+  pub within : (h : OpenHandle Progress) (e : Entry) → 1 ≤ h.limit → is_past_limit h (visible_to h (e ∷ [])) ≡ false
   pub objects : (ms : List Move) (c : Content) → (apply_all_seen ms c).objects ≡ objects_after ms c.objects
   pub object : (ms : List Move) (c : Content) (n : ℕ) → object_numbered (apply_all_seen ms c) n ≡ object_after ms n (object_numbered c n)
   pub members : (ms : List Move) (c : Content) (directory : ℕ) → NamesAreFree c ms
       → members (apply_all_seen ms c) directory ≡ members_after ms directory (members c directory)
-  pub target : (ms : List Move) (c : Content) (h : Open Seen) → NamesAreFree c ms
+  pub target : (ms : List Move) (c : Content) (h : OpenHandle Progress) → NamesAreFree c ms
       → target_members (apply_all_seen ms c) h ≡ target_members_after c ms h
-  pub dead : (ms : List Move) (c : Content) (h : Open Seen) → target_is_dead (apply_all_seen ms c) h ≡ target_is_dead_after c ms h
-  pub before : (ms : List Move) (c : Content) (h : Open Seen) → NamesAreFree c ms
+  pub dead : (ms : List Move) (c : Content) (h : OpenHandle Progress) → target_is_dead (apply_all_seen ms c) h ≡ target_is_dead_after c ms h
+  pub before : (ms : List Move) (c : Content) (h : OpenHandle Progress) → NamesAreFree c ms
       → follows_in (apply_all_seen ms c) (entries_told ms) h ≡ follows c ms h
 
 -- An event's moves: the handle that they open has the next number and waits for nothing, the names of the objects that they create are free,
@@ -97,27 +97,27 @@ pub record EventsAreSettled : Type 0 where
 
 -- closings one after the other, by what stood before them all
 pub record ClosesArePlanned : Type 0 where
-  pub closes : (c : Content) (hs : List (Open Seen)) → closings c hs ≡ closings_behind c [] hs
+  pub closes : (c : Content) (hs : List (OpenHandle Progress)) → closings c hs ≡ closings_behind c [] hs
   pub detach : (c : Content) (conn : ℕ) → (effect c conn Detach).1 ≡ closings_behind c [] (handles_of c conn) ++ Leaves conn ∷ []
 
 -- What follows may be worked out handle by handle while it is carried out: it changes no answer, no other handle and no queue but by the items
 -- that it puts behind. A woken handle is given one item for its pulse and one for its read. And who wakes is among the handles
 -- on the records' objects and on their directories, in rising number.
 pub record StepsAreFree : Type 0 where
-  pub answers : (ms : List Move) (c : Content) (h : Open Seen) (size : ℕ) → entries_told ms ≡ []
+  pub answers : (ms : List Move) (c : Content) (h : OpenHandle Progress) (size : ℕ) → entries_told ms ≡ []
       → read_answer (apply_all_seen ms c) h size ≡ read_answer c h size
-  pub in_turn : (hs : List (Open Seen)) (c : Content) (es : List Entry) → follows_in_turn c es hs ≡ flat_map (follows_in c es) hs
-  pub others : (g h : Open Seen) (es : List Entry) (dead : Bool) (members : List Member) → (g.number == h.number) ≡ false
+  pub in_turn : (hs : List (OpenHandle Progress)) (c : Content) (es : List Entry) → follows_in_turn c es hs ≡ flat_map (follows_in c es) hs
+  pub others : (g h : OpenHandle Progress) (es : List Entry) (dead : Bool) (members : List Member) → (g.number == h.number) ≡ false
       → handle_after (pulse_and_reply h es dead members) g ≡ Some g
   pub queues : (ms : List Move) (c : Content) (conn : ℕ) → list_all (keeps_queue conn) ms ≡ true
       → queue_of (apply_all_seen ms c) conn ≡ option_map_or (λ x. x.queue ++ flat_map (queued_by conn) ms) (connection_numbered c conn) []
-  pub keeps : (h : Open Seen) (es : List Entry) (dead : Bool) (members : List Member) (conn : ℕ) → list_all (keeps_queue conn) (pulse_and_reply h es dead members) ≡ true
-  pub counts : (h : Open Seen) (es : List Entry) (dead : Bool) (members : List Member) → list_any (visible h) es ≡ true
+  pub keeps : (h : OpenHandle Progress) (es : List Entry) (dead : Bool) (members : List Member) (conn : ℕ) → list_all (keeps_queue conn) (pulse_and_reply h es dead members) ≡ true
+  pub counts : (h : OpenHandle Progress) (es : List Entry) (dead : Bool) (members : List Member) → list_any (visible h) es ≡ true
       → length (flat_map (queued_by h.connection) (pulse_and_reply h es dead members))
       ≡ (if is_some h.armed then 1 else 0) + (if is_some h.parked then 1 else 0)
-  pub elsewhere : (h : Open Seen) (es : List Entry) (dead : Bool) (members : List Member) (conn : ℕ) → (h.connection == conn) ≡ false
+  pub elsewhere : (h : OpenHandle Progress) (es : List Entry) (dead : Bool) (members : List Member) (conn : ℕ) → (h.connection == conn) ≡ false
       → flat_map (queued_by conn) (pulse_and_reply h es dead members) ≡ []
-  pub among : (ms : List Move) (hs : List (Open Seen)) → filter (is_woken ms) hs ≡ filter (is_woken ms) (filter (is_concerned (entries_told ms)) hs)
+  pub among : (ms : List Move) (hs : List (OpenHandle Progress)) → filter (is_woken ms) hs ≡ filter (is_woken ms) (filter (is_concerned (entries_told ms)) hs)
   pub looked_up : (es : List Entry) (c : Content) → HandlesRise c
       → filter (is_concerned es) c.handles
       ≡ merged (filter (λ h. list_any (λ e. is_on_object e.record_of.object h) es) c.handles)

@@ -5,8 +5,8 @@ use Rattle.std.specs.Option.{option_map_or, option_or}
 use Rattle.std.specs.List.{filter_map}
 use Rattle.pps_types.specs.Names.{name_cmp, insert_by}
 use Rattle.pps_types.specs.History.{line_of}
-use Rattle.pps_types.specs.Reading.{Open, is_directory_kind, Member}
-use Rattle.pps_types.specs.Rests.{Seen}
+use Rattle.pps_types.specs.Reading.{OpenHandle, is_directory_kind, Member}
+use Rattle.pps_types.specs.Rests.{Progress}
 use Rattle.pps_types.specs.Content.{Content, LiveObject, object_numbered, object_in, members, member}
 use Rattle.pps_types.specs.Plan.{Move, Creates, AppendsRecord, MakesDirectory, still_known, touched, apply_seen}
 use Rattle.service_laws.specs.Told.{entries_told}
@@ -58,13 +58,13 @@ members_after ms directory os = fold (members_by directory) os ms
 -- ---- a handle's target
 
 -- its members after moves: an object is its own one member, a dead one too
-abbrev pub target_members_after : Content → List Move → Open Seen → List Member
+abbrev pub target_members_after : Content → List Move → OpenHandle Progress → List Member
 target_members_after c ms h =
     if is_directory_kind h.kind then map member (members_after ms h.target (members c h.target))
     else record { name = h.name; lines = map line_of (option_map_or (λ o. o.attributes) (object_after ms h.target (object_numbered c h.target)) []) } ∷ []
 
 -- whether it is a dead object after them
-abbrev pub target_is_dead_after : Content → List Move → Open Seen → Bool
+abbrev pub target_is_dead_after : Content → List Move → OpenHandle Progress → Bool
 target_is_dead_after c ms h = not (is_directory_kind h.kind) && is_none (object_after ms h.target (object_numbered c h.target))
 
 -- ---- how many there are

@@ -2,10 +2,10 @@
 use Rattle.std.specs.Prelude.{◌≡◌, ℕ, ◌+◌, List, [], ◌∷◌, Bool, true, false, not, ◌&&◌, ◌==◌, if◌then◌else◌, Option, Some, None, option_and_then, fold, map}
 use Rattle.std.specs.List.{filter_map, cons_option, list_any}
 use Rattle.pps_types.specs.History.{Entry}
-use Rattle.pps_types.specs.Reading.{Open, reseen, style}
-use Rattle.pps_types.specs.Rests.{Seen}
+use Rattle.pps_types.specs.Reading.{OpenHandle, reseen, style}
+use Rattle.pps_types.specs.Rests.{Progress}
 use Rattle.pps_types.specs.Content.{Content, is_waiting, learns}
-use Rattle.pps_types.specs.WellFormed.{AreRising}
+use Rattle.pps_types.specs.WellFormed.{RiseBetween}
 use Rattle.pps_types.specs.Plan.{Move, Creates, AppendsRecord, Opens, Closes, CatchesUp, Advances, Parks, Arms, creation, offered, offer, caught_up, left, first_seen}
 
 -- ---- records
@@ -23,7 +23,7 @@ entries_told ms = filter_map entry_told ms
 -- ---- handles
 
 -- what a move makes of a handle: none where it closes it
-abbrev pub handle_by : Move → Open Seen → Option (Open Seen)
+abbrev pub handle_by : Move → OpenHandle Progress → Option (OpenHandle Progress)
 handle_by (Creates o) h = Some (offer (creation o) h)
 handle_by (AppendsRecord e) h = Some (offer e h)
 handle_by (Closes number) h = if h.number == number then None else Some h
@@ -34,17 +34,17 @@ handle_by (Arms number pulse) h = Some (if h.number == number then record h { ar
 handle_by _ h = Some h
 
 -- what moves make of it, one after the other
-abbrev pub handle_after : List Move → Open Seen → Option (Open Seen)
+abbrev pub handle_after : List Move → OpenHandle Progress → Option (OpenHandle Progress)
 handle_after [] h = Some h
 handle_after (x ∷ xs) h = option_and_then (handle_after xs) (handle_by x h)
 
 -- the handle that a move opens
-abbrev pub opened_by : Move → Option (Open Seen)
+abbrev pub opened_by : Move → Option (OpenHandle Progress)
 opened_by (Opens h) = Some (reseen (λ h. first_seen h (style h.kind)) h)
 opened_by _ = None
 
 -- the handles that moves open, each as the moves behind leave it
-abbrev pub handles_opened : List Move → List (Open Seen)
+abbrev pub handles_opened : List Move → List (OpenHandle Progress)
 handles_opened [] = []
 handles_opened (x ∷ xs) = cons_option (option_and_then (handle_after xs) (opened_by x)) (handles_opened xs)
 
@@ -52,15 +52,15 @@ handles_opened (x ∷ xs) = cons_option (option_and_then (handle_after xs) (open
 
 -- the handles stand in rising number, as they do where what stands is well formed
 abbrev pub HandlesRise : Content → Type 0
-HandlesRise c = AreRising 0 (map (λ h. h.number) c.handles) c.next_handle
+HandlesRise c = RiseBetween 0 (map (λ h. h.number) c.handles) c.next_handle
 
 -- the handle, if there is one, has the next number
-abbrev pub IsNumbered : ℕ → Option (Open Seen) → Type 0
+abbrev pub IsNumbered : ℕ → Option (OpenHandle Progress) → Type 0
 IsNumbered next None = Unit {0}
 IsNumbered next (Some h) = h.number ≡ next
 
 -- the next number behind it
-abbrev pub number_after : ℕ → Option (Open Seen) → ℕ
+abbrev pub number_after : ℕ → Option (OpenHandle Progress) → ℕ
 number_after next None = next
 number_after next (Some h) = next + 1
 
@@ -86,7 +86,7 @@ closes_handle n (Closes number) = n == number
 closes_handle n _ = false
 
 -- It waits, had no news, sees one of the moves' records, and stays open.
-abbrev pub is_woken : List Move → Open Seen → Bool
+abbrev pub is_woken : List Move → OpenHandle Progress → Bool
 is_woken ms h = is_waiting h && learns (entries_told ms) h && not (list_any (closes_handle h.number) ms)
 
 -- a move that changes a handle at most by its record, or by closing it
@@ -100,9 +100,9 @@ only_tells _ = true
 -- ---- records that are offered
 
 -- what a handle has seen once records were offered to it, one after the other
-abbrev pub seen_after : Open Seen → List Entry → Seen → Seen
+abbrev pub seen_after : OpenHandle Progress → List Entry → Progress → Progress
 seen_after h es seen = fold (λ s e. offered h e s) seen es
 
 -- the handle once they were
-abbrev pub offer_all : List Entry → Open Seen → Open Seen
+abbrev pub offer_all : List Entry → OpenHandle Progress → OpenHandle Progress
 offer_all es h = reseen (λ h. seen_after h es h.seen) h

@@ -5,8 +5,8 @@ use Rattle.std.proofs.lemmas.List.{length-map}
 use Rattle.pps_types.specs.declared.found.Found.{Found}
 use Rattle.pps_types.specs.declared.found.Found.TheVariants.{Object as FoundObject, Directory as FoundDirectory}
 use Rattle.pps_types.specs.History.{Entry}
-use Rattle.pps_types.specs.Reading.{Open, visible}
-use Rattle.pps_types.specs.Rests.{Seen}
+use Rattle.pps_types.specs.Reading.{OpenHandle, visible}
+use Rattle.pps_types.specs.Rests.{Progress}
 use Rattle.pps_types.specs.Plan.{offer, without_first}
 use Rattle.service_laws.proofs.Effects.{filter-map}
 use Rattle.open_handles.specs.Whole.{Whole, Site, IsShared, is_on, handles_at, site_at}
@@ -42,23 +42,23 @@ module _ {X : Type 0} (p q : X → Bool) where
       by false rest = omega (arith, count-cons x xs, count-cons x (without_first t xs))
 
 -- a record that is offered leaves the handles that see another as many
-pub same-offered : (e other : Entry) (f : Found) (hs : List (Open Seen)) → length (filter (λ (h : Open Seen). visible h e) (filter (is_on f) (map (offer other) hs))) ≡ length (filter (λ (h : Open Seen). visible h e) (filter (is_on f) hs))
+pub same-offered : (e other : Entry) (f : Found) (hs : List (OpenHandle Progress)) → length (filter (λ (h : OpenHandle Progress). visible h e) (filter (is_on f) (map (offer other) hs))) ≡ length (filter (λ (h : OpenHandle Progress). visible h e) (filter (is_on f) hs))
 same-offered e other f hs =
-    ap (λ xs. length (filter (λ (h : Open Seen). visible h e) xs)) (filter-map (is_on f) (offer other) (on f) hs)
-    ∙ ap length (filter-map (λ (h : Open Seen). visible h e) (offer other) (λ h. refl) (filter (is_on f) hs))
-    ∙ length-map (filter (λ (h : Open Seen). visible h e) (filter (is_on f) hs)) (offer other)
+    ap (λ xs. length (filter (λ (h : OpenHandle Progress). visible h e) xs)) (filter-map (is_on f) (offer other) (on f) hs)
+    ∙ ap length (filter-map (λ (h : OpenHandle Progress). visible h e) (offer other) (λ h. refl) (filter (is_on f) hs))
+    ∙ length-map (filter (λ (h : OpenHandle Progress). visible h e) (filter (is_on f) hs)) (offer other)
   where
-    on : (f : Found) (h : Open Seen) → is_on f (offer other h) ≡ is_on f h
+    on : (f : Found) (h : OpenHandle Progress) → is_on f (offer other h) ≡ is_on f h
     on (FoundObject n) h = refl
     on (FoundDirectory n) h = refl
 
 -- shares are enough for the handles of a place, where there is one
 abbrev Enough : ℕ → Entry → Whole → Option Site → Type 0
-Enough count e w o = IfSome o (λ s. s.service ≡ true → length (filter (λ (h : Open Seen). visible h e) (handles_at (FoundObject e.record_of.object) w)) ≤ count)
+Enough count e w o = IfSome o (λ s. s.service ≡ true → length (filter (λ (h : OpenHandle Progress). visible h e) (handles_at (FoundObject e.record_of.object) w)) ≤ count)
 
 -- shares that were enough are enough, where no more handles see their record
 pub shared_stays : (count : ℕ) (e : Entry) (old new : Whole) → KeepsOrDrops old new
-    → ((f : Found) → length (filter (λ (h : Open Seen). visible h e) (handles_at f new)) ≤ length (filter (λ (h : Open Seen). visible h e) (handles_at f old)))
+    → ((f : Found) → length (filter (λ (h : OpenHandle Progress). visible h e) (handles_at f new)) ≤ length (filter (λ (h : OpenHandle Progress). visible h e) (handles_at f old)))
     → IsShared count e old → IsShared count e new
 shared_stays count e old new sites fewer shared = by (site_at (FoundObject e.record_of.object) new) (site_at (FoundObject e.record_of.object) old) (sites (FoundObject e.record_of.object)) shared
   where

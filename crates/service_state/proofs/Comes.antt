@@ -8,10 +8,10 @@ use Rattle.pps_types.specs.declared.found.Found.{Found}
 use Rattle.pps_types.specs.declared.found.Found.TheVariants.{Object as FoundObject, Directory as FoundDirectory}
 use Rattle.pps_types.specs.Names.{Path}
 use Rattle.pps_types.specs.Outbox.{Outbox, empty_outbox, put_rising}
-use Rattle.pps_types.specs.Reading.{Open, reseen, style}
-use Rattle.pps_types.specs.Rests.{Seen}
+use Rattle.pps_types.specs.Reading.{OpenHandle, reseen, style}
+use Rattle.pps_types.specs.Rests.{Progress}
 use Rattle.pps_types.specs.Content.{Content, Connection, Object, LiveObject, Directory, connection_numbered, is_attached, handles_of}
-use Rattle.pps_types.specs.WellFormed.{AreRising}
+use Rattle.pps_types.specs.WellFormed.{RiseBetween}
 use Rattle.pps_types.specs.Plan.{Move, Creates, Opens, Attaches, Leaves, MakesDirectory, RemovesDirectory, apply_seen, first_seen, without_first, offer, creation}
 use Rattle.service_laws.proofs.Rising.{rising-below, rising-ends}
 use Rattle.service_laws.specs.Told.{HandlesRise}
@@ -27,12 +27,12 @@ use Rattle.service_state.proofs.Ties.{Meets, Step, stepped, meets_content, sites
 -- ---- handles
 
 -- the numbers of a connection's handles are below the next one
-below_all : (conn high : ℕ) (hs : List (Open Seen)) → AllByRecursion (λ h. h.number < high) hs → AllByRecursion (λ k. k < high) (map (λ (h : Open Seen). h.number) (filter (λ h. h.connection == conn) hs))
+below_all : (conn high : ℕ) (hs : List (OpenHandle Progress)) → AllByRecursion (λ h. h.number < high) hs → AllByRecursion (λ k. k < high) (map (λ (h : OpenHandle Progress). h.number) (filter (λ h. h.connection == conn) hs))
 below_all conn high [] all = tt
 below_all conn high (h ∷ hs) all = by (h.connection == conn) (below_all conn high hs all.1)
   where
-    by : (b : Bool) → AllByRecursion (λ k. k < high) (map (λ (h : Open Seen). h.number) (filter (λ h. h.connection == conn) hs))
-        → AllByRecursion (λ k. k < high) (map (λ (h : Open Seen). h.number) (cond b (h ∷ filter (λ h. h.connection == conn) hs) (filter (λ h. h.connection == conn) hs)))
+    by : (b : Bool) → AllByRecursion (λ k. k < high) (map (λ (h : OpenHandle Progress). h.number) (filter (λ h. h.connection == conn) hs))
+        → AllByRecursion (λ k. k < high) (map (λ (h : OpenHandle Progress). h.number) (cond b (h ∷ filter (λ h. h.connection == conn) hs) (filter (λ h. h.connection == conn) hs)))
     by true rest = (all.0, rest)
     by false rest = rest
 
@@ -42,10 +42,10 @@ numbers_below found c rise conn = by (connection_numbered c conn) (found.standin
     by : (o : Option Connection) → standing_at conn (connections_of c) ≡ option_map (connection_of c) o → AllByRecursion (λ k. k < c.next_handle) (handles_at conn (connections_of c))
     by None e = subst (λ o. AllByRecursion (λ k. k < c.next_handle) (option_map_or (λ (s : Standing). s.handles) o [])) (sym e) tt
     by (Some x) e = subst (λ o. AllByRecursion (λ k. k < c.next_handle) (option_map_or (λ (s : Standing). s.handles) o [])) (sym e)
-        (below_all x.number c.next_handle c.handles (rising-below (λ (h : Open Seen). h.number) 0 c.next_handle c.handles rise))
+        (below_all x.number c.next_handle c.handles (rising-below (λ (h : OpenHandle Progress). h.number) 0 c.next_handle c.handles rise))
 
 module _ (found : ConnectionsAreFound) (told : ConnectionsAreTold) (stay : PremisesStay) where
-  pub opened_step : (t : Tabled) (w : Whole) (x : RoomedConnections) (h : Open (Unit {0})) → AreTied t → h.parked ≡ None → h.armed ≡ None
+  pub opened_step : (t : Tabled) (w : Whole) (x : RoomedConnections) (h : OpenHandle (Unit {0})) → AreTied t → h.parked ≡ None → h.armed ≡ None
       → handles_in w ≡ handles_in t.handles ++ reseen (λ h. first_seen h (style h.kind)) h ∷ [] → w.rows.next ≡ t.handles.rows.next + 1 → KeepsSites t.handles w
       → standing_in x ≡ with_handles h.connection (λ hs. hs ++ h.number ∷ []) (standing_in t.connections) → Step (Opens h ∷ []) t (record t { handles = w; connections = x })
   opened_step t w x h tied idle unarmed handles next sites standing =
@@ -99,7 +99,7 @@ module _ (found : ConnectionsAreFound) (told : ConnectionsAreTold) (stay : Premi
 -- ---- directories
 
 -- a directory in a rising list is none of a number above all
-not_above : (n : ℕ) (low : ℕ) (ds : List Directory) → AreRising low (map (λ (d : Directory). d.number) ds) n → AllByRecursion (λ (d : Directory). d.number ≡ n → ⊥) ds
+not_above : (n : ℕ) (low : ℕ) (ds : List Directory) → RiseBetween low (map (λ (d : Directory). d.number) ds) n → AllByRecursion (λ (d : Directory). d.number ≡ n → ⊥) ds
 not_above n low [] r = tt
 not_above n low (d ∷ ds) r = (λ same. omega (arith, same, rising-ends (d.number + 1) n (map (λ (d : Directory). d.number) ds) r.1), not_above n (d.number + 1) ds r.1)
 
@@ -118,12 +118,12 @@ objects_stay old new sites [] all = tt
 objects_stay old new sites (o ∷ os) all = (sites o.object.number ∙ all.0, objects_stay old new sites os all.1)
 
 -- what is left once one is taken out is none of its number
-without_apart : (n low high : ℕ) (ds : List Directory) → AreRising low (map (λ (d : Directory). d.number) ds) high
+without_apart : (n low high : ℕ) (ds : List Directory) → RiseBetween low (map (λ (d : Directory). d.number) ds) high
     → AllByRecursion (λ (d : Directory). d.number ≡ n → ⊥) (without_first (λ d. d.number == n) ds)
 without_apart n low high [] r = tt
 without_apart n low high (d ∷ ds) r = by (d.number == n) refl (without_apart n (d.number + 1) high ds r.1)
   where
-    above : (m : ℕ) (ds : List Directory) → n < m → AreRising m (map (λ (d : Directory). d.number) ds) high → AllByRecursion (λ (d : Directory). d.number ≡ n → ⊥) ds
+    above : (m : ℕ) (ds : List Directory) → n < m → RiseBetween m (map (λ (d : Directory). d.number) ds) high → AllByRecursion (λ (d : Directory). d.number ≡ n → ⊥) ds
     above m [] lt r = tt
     above m (d ∷ ds) lt r = (λ same. omega (arith, same, r.0), above (d.number + 1) ds (omega (arith, r.0)) r.1)
 
@@ -171,7 +171,7 @@ module _ (found : ConnectionsAreFound) (told : ConnectionsAreTold) (named : Move
         };
       }
 
-  pub made_step : (t : Tabled) (n : Named) (w : Whole) (path : Path) → AreTied t → AreRising 0 (map (λ (d : Directory). d.number) (content_in t).directories) (content_in t).next_directory
+  pub made_step : (t : Tabled) (n : Named) (w : Whole) (path : Path) → AreTied t → RiseBetween 0 (map (λ (d : Directory). d.number) (content_in t).directories) (content_in t).next_directory
       → standing_of n ≡ after (MakesDirectory path) (standing_of t.names) → handles_in w ≡ handles_in t.handles → w.rows ≡ t.handles.rows
       → site_at (FoundDirectory (content_in t).next_directory) w ≡ Some (record { name = []; service = false })
       → ((f : Found) → (f ≡ FoundDirectory (content_in t).next_directory → ⊥) → site_at f w ≡ site_at f t.handles)
@@ -187,7 +187,7 @@ module _ (found : ConnectionsAreFound) (told : ConnectionsAreTold) (named : Move
       (next_object ∙ tied.next_object ∙ sym (ap (λ s. s.next_object) same))
       (next_directory ∙ sym (ap (λ s. s.next_directory) same))
 
-  pub removed_step : (t : Tabled) (n : Named) (w : Whole) (number : ℕ) → AreTied t → AreRising 0 (map (λ (d : Directory). d.number) (content_in t).directories) (content_in t).next_directory
+  pub removed_step : (t : Tabled) (n : Named) (w : Whole) (number : ℕ) → AreTied t → RiseBetween 0 (map (λ (d : Directory). d.number) (content_in t).directories) (content_in t).next_directory
       → standing_of n ≡ after (RemovesDirectory number) (standing_of t.names) → handles_in w ≡ handles_in t.handles → w.rows ≡ t.handles.rows
       → ((f : Found) → (f ≡ FoundDirectory number → ⊥) → site_at f w ≡ site_at f t.handles)
       → w.objects.next ≡ t.handles.objects.next → w.directories.next ≡ t.handles.directories.next → Step (RemovesDirectory number ∷ []) t (record t { names = n; handles = w })
@@ -204,7 +204,7 @@ module _ (found : ConnectionsAreFound) (told : ConnectionsAreTold) (named : Move
 
 -- ---- objects
 
-pub not_above_objects : (n : ℕ) (low : ℕ) (os : List LiveObject) → AreRising low (map (λ (o : LiveObject). o.object.number) os) n → AllByRecursion (λ (o : LiveObject). o.object.number ≡ n → ⊥) os
+pub not_above_objects : (n : ℕ) (low : ℕ) (os : List LiveObject) → RiseBetween low (map (λ (o : LiveObject). o.object.number) os) n → AllByRecursion (λ (o : LiveObject). o.object.number ≡ n → ⊥) os
 not_above_objects n low [] r = tt
 not_above_objects n low (o ∷ os) r = (λ same. omega (arith, same, rising-ends (o.object.number + 1) n (map (λ (o : LiveObject). o.object.number) os) r.1), not_above_objects n (o.object.number + 1) os r.1)
 
@@ -219,7 +219,7 @@ directories_stay old new sites (d ∷ ds) all = (sites d.number ∙ all.0, direc
 
 module _ (found : ConnectionsAreFound) (told : ConnectionsAreTold) (named : MovesAreTold) where
   pub created_step : (t : Tabled) (n : Named) (w : Whole) (o : Object) → AreTied t → o.number ≡ (content_in t).next_object
-      → AreRising 0 (map (λ (o : LiveObject). o.object.number) (content_in t).objects) (content_in t).next_object
+      → RiseBetween 0 (map (λ (o : LiveObject). o.object.number) (content_in t).objects) (content_in t).next_object
       → standing_of n ≡ after (Creates o) (standing_of t.names) → handles_in w ≡ map (offer (creation o)) (handles_in t.handles) → w.rows ≡ t.handles.rows
       → site_at (FoundObject o.number) w ≡ Some (record { name = o.name; service = is_some o.server })
       → ((f : Found) → (f ≡ FoundObject o.number → ⊥) → site_at f w ≡ site_at f t.handles)

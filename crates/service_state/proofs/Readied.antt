@@ -5,8 +5,8 @@ use Rattle.std.proofs.Common.{refl, sym, ◌∙◌, ap, subst, inl, arith, le_re
 use Rattle.std.proofs.lemmas.Bool.Decides.{nat_tests}
 use Rattle.pps_types.specs.declared.found.Found.{Found}
 use Rattle.pps_types.specs.History.{Entry}
-use Rattle.pps_types.specs.Reading.{Open, visible}
-use Rattle.pps_types.specs.Rests.{Seen}
+use Rattle.pps_types.specs.Reading.{OpenHandle, visible}
+use Rattle.pps_types.specs.Rests.{Progress}
 use Rattle.pps_types.specs.Content.{Content}
 use Rattle.service_laws.specs.SettlingTargets.{last_number_passed}
 use Rattle.open_handles.specs.Whole.{Whole, HasRoom, handles_at, handles_in, is_on}
@@ -26,8 +26,8 @@ module _ (old new : Tabled) (same : content_in new ≡ content_in old) (kept : K
   same_handles : (f : Found) → handles_at f new.handles ≡ handles_at f old.handles
   same_handles f = placed_new f ∙ ap (λ (c : Content). filter (is_on f) c.handles) same ∙ sym (placed f)
 
-  no_more : (e : Entry) (f : Found) → length (filter (λ (h : Open Seen). visible h e) (handles_at f new.handles)) ≤ length (filter (λ (h : Open Seen). visible h e) (handles_at f old.handles))
-  no_more e f = subst (λ hs. length (filter (λ (h : Open Seen). visible h e) hs) ≤ length (filter (λ (h : Open Seen). visible h e) (handles_at f old.handles))) (sym (same_handles f)) (le_refl (length (filter (λ (h : Open Seen). visible h e) (handles_at f old.handles))))
+  no_more : (e : Entry) (f : Found) → length (filter (λ (h : OpenHandle Progress). visible h e) (handles_at f new.handles)) ≤ length (filter (λ (h : OpenHandle Progress). visible h e) (handles_at f old.handles))
+  no_more e f = subst (λ hs. length (filter (λ (h : OpenHandle Progress). visible h e) hs) ≤ length (filter (λ (h : OpenHandle Progress). visible h e) (handles_at f old.handles))) (sym (same_handles f)) (le_refl (length (filter (λ (h : OpenHandle Progress). visible h e) (handles_at f old.handles))))
 
   still_shared : (xs : List Beginning) → AllByRecursion (IsSharedBy old.handles) xs → AllByRecursion (IsSharedBy new.handles) xs
   still_shared [] shared = tt

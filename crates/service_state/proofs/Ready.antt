@@ -6,8 +6,8 @@ use Rattle.pps_types.specs.declared.found.Found.{Found}
 use Rattle.pps_types.specs.declared.record.Kind.{Kind}
 use Rattle.pps_types.specs.declared.record.Kind.TheVariants.{Created, Change, Truncated, Dropped, Deleted, Opened, Closed, FromClient, ToClient, ToAll}
 use Rattle.pps_types.specs.History.{Entry}
-use Rattle.pps_types.specs.Reading.{Open, visible}
-use Rattle.pps_types.specs.Rests.{Seen}
+use Rattle.pps_types.specs.Reading.{OpenHandle, visible}
+use Rattle.pps_types.specs.Rests.{Progress}
 use Rattle.pps_types.specs.Plan.{AppendsRecord as HappensTo, offer, without_number}
 use Rattle.service_laws.proofs.Finds.{and-both}
 use Rattle.server_queue.specs.Shared.{Shared}
@@ -52,7 +52,7 @@ plain_lines (AppendsRecord told ∷ xs) n plain =
     (has_no_lines told.entry.record_of.kind told.entry.record_of.object n two.0, two.1)
 
 shared_all : (old new : Whole) → KeepsOrDrops old new
-    → ((e : Entry) (f : Found) → length (filter (λ (h : Open Seen). visible h e) (handles_at f new)) ≤ length (filter (λ (h : Open Seen). visible h e) (handles_at f old)))
+    → ((e : Entry) (f : Found) → length (filter (λ (h : OpenHandle Progress). visible h e) (handles_at f new)) ≤ length (filter (λ (h : OpenHandle Progress). visible h e) (handles_at f old)))
     → (xs : List Beginning) → AllByRecursion (IsSharedBy old) xs → AllByRecursion (IsSharedBy new) xs
 shared_all old new sites fewer [] all = tt
 shared_all old new sites fewer (Closes conn handle parked ∷ xs) all = (tt, shared_all old new sites fewer xs all.1)
@@ -70,9 +70,9 @@ closed_ready conn n parked xs old new moved room names sites placed placed_new r
       room = room (entries_in xs) ready.room;
       lines = subst (HaveLines xs) (sym names) ready.lines;
       shared = shared_all old.handles new.handles (λ f. inl (sites.sites f))
-          (λ e f. subst (λ hs. length (filter (λ (h : Open Seen). visible h e) hs) ≤ length (filter (λ (h : Open Seen). visible h e) (handles_at f old.handles))) (sym (placed_new f ∙ ap (filter (is_on f)) handles))
-          (subst (λ hs. length (filter (λ (h : Open Seen). visible h e) (filter (is_on f) (without_number n (handles_in old.handles)))) ≤ length (filter (λ (h : Open Seen). visible h e) hs)) (sym (placed f))
-          (fewer-without (λ (h : Open Seen). visible h e) (is_on f) (λ h. h.number == n) (handles_in old.handles))))
+          (λ e f. subst (λ hs. length (filter (λ (h : OpenHandle Progress). visible h e) hs) ≤ length (filter (λ (h : OpenHandle Progress). visible h e) (handles_at f old.handles))) (sym (placed_new f ∙ ap (filter (is_on f)) handles))
+          (subst (λ hs. length (filter (λ (h : OpenHandle Progress). visible h e) (filter (is_on f) (without_number n (handles_in old.handles)))) ≤ length (filter (λ (h : OpenHandle Progress). visible h e) hs)) (sym (placed f))
+          (fewer-without (λ (h : OpenHandle Progress). visible h e) (is_on f) (λ h. h.number == n) (handles_in old.handles))))
           xs ready.shared.1;
       numbers = subst (λ r. r + length (entries_in xs) < 2 ^ 64) (sym records) ready.numbers;
     }
@@ -89,9 +89,9 @@ happened_ready told xs old new moved room sites placed placed_new ready =
       room = room (entries_in xs) ready.room;
       lines = plain_lines xs new.names ready.lines.1;
       shared = shared_all old.handles new.handles sites
-          (λ e f. subst (λ n. n ≤ length (filter (λ (h : Open Seen). visible h e) (handles_at f old.handles)))
-          (sym (ap (λ hs. length (filter (λ (h : Open Seen). visible h e) hs)) (placed_new f ∙ ap (filter (is_on f)) handles) ∙ same-offered e told.entry f (handles_in old.handles)))
-          (subst (λ hs. length (filter (λ (h : Open Seen). visible h e) (filter (is_on f) (handles_in old.handles))) ≤ length (filter (λ (h : Open Seen). visible h e) hs)) (sym (placed f)) (le_refl (length (filter (λ (h : Open Seen). visible h e) (filter (is_on f) (handles_in old.handles)))))))
+          (λ e f. subst (λ n. n ≤ length (filter (λ (h : OpenHandle Progress). visible h e) (handles_at f old.handles)))
+          (sym (ap (λ hs. length (filter (λ (h : OpenHandle Progress). visible h e) hs)) (placed_new f ∙ ap (filter (is_on f)) handles) ∙ same-offered e told.entry f (handles_in old.handles)))
+          (subst (λ hs. length (filter (λ (h : OpenHandle Progress). visible h e) (filter (is_on f) (handles_in old.handles))) ≤ length (filter (λ (h : OpenHandle Progress). visible h e) hs)) (sym (placed f)) (le_refl (length (filter (λ (h : OpenHandle Progress). visible h e) (filter (is_on f) (handles_in old.handles)))))))
           xs ready.shared.1;
       numbers = omega (arith, records, few);
     }

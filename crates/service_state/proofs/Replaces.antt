@@ -5,7 +5,7 @@ use Rattle.std.proofs.Common.{refl, sym, ◌∙◌, ap, subst}
 use Rattle.pps_types.specs.declared.found.Found.TheVariants.{Object as FoundObject, Directory as FoundDirectory}
 use Rattle.pps_types.specs.History.{Entry}
 use Rattle.pps_types.specs.Content.{Object, LiveObject}
-use Rattle.pps_types.specs.WellFormed.{AreRising}
+use Rattle.pps_types.specs.WellFormed.{RiseBetween}
 use Rattle.pps_types.specs.Plan.{AppendsRecord, Creates, apply_seen, touched, offer, creation}
 use Rattle.name_table.specs.Standing.{Named, standing_of, standing_in as names_in, happened, after}
 use Rattle.name_table.specs.Laws.{MovesAreTold}
@@ -31,7 +31,7 @@ openable_left e n old new stays (o ∷ os) apart all = by (touched e o) refl (op
 
 module _ (found : ConnectionsAreFound) (told : ConnectionsAreTold) (named : MovesAreTold) where
   pub replaced_step : (t : Tabled) (n : Named) (w : Whole) (e : Entry) (o : Object) (r : ℕ) → r ≡ t.records + 1 + 1 → AreTied t → o.number ≡ (content_in t).next_object
-      → AreRising 0 (map (λ (o : LiveObject). o.object.number) (content_in t).objects) (content_in t).next_object
+      → RiseBetween 0 (map (λ (o : LiveObject). o.object.number) (content_in t).objects) (content_in t).next_object
       → standing_of n ≡ after (Creates o) (happened e.record_of.object e.record_of.kind (standing_of t.names))
       → handles_in w ≡ map (offer (creation o)) (map (offer e) (handles_in t.handles)) → w.rows ≡ t.handles.rows
       → site_at (FoundObject o.number) w ≡ Some (record { name = o.name; service = is_some o.server })

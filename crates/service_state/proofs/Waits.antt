@@ -5,8 +5,8 @@ use Rattle.std.specs.Option.{option_map_or}
 use Rattle.std.proofs.Common.{refl, sym, ◌∙◌, ap, subst, cond}
 use Rattle.std.proofs.lemmas.Bool.{eqb-true}
 use Rattle.pps_types.specs.declared.refusal.Refusal.{Refusal}
-use Rattle.pps_types.specs.Reading.{Open}
-use Rattle.pps_types.specs.Rests.{Seen}
+use Rattle.pps_types.specs.Reading.{OpenHandle}
+use Rattle.pps_types.specs.Rests.{Progress}
 use Rattle.pps_types.specs.Outbox.{PulseOf, is_parked, disarmed, empty_outbox}
 use Rattle.pps_types.specs.Content.{Content, Connection, own_handle, connection_numbered}
 use Rattle.pps_types.specs.Plan.{CatchesUp, Advances, Parks, Arms, Takes, apply_all_seen, without_number, without_first}
@@ -65,7 +65,7 @@ module _ {X : Type 0} where
   some_known (Some x) s = (x, (refl, tt))
 
 -- what the close of a handle makes of the connections
-pub closed_told : ConnectionsAreTold → (c : Content) → HandlesRise c → ConnectionsRise c → (conn n : ℕ) (h : Open Seen) → own_handle c conn n ≡ Some h → (parked : Bool) → is_some h.parked ≡ parked
+pub closed_told : ConnectionsAreTold → (c : Content) → HandlesRise c → ConnectionsRise c → (conn n : ℕ) (h : OpenHandle Progress) → own_handle c conn n ≡ Some h → (parked : Bool) → is_some h.parked ≡ parked
     → connections_of (apply_all_seen (closing conn n parked) c)
     ≡ with_handles conn (λ hs. without_first (λ k. k == n) hs) (with_outbox conn (λ box. parked_ended box n) (with_outbox conn (λ box. disarmed box n) (connections_of c)))
 closed_told told c rise rises conn n h own parked is = ap (λ b. connections_of (apply_all_seen (closing conn n b) c)) (sym is) ∙ told.closed c rise rises conn n h own
@@ -75,7 +75,7 @@ closing_comes_none conn n true = refl
 closing_comes_none conn n false = refl
 
 -- a read that waits on a handle is among those of its connection
-pub held_parked : ConnectionsAreFound → (c : Content) → HandlesRise c → (conn n : ℕ) (h : Open Seen) → own_handle c conn n ≡ Some h → is_some h.parked ≡ true
+pub held_parked : ConnectionsAreFound → (c : Content) → HandlesRise c → (conn n : ℕ) (h : OpenHandle Progress) → own_handle c conn n ≡ Some h → is_some h.parked ≡ true
     → HasParked conn n (connections_of c)
 held_parked found c rise conn n h own parked = by (connection_numbered c conn) refl
   where
@@ -88,8 +88,8 @@ held_parked found c rise conn n h own parked = by (connection_numbered c conn) r
     read false o is some = is
 
     here : is_parked (shown c.handles conn []).outbox n ≡ true
-    here = entries-any (λ (g : Open Seen). g.number) (λ (p : ℕ). p) (read_by conn) (read-keyed conn) n h 0 c.next_handle c.handles rise
-        (found-both (λ (g : Open Seen). g.number) n (λ g. g.connection == conn) 0 c.next_handle c.handles h rise own)
+    here = entries-any (λ (g : OpenHandle Progress). g.number) (λ (p : ℕ). p) (read_by conn) (read-keyed conn) n h 0 c.next_handle c.handles rise
+        (found-both (λ (g : OpenHandle Progress). g.number) n (λ g. g.connection == conn) 0 c.next_handle c.handles h rise own)
         ∙ read (h.connection == conn) h.parked both.1 parked
 
     by : (o : Option Connection) → connection_numbered c conn ≡ o → HasParked conn n (connections_of c)

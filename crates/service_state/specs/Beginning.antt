@@ -2,8 +2,8 @@
 use Rattle.std.specs.Prelude.{◌≡◌, ◌+◌, ◌<◌, ◌^◌, List, [], ◌∷◌, Bool, true, Option, Some, None, is_some, length, option_map, not}
 use Rattle.std.specs.List.{AllByRecursion, filter_map, list_all}
 use Rattle.pps_types.specs.History.{Entry}
-use Rattle.pps_types.specs.Reading.{Open}
-use Rattle.pps_types.specs.Rests.{Seen}
+use Rattle.pps_types.specs.Reading.{OpenHandle}
+use Rattle.pps_types.specs.Rests.{Progress}
 use Rattle.pps_types.specs.Content.{Content, own_handle}
 use Rattle.pps_types.specs.Plan.{Move, AppendsRecord as HappensTo, apply_all_seen}
 use Rattle.name_table.specs.Standing.{Named}
@@ -30,7 +30,7 @@ entries_in xs = filter_map entry_of xs
 
 -- a handle that closes is the connection's own, and a read waits on it or not, as is said
 abbrev pub CanBegin : Content → Beginning → Type 0
-CanBegin c (Closes conn handle parked) = option_map (λ (h : Open Seen). is_some h.parked) (own_handle c conn handle) ≡ Some parked
+CanBegin c (Closes conn handle parked) = option_map (λ (h : OpenHandle Progress). is_some h.parked) (own_handle c conn handle) ≡ Some parked
 CanBegin c (AppendsRecord told) = Unit {0}
 
 -- each of them, where those before it took effect

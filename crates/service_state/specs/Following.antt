@@ -1,7 +1,7 @@
 -- What follows from an event, for one handle after the other.
 use Rattle.std.specs.Prelude.{◌≡◌, List, [], ◌∷◌, true, Some, is_some, option_map}
-use Rattle.pps_types.specs.Reading.{Open}
-use Rattle.pps_types.specs.Rests.{Seen}
+use Rattle.pps_types.specs.Reading.{OpenHandle}
+use Rattle.pps_types.specs.Rests.{Progress}
 use Rattle.pps_types.specs.Content.{Content, own_handle}
 use Rattle.pps_types.specs.Plan.{apply_all_seen}
 use Rattle.whole_texts.specs.declared.following.Following.{Following}
@@ -10,8 +10,8 @@ use Rattle.whole_texts.specs.Followed.{moves_of}
 
 -- it can follow: the pulse is armed on the connection's own handle, or a read waits on it
 abbrev pub CanFollow : Content → Following → Type 0
-CanFollow c (Fires handle conn pulse) = option_map (λ (h : Open Seen). h.armed) (own_handle c conn handle) ≡ Some (Some (pulse.code, pulse.value))
-CanFollow c (Ends handle conn result) = option_map (λ (h : Open Seen). is_some h.parked) (own_handle c conn handle) ≡ Some true
+CanFollow c (Fires handle conn pulse) = option_map (λ (h : OpenHandle Progress). h.armed) (own_handle c conn handle) ≡ Some (Some (pulse.code, pulse.value))
+CanFollow c (Ends handle conn result) = option_map (λ (h : OpenHandle Progress). is_some h.parked) (own_handle c conn handle) ≡ Some true
 CanFollow c _ = Unit {0}
 
 -- each of them, where those before it took effect

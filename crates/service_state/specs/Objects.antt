@@ -4,7 +4,7 @@ use Rattle.pps_types.specs.declared.found.Found.TheVariants.{Directory as FoundD
 use Rattle.pps_types.specs.declared.record.Kind.TheVariants.{Deleted}
 use Rattle.pps_types.specs.Names.{Path, find_at, parent, last_name}
 use Rattle.pps_types.specs.Content.{Object, LiveObject, at}
-use Rattle.pps_types.specs.WellFormed.{AreRising}
+use Rattle.pps_types.specs.WellFormed.{RiseBetween}
 use Rattle.pps_types.specs.Plan.{Creates, AppendsRecord, creation}
 use Rattle.name_table.specs.Standing.{Placed, placed_at, standing_of, content_of, IsReadyToCreate}
 use Rattle.open_handles.specs.Whole.{HasRoom, IsShared, handles_in}
@@ -23,7 +23,7 @@ new_object o t = object_of o (content_in t).next_object
 -- It can be created: its path is ready and leads through its directory; it has a place, with its number, its name and its server; and
 -- there is room for its record, which has shares enough.
 pub record CanCreate (o : NewObject) (t : Tabled) : Type 0 where
-  pub order : AreRising 0 (map (λ (o : LiveObject). o.object.number) (content_in t).objects) (content_in t).next_object
+  pub order : RiseBetween 0 (map (λ (o : LiveObject). o.object.number) (content_in t).objects) (content_in t).next_object
   pub ready : IsReadyToCreate t.names o.path.items
   pub above : find_at (at (content_of (standing_of t.names))) (parent o.path.items) ≡ Ok (FoundDirectory o.directory)
   pub last : (content_in t).next_object + 1 < 2 ^ 64
@@ -44,7 +44,7 @@ plain_object path directory t = record { number = (content_in t).next_object; di
 -- It can be created there, and nobody is told: its path is ready and leads through its directory, there is room for its place, and the
 -- name is that of the path.
 pub record CanCreateUnheard (path : Path) (directory : ℕ) (name : List ℕ) (t : Tabled) : Type 0 where
-  pub order : AreRising 0 (map (λ (o : LiveObject). o.object.number) (content_in t).objects) (content_in t).next_object
+  pub order : RiseBetween 0 (map (λ (o : LiveObject). o.object.number) (content_in t).objects) (content_in t).next_object
   pub ready : IsReadyToCreate t.names path
   pub above : find_at (at (content_of (standing_of t.names))) (parent path) ≡ Ok (FoundDirectory directory)
   pub last : (content_in t).next_object + 1 < 2 ^ 64
@@ -62,7 +62,7 @@ replacing_object r gone t = record { number = (content_in t).next_object; direct
 -- It can take the place of this one: it has a place, with its number, the other's name and its server; and there is room for both
 -- records, which have shares enough.
 pub record CanReplace (r : Replacement) (t : Tabled) (gone : Placed) : Type 0 where
-  pub order : AreRising 0 (map (λ (o : LiveObject). o.object.number) (content_in t).objects) (content_in t).next_object
+  pub order : RiseBetween 0 (map (λ (o : LiveObject). o.object.number) (content_in t).objects) (content_in t).next_object
   pub object_room : 0 < t.names.objects.room
   pub last : (content_in t).next_object + 1 < 2 ^ 64
   pub place : 0 < t.handles.objects.room

@@ -6,7 +6,7 @@ use Rattle.pps_types.specs.History.{Entry}
 use Rattle.pps_types.specs.Content.{Directory}
 use Rattle.pps_types.specs.Owed.{kept_records_seen}
 use Rattle.pps_types.specs.Plan.{offer}
-use Rattle.pps_types.specs.WellFormed.{AreRising, directory_numbered}
+use Rattle.pps_types.specs.WellFormed.{RiseBetween, directory_numbered}
 use Rattle.sub_reader.specs.Opened.{is_directory, number_of}
 use Rattle.name_table.specs.Listed.{IsBare}
 use Rattle.open_handles.specs.Whole.{Whole, HasSite, handles_in, kept_at, room_at, site_at}
@@ -20,7 +20,7 @@ next_found t = FoundObject (content_in t).next_object
 
 -- the numbers of the directories rise, below the next one
 abbrev pub HasRisingDirectories : Tabled → Type 0
-HasRisingDirectories t = AreRising 0 (map (λ (d : Directory). d.number) (content_in t).directories) (content_in t).next_directory
+HasRisingDirectories t = RiseBetween 0 (map (λ (d : Directory). d.number) (content_in t).directories) (content_in t).next_directory
 
 -- nothing is in the directory of that number, where there is one
 abbrev pub IsBareAt : Tabled → ℕ → Type 0

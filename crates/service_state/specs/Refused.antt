@@ -6,8 +6,8 @@ use Rattle.pps_types.specs.declared.outcome.Outcome.{Outcome}
 use Rattle.pps_types.specs.declared.refusal.Refusal.{Refusal}
 use Rattle.pps_types.specs.declared.refusal.Refusal.TheVariants.{OutOfMemory, TableFull}
 use Rattle.pps_types.specs.Names.{refusal_of}
-use Rattle.pps_types.specs.Reading.{Open}
-use Rattle.pps_types.specs.Rests.{Seen}
+use Rattle.pps_types.specs.Reading.{OpenHandle}
+use Rattle.pps_types.specs.Rests.{Progress}
 use Rattle.pps_types.specs.Outbox.{arm_refusal, park_refusal}
 use Rattle.pps_types.specs.Content.{Content, LiveObject, own_handle, object_numbered, outbox_of}
 use Rattle.pps_types.specs.Checks.{Check, Refuse, first_refusal, reaches_memory, request_checks}
@@ -54,7 +54,7 @@ abbrev pub effect_in : Tabled → ℕ → Request → Outcome × List Move
 effect_in t conn request = effect (content_in t) conn request
 
 -- the connection's own handle of that number
-abbrev pub own_handle_in : Tabled → ℕ → ℕ → Option (Open Seen)
+abbrev pub own_handle_in : Tabled → ℕ → ℕ → Option (OpenHandle Progress)
 own_handle_in t conn handle = own_handle (content_in t) conn handle
 
 -- the object of that number, where it is alive
@@ -67,15 +67,15 @@ IsKnownIn t object = option_map known_of (placed_at object t.names) ≡ object_n
 
 -- the read that waits on the connection's own handle of that number, as its size, where one does
 abbrev pub parked_in : Tabled → ℕ → ℕ → Option (Option ℕ)
-parked_in t conn handle = option_map (λ (h : Open Seen). h.parked) (own_handle (content_in t) conn handle)
+parked_in t conn handle = option_map (λ (h : OpenHandle Progress). h.parked) (own_handle (content_in t) conn handle)
 
 -- whether a read waits on that handle
 abbrev pub is_parked_in : Tabled → ℕ → ℕ → Option Bool
-is_parked_in t conn handle = option_map (λ (h : Open Seen). is_some h.parked) (own_handle (content_in t) conn handle)
+is_parked_in t conn handle = option_map (λ (h : OpenHandle Progress). is_some h.parked) (own_handle (content_in t) conn handle)
 
 -- the pulse that is armed on that handle, as its code and its value, where one is
 abbrev pub armed_in : Tabled → ℕ → ℕ → Option (Option (ℕ × ℕ))
-armed_in t conn handle = option_map (λ (h : Open Seen). h.armed) (own_handle (content_in t) conn handle)
+armed_in t conn handle = option_map (λ (h : OpenHandle Progress). h.armed) (own_handle (content_in t) conn handle)
 
 -- why no pulse can be armed on the handle of the connection, if none can
 abbrev pub arm_refusal_in : Tabled → ℕ → ℕ → Option Refusal

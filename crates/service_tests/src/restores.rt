@@ -134,7 +134,7 @@ fn given(alloc: Global, tables: &Tables, handle: u32) -> Result<Vec<u8>, Refusal
     let handle = Handle::new(handle);
     match tables.handles().look(handle) {
         None => Err(Refusal::BadHandle),
-        Some(looked) => Ok(looked.seats.read_owed(alloc, handle, 999)?.text),
+        Some(looked) => Ok(looked.topic.read_owed(alloc, handle, 999)?.text),
     }
 }
 

@@ -4,8 +4,8 @@ use Rattle.std.proofs.lemmas.List.{length-drop}
 use Rattle.std.specs.Prelude.{filter}
 use Rattle.std.specs.List.{AllByRecursion}
 use Rattle.pps_types.specs.History.{Entry}
-use Rattle.pps_types.specs.Reading.{Open, reseen, visible}
-use Rattle.pps_types.specs.Rests.{Seen, News as SeenNews, Owed}
+use Rattle.pps_types.specs.Reading.{OpenHandle, reseen, visible}
+use Rattle.pps_types.specs.Rests.{Progress, News as SeenNews, Owed}
 use Rattle.open_options.proofs.Kept.{handle_options-is}
 use Rattle.sub_reader.specs.declared.place.Place.{Place}
 use Rattle.sub_reader.specs.declared.place.Place.TheVariants.{News, Fresh, Over, Idle, At}
@@ -35,13 +35,13 @@ seen-from start entries (At first owed) = ap (λ k. Owed (drop k entries)) (sym 
 
 module _ (t : ℕ) (name : List ℕ) (start : ℕ) (entries : List Entry) where
   handle-from : (r : Reader) → handle_of t name start entries r ≡ handle_of t name 0 entries (reader_from start r)
-  handle-from r = ap (λ (s : Seen). waiting r (reseen (λ h. s) (opened t name r.opening))) (seen-from start entries r.progress)
+  handle-from r = ap (λ (s : Progress). waiting r (reseen (λ h. s) (opened t name r.opening))) (seen-from start entries r.progress)
 
   pub handles-from : (rs : List Reader) → map (handle_of t name start entries) rs ≡ map (handle_of t name 0 entries) (map (reader_from start) rs)
   handles-from [] = refl
   handles-from (r ∷ rs) = λ i. handle-from r i ∷ handles-from rs i
 
-place-from : {S : Type 0} (h : Open S) (start : ℕ) (entries : List Entry) (p : Place) → IsPlace h start entries p → IsPlace h 0 entries (place_from start p)
+place-from : {S : Type 0} (h : OpenHandle S) (start : ℕ) (entries : List Entry) (p : Place) → IsPlace h start entries p → IsPlace h 0 entries (place_from start p)
 place-from h start entries (News b) is = is
 place-from h start entries Fresh is = is
 place-from h start entries Over is = is
@@ -66,7 +66,7 @@ owed-is xs ys same = cc
 drop-is : (entries : List Entry) (i j : ℕ) → i < length entries → j < length entries → drop i entries ≡ drop j entries → i ≡ j
 drop-is entries i j here there same = omega (arith, here, there, ap length same, length-drop i entries, length-drop j entries)
 
-module _ {S : Type 0} (h : Open S) (entries : List Entry) where
+module _ {S : Type 0} (h : OpenHandle S) (entries : List Entry) where
   at-is : (f o g k : ℕ) → IsAt h 0 entries f o → IsAt h 0 entries g k → drop (f - 0) entries ≡ drop (g - 0) entries → At f o ≡ At g k
   at-is f o g k is other same =
       let place : f ≡ g = omega (arith, drop-is entries (f - 0) (g - 0) (omega (arith, is.before_end)) (omega (arith, other.before_end)) same) in
@@ -123,16 +123,16 @@ module _ (t : ℕ) (name : List ℕ) (entries : List Entry) where
   reader-is : (x y : Reader) → IsPlace (opened t name x.opening) 0 entries x.progress → IsPlace (opened t name y.opening) 0 entries y.progress
       → handle_of t name 0 entries x ≡ handle_of t name 0 entries y → x ≡ y
   reader-is x y is other same =
-      let opens = opening-is x.opening y.opening t name (ap (λ (h : Open Seen). record (reseen (λ s. tt) h) { parked = None; armed = None }) same) in
-      let place = place-is (opened t name y.opening) entries x.progress y.progress (subst (λ o. IsPlace (opened t name o) 0 entries x.progress) opens is) other (ap (λ (h : Open Seen). h.seen) same) in
-      let parked = ap (λ (h : Open Seen). h.parked) same in
-      let armed = armed-is x.armed y.armed (ap (λ (h : Open Seen). h.armed) same) in
+      let opens = opening-is x.opening y.opening t name (ap (λ (h : OpenHandle Progress). record (reseen (λ s. tt) h) { parked = None; armed = None }) same) in
+      let place = place-is (opened t name y.opening) entries x.progress y.progress (subst (λ o. IsPlace (opened t name o) 0 entries x.progress) opens is) other (ap (λ (h : OpenHandle Progress). h.seen) same) in
+      let parked = ap (λ (h : OpenHandle Progress). h.parked) same in
+      let armed = armed-is x.armed y.armed (ap (λ (h : OpenHandle Progress). h.armed) same) in
       λ i. record { opening = opens i; progress = place i; parked = parked i; armed = armed i }
 
-  cons-first : (x y : Open Seen) (xs ys : List (Open Seen)) → x ∷ xs ≡ y ∷ ys → x ≡ y
+  cons-first : (x y : OpenHandle Progress) (xs ys : List (OpenHandle Progress)) → x ∷ xs ≡ y ∷ ys → x ≡ y
   cons-first x y xs ys same = cc
 
-  cons-rest : (x y : Open Seen) (xs ys : List (Open Seen)) → x ∷ xs ≡ y ∷ ys → xs ≡ ys
+  cons-rest : (x y : OpenHandle Progress) (xs ys : List (OpenHandle Progress)) → x ∷ xs ≡ y ∷ ys → xs ≡ ys
   cons-rest x y xs ys same = cc
 
   readers-is : (s u : ℕ) (d e : Bool) (xs ys : List Reader) → AllByRecursion (IsReader d t name s entries) xs → AllByRecursion (IsReader e t name u entries) ys
@@ -161,7 +161,7 @@ module _ (t : ℕ) (name : List ℕ) (entries : List Entry) where
 
 -- ---- two of the same target
 
-module _ (of other : Found) (name called : List ℕ) (start begin : ℕ) (xs ys : List Entry) (cs ds : List ℕ) (rs qs : List Reader) (hs gs : List (Open Seen))
+module _ (of other : Found) (name called : List ℕ) (start begin : ℕ) (xs ys : List Entry) (cs ds : List ℕ) (rs qs : List Reader) (hs gs : List (OpenHandle Progress))
     (same-of : of ≡ other) (same-name : name ≡ called)
     (is : IsTarget (is_directory of) (number_of of) name start xs cs rs) (also : IsTarget (is_directory other) (number_of other) called begin ys ds qs)
     (seen : map (handle_of (number_of of) name start xs) rs ≡ hs) (known : map (handle_of (number_of other) called begin ys) qs ≡ gs) where

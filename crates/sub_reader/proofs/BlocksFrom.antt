@@ -2,13 +2,13 @@
 use Rattle.std.proofs.Common.{◌≡◌, ℕ, ◌+◌, ◌-◌, ◌≤◌, true, false, cond, Some, List, ◌∷◌, drop, filter, map, ap, sym, ◌∙◌, subst}
 use Rattle.std.specs.Prelude.{slice_get}
 use Rattle.pps_types.specs.History.{Entry}
-use Rattle.pps_types.specs.Reading.{Open, block, visible}
+use Rattle.pps_types.specs.Reading.{OpenHandle, block, visible}
 use Rattle.server_queue.specs.declared.fitting.Fitting.{Fitting}
 use Rattle.server_queue.proofs.Fits.{Runs}
 use Rattle.sub_reader.specs.Blocks.{blocks_given}
 use Rattle.sub_reader.proofs.Skips.{here}
 
-module _ {S : Type 0} (h : Open S) (start : ℕ) (xs : List Entry) (position : ℕ) (e : Entry) (from : start ≤ position) (at : slice_get xs (position - start) ≡ Some e) where
+module _ {S : Type 0} (h : OpenHandle S) (start : ℕ) (xs : List Entry) (position : ℕ) (e : Entry) (from : start ≤ position) (at : slice_get xs (position - start) ≡ Some e) where
   hidden_next : visible h e ≡ false → blocks_given h (drop (position - start) xs) ≡ blocks_given h (drop (position + 1 - start) xs)
   hidden_next hidden = ap (blocks_given h) (here (visible h) start xs position e from at) ∙ ap (λ b. map (block h) (cond b (e ∷ filter (visible h) (drop (position + 1 - start) xs)) (filter (visible h) (drop (position + 1 - start) xs)))) hidden
 

@@ -4,7 +4,7 @@ use Rattle.std.specs.Prelude.{find, option_map}
 use Rattle.std.specs.List.{AllByRecursion}
 use Rattle.pps_types.specs.History.{Entry}
 use Rattle.pps_types.specs.Reading.{block}
-use Rattle.pps_types.specs.Rests.{Seen, News, Unread, Over, Owed, owed_in}
+use Rattle.pps_types.specs.Rests.{Progress, News, Unread, Over, Owed, owed_in}
 use Rattle.sub_reader.specs.Readers.{Reader}
 use Rattle.sub_reader.specs.Opened.{opened, handle_at}
 use Rattle.sub_reader.specs.Places.{handle_of, IsPlace, IsReader}
@@ -41,7 +41,7 @@ map-none f (x ∷ xs) none = absurd (no (f x) (map f xs) none)
     no y ys none = cc
 
 -- what a handle is owed at its place, as a read gives it
-pub same-blocks : (t : ℕ) (name : List ℕ) (start : ℕ) (entries : List Entry) (r : Reader) (seen : Seen) → map (block (opened t [] r.opening)) (owed_in (opened t [] r.opening) seen) ≡ map (block (handle_of t name start entries r)) (owed_in (handle_of t name start entries r) seen)
+pub same-blocks : (t : ℕ) (name : List ℕ) (start : ℕ) (entries : List Entry) (r : Reader) (seen : Progress) → map (block (opened t [] r.opening)) (owed_in (opened t [] r.opening) seen) ≡ map (block (handle_of t name start entries r)) (owed_in (handle_of t name start entries r) seen)
 same-blocks t name start entries r (News b) = refl
 same-blocks t name start entries r Unread = refl
 same-blocks t name start entries r Over = refl

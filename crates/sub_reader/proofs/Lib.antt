@@ -11,7 +11,7 @@ pub mod Puts
 pub mod Finds
 pub mod BlocksFrom
 pub mod Waking
-pub mod Seats
+pub mod HandlesOn
 pub mod Copying
 pub mod Alike
 pub mod Guesses

@@ -8,8 +8,8 @@ use Rattle.std.proofs.Math.Seq.{get_or-append_right}
 use Rattle.std.proofs.lemmas.List.Sums.{sum_by-cons, sum_by-remove, sum_by-set, sum_by_push, get_or-le-sum_by}
 use Rattle.pps_types.specs.declared.handle_kind.HandleKind.{HandleKind}
 use Rattle.pps_types.specs.History.{Entry}
-use Rattle.pps_types.specs.Reading.{Open, is_directory_kind, is_delta_style, is_full_style, style}
-use Rattle.pps_types.specs.Rests.{Seen}
+use Rattle.pps_types.specs.Reading.{OpenHandle, is_directory_kind, is_delta_style, is_full_style, style}
+use Rattle.pps_types.specs.Rests.{Progress}
 use Rattle.pps_types.specs.Plan.{offer, on_numbered, without_number}
 use Rattle.pps_types.specs.Owed.{in_chain, is_of, same_flag, rest_seen, longest}
 use Rattle.pps_types.proofs.Lists.{all-push, map-without_first}
@@ -43,7 +43,7 @@ settle-seen d t name start entries counts readers loose s es a b = (λ i. map (h
 
 -- ---- places
 
-place-within : {S : Type 0} (h : Open S) (start end : ℕ) (entries : List Entry) (p : Place) → start + length entries ≤ end → IsPlace h start entries p → IsWithin start end p
+place-within : {S : Type 0} (h : OpenHandle S) (start end : ℕ) (entries : List Entry) (p : Place) → start + length entries ≤ end → IsPlace h start entries p → IsWithin start end p
 place-within h start end entries (News b) le is = tt
 place-within h start end entries Fresh le is = tt
 place-within h start end entries Over le is = tt
@@ -132,7 +132,7 @@ module _ (d : Bool) (t : ℕ) (name : List ℕ) (start : ℕ) (entries : List En
 
 -- ---- how much is kept
 
-rest-le : {S : Type 0} (h : Open S) (start : ℕ) (entries : List Entry) (p : Place) → length (rest_seen (seen_at start entries p)) ≤ length entries
+rest-le : {S : Type 0} (h : OpenHandle S) (start : ℕ) (entries : List Entry) (p : Place) → length (rest_seen (seen_at start entries p)) ≤ length entries
 rest-le h start entries (News b) = omega arith
 rest-le h start entries Fresh = omega arith
 rest-le h start entries Over = omega arith
@@ -201,7 +201,7 @@ module _ (d : Bool) (t : ℕ) (name : List ℕ) (start : ℕ) (entries : List En
   pub put-within : AllByRecursion (λ (s : Reader). IsWithin start (start + length counts) s.progress) readers
   put-within = each-within d t name start (start + length counts) entries readers (omega (arith, loose.paired)) loose.each
 
-  abbrev pub see : Reader → Open Seen
+  abbrev pub see : Reader → OpenHandle Progress
   see = handle_of t name start entries
 
   module _ (k : ℕ) (r x : Reader) (lt : k < length readers) (opens : r.opening ≡ (get_or readers k x).opening) (is : IsPlace (opened t name r.opening) start entries r.progress) where
@@ -225,26 +225,26 @@ module _ (d : Bool) (t : ℕ) (name : List ℕ) (start : ℕ) (entries : List En
     set-agree ss are same i within =
         loose.agree i within ∙ sym (ap (λ xs. standing xs (start + i)) are ∙ (let f = sum_by-set (λ (y : Reader). stands (start + i) y.progress) readers k r x lt in let e = ap (stands (start + i)) same in omega arith))
 
-  pub set-seen : (number k : ℕ) (change : Open Seen → Open Seen) (r x : Reader) (ss : List Reader) → ss ≡ set readers k r → IsPlaceOf number_in readers number k → k < length readers → see r ≡ change (see (get_or readers k x))
+  pub set-seen : (number k : ℕ) (change : OpenHandle Progress → OpenHandle Progress) (r x : Reader) (ss : List Reader) → ss ≡ set readers k r → IsPlaceOf number_in readers number k → k < length readers → see r ≡ change (see (get_or readers k x))
       → map see ss ≡ on_numbered number change (map see readers)
   set-seen number k change r x ss are place lt same =
       ap (map see) are
       ∙ map-set see readers k r
       ∙ ap (set (map see readers) k) (same ∙ ap change (sym (get_or-map see readers k x (see x) lt)))
-      ∙ sym (change_place (λ (h : Open Seen). h.number) change number (map see readers) k (see x) (place_map number_in (λ (h : Open Seen). h.number) see (λ x. refl) number readers k place))
+      ∙ sym (change_place (λ (h : OpenHandle Progress). h.number) change number (map see readers) k (see x) (place_map number_in (λ (h : OpenHandle Progress). h.number) see (λ x. refl) number readers k place))
 
-  pub same-nowhere : (number k : ℕ) (change : Open Seen → Open Seen) → IsGapFor number_in readers number k → map see readers ≡ on_numbered number change (map see readers)
-  same-nowhere number k change gap = sym (change_gap (λ (h : Open Seen). h.number) change number (map see readers) k (gap_map number_in (λ (h : Open Seen). h.number) see (λ x. refl) number readers k gap))
+  pub same-nowhere : (number k : ℕ) (change : OpenHandle Progress → OpenHandle Progress) → IsGapFor number_in readers number k → map see readers ≡ on_numbered number change (map see readers)
+  same-nowhere number k change gap = sym (change_gap (λ (h : OpenHandle Progress). h.number) change number (map see readers) k (gap_map number_in (λ (h : OpenHandle Progress). h.number) see (λ x. refl) number readers k gap))
 
   -- ---- one handle leaves
 
   pub gone-seen : (number k : ℕ) (ss : List Reader) → ss ≡ remove readers k → IsPlaceOf number_in readers number k → map see ss ≡ without_number number (map see readers)
   gone-seen number k ss are place =
       ap (map see) (are ∙ sym (without_place number_in number readers k place))
-      ∙ map-without_first see (λ (x : Reader). eqb x.opening.number number) (λ (h : Open Seen). eqb h.number number) (λ x. refl) readers
+      ∙ map-without_first see (λ (x : Reader). eqb x.opening.number number) (λ (h : OpenHandle Progress). eqb h.number number) (λ x. refl) readers
 
   pub gone-nowhere : (number k : ℕ) → IsGapFor number_in readers number k → map see readers ≡ without_number number (map see readers)
-  gone-nowhere number k gap = sym (without_gap (λ (h : Open Seen). h.number) number (map see readers) k (gap_map number_in (λ (h : Open Seen). h.number) see (λ x. refl) number readers k gap))
+  gone-nowhere number k gap = sym (without_gap (λ (h : OpenHandle Progress). h.number) number (map see readers) k (gap_map number_in (λ (h : OpenHandle Progress). h.number) see (λ x. refl) number readers k gap))
 
   module _ (k : ℕ) (s : Reader) (lt : k < length readers) where
     gone-agree : (cs : List ℕ) → cs ≡ uncounted start (get_or readers k s).progress counts → IsCounted start (remove readers k) cs
@@ -288,7 +288,7 @@ first-stands kind reads position = by (is_full_style (style kind))
     by true = refl
     by false = refl
 
-pub above-readers : (t : ℕ) (name : List ℕ) (start : ℕ) (entries : List Entry) (readers : List Reader) (number : ℕ) → AllByRecursion (λ (h : Open Seen). h.number < number) (map (handle_of t name start entries) readers)
+pub above-readers : (t : ℕ) (name : List ℕ) (start : ℕ) (entries : List Entry) (readers : List Reader) (number : ℕ) → AllByRecursion (λ (h : OpenHandle Progress). h.number < number) (map (handle_of t name start entries) readers)
     → AllByRecursion (λ (r : Reader). r.opening.number < number) readers
 above-readers t name start entries [] number all = tt
 above-readers t name start entries (r ∷ rs) number all = (all.0, above-readers t name start entries rs number all.1)

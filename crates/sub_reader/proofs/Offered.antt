@@ -7,7 +7,7 @@ use Rattle.std.proofs.lemmas.List.Elements.{filter-append}
 use Rattle.pps_types.specs.declared.handle_kind.HandleKind.{HandleKind}
 use Rattle.pps_types.specs.declared.handle_kind.HandleKind.TheVariants.{Object as ObjectHandle, Directory as DirectoryHandle, Names as NamesHandle, Server as ServerHandle, Client as ClientHandle}
 use Rattle.pps_types.specs.History.{Entry}
-use Rattle.pps_types.specs.Reading.{Open, Style, Full, Delta, Queue, style, is_full_style, is_delta_style, is_directory_kind, visible, reseen}
+use Rattle.pps_types.specs.Reading.{OpenHandle, Style, Full, Delta, Queue, style, is_full_style, is_delta_style, is_directory_kind, visible, reseen}
 use Rattle.pps_types.specs.Rests.{News as SeenNews, Over as SeenOver, Owed, stand, keeps, pushed, seen_of, over_limit}
 use Rattle.pps_types.specs.Plan.{offered, offer}
 use Rattle.pps_types.specs.Owed.{same_flag, in_chain}
@@ -25,10 +25,10 @@ delta-style Delta e = refl
 delta-style Full e = absurd cc
 delta-style Queue e = absurd cc
 
-pub seen-delta : {S : Type 0} (h : Open S) (rest : List Entry) → is_delta_style (style h.kind) ≡ true → seen_of h rest ≡ cond (over_limit h rest) SeenOver (Owed rest)
+pub seen-delta : {S : Type 0} (h : OpenHandle S) (rest : List Entry) → is_delta_style (style h.kind) ≡ true → seen_of h rest ≡ cond (over_limit h rest) SeenOver (Owed rest)
 seen-delta h rest d = ap (λ s. stand s h.reads (over_limit h rest) rest) (delta-style (style h.kind) d)
 
-pub seen-within : {S : Type 0} (h : Open S) (rest : List Entry) → is_delta_style (style h.kind) ≡ true → length (filter (visible h) rest) ≤ h.limit → seen_of h rest ≡ Owed rest
+pub seen-within : {S : Type 0} (h : OpenHandle S) (rest : List Entry) → is_delta_style (style h.kind) ≡ true → length (filter (visible h) rest) ≤ h.limit → seen_of h rest ≡ Owed rest
 seen-within h rest d le = seen-delta h rest d ∙ ap (λ b. cond b SeenOver (Owed rest)) (let f : over_limit h rest ≡ false = grind (arith, nat_tests) in f)
 
 pushed-begins : (test : Entry → Bool) (e : Entry) (rest : List Entry) → Begins test rest → pushed test e rest ≡ rest ++ e ∷ []
@@ -48,7 +48,7 @@ filter-more test rest e b is = ap length (filter-append test rest (e ∷ [])) �
 
 -- ---- a record of the chain
 
-module _ {S : Type 0} (h : Open S) (start : ℕ) (entries : List Entry) (e : Entry) where
+module _ {S : Type 0} (h : OpenHandle S) (start : ℕ) (entries : List Entry) (e : Entry) where
   -- q is where p leads
   abbrev pub Leads : Place → Place → Type 0
   Leads p q = IsPlace h start (entries ++ e ∷ []) q × (seen_at start (entries ++ e ∷ []) q ≡ offered h e (seen_at start entries p))
@@ -142,14 +142,14 @@ module _ {S : Type 0} (h : Open S) (start : ℕ) (entries : List Entry) (e : Ent
 
 -- ---- which records are of the chain
 
-delta-read : {S : Type 0} (h : Open S) → is_delta_style (style h.kind) ≡ true → (is_full_style (style h.kind) || is_delta_style (style h.kind)) ≡ true
+delta-read : {S : Type 0} (h : OpenHandle S) → is_delta_style (style h.kind) ≡ true → (is_full_style (style h.kind) || is_delta_style (style h.kind)) ≡ true
 delta-read h e = by (is_full_style (style h.kind)) e
   where
     by : (b : Bool) → is_delta_style (style h.kind) ≡ true → (b || is_delta_style (style h.kind)) ≡ true
     by true e = refl
     by false e = e
 
-pub place-style : {S : Type 0} (h : Open S) (start : ℕ) (entries : List Entry) (p : Place) → IsPlace h start entries p → (is_full_style (style h.kind) || is_delta_style (style h.kind)) ≡ true
+pub place-style : {S : Type 0} (h : OpenHandle S) (start : ℕ) (entries : List Entry) (p : Place) → IsPlace h start entries p → (is_full_style (style h.kind) || is_delta_style (style h.kind)) ≡ true
 place-style h start entries (News b) is = ap (λ b. b || is_delta_style (style h.kind)) is
 place-style h start entries Fresh is = delta-read h is
 place-style h start entries Over is = delta-read h is
@@ -178,19 +178,19 @@ twin-delta NamesHandle e = refl
 twin-delta ServerHandle e = absurd cc
 twin-delta ClientHandle e = absurd cc
 
-twin-visible : {S : Type 0} (h : Open S) (e : Entry) (k : HandleKind) → visible (record h { kind = k }) e ≡ visible (record h { kind = twin k }) e
+twin-visible : {S : Type 0} (h : OpenHandle S) (e : Entry) (k : HandleKind) → visible (record h { kind = k }) e ≡ visible (record h { kind = twin k }) e
 twin-visible h e (ObjectHandle delta) = refl
 twin-visible h e (DirectoryHandle delta) = refl
 twin-visible h e NamesHandle = refl
 twin-visible h e ServerHandle = refl
 twin-visible h e ClientHandle = refl
 
-pub visible-chain : {S : Type 0} (d : Bool) (t : ℕ) (h : Open S) → (is_full_style (style h.kind) || is_delta_style (style h.kind)) ≡ true → same_flag (is_directory_kind h.kind) d ≡ true → h.target ≡ t → (e : Entry) → visible h e ≡ true → in_chain d t e ≡ true
+pub visible-chain : {S : Type 0} (d : Bool) (t : ℕ) (h : OpenHandle S) → (is_full_style (style h.kind) || is_delta_style (style h.kind)) ≡ true → same_flag (is_directory_kind h.kind) d ≡ true → h.target ≡ t → (e : Entry) → visible h e ≡ true → in_chain d t e ≡ true
 visible-chain d t h read flag target e v =
     sym (keeps-chain d t (record h { kind = twin h.kind }) (record { delta = twin-delta h.kind read; flag = twin-flag h.kind d ∙ flag; target = target }) e)
     ∙ visible-keeps (record h { kind = twin h.kind }) e (sym (twin-visible h e h.kind) ∙ v)
 
-pub unseen : {S : Type 0} (d : Bool) (t : ℕ) (h : Open S) → (is_full_style (style h.kind) || is_delta_style (style h.kind)) ≡ true → same_flag (is_directory_kind h.kind) d ≡ true → h.target ≡ t → (e : Entry) → in_chain d t e ≡ false → visible h e ≡ false
+pub unseen : {S : Type 0} (d : Bool) (t : ℕ) (h : OpenHandle S) → (is_full_style (style h.kind) || is_delta_style (style h.kind)) ≡ true → same_flag (is_directory_kind h.kind) d ≡ true → h.target ≡ t → (e : Entry) → in_chain d t e ≡ false → visible h e ≡ false
 unseen d t h read flag target e out = by (visible h e) refl
   where
     by : (b : Bool) → visible h e ≡ b → b ≡ false

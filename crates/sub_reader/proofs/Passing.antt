@@ -4,7 +4,7 @@ use Rattle.std.specs.Prelude.{filter}
 use Rattle.std.proofs.lemmas.List.{length-drop}
 use Rattle.std.proofs.lemmas.Bool.Decides.{nat_tests}
 use Rattle.pps_types.specs.History.{Entry}
-use Rattle.pps_types.specs.Reading.{Open, Style, Full, Delta, Queue, style, is_full_style, is_delta_style, visible}
+use Rattle.pps_types.specs.Reading.{OpenHandle, Style, Full, Delta, Queue, style, is_full_style, is_delta_style, visible}
 use Rattle.pps_types.specs.Rests.{Over as SeenOver, Owed, seen_of, stand, over_limit, from_first, past, unread}
 use Rattle.pps_types.specs.Plan.{left, caught_up, first_seen}
 use Rattle.pps_types.proofs.Lists.{filter-from_first}
@@ -41,7 +41,7 @@ begins-some : (test : Entry → Bool) (xs : List Entry) → Begins test xs → 0
 begins-some test [] b = absurd b
 begins-some test (x ∷ xs) b = omega arith
 
-module _ {S : Type 0} (h : Open S) (start : ℕ) (entries : List Entry) where
+module _ {S : Type 0} (h : OpenHandle S) (start : ℕ) (entries : List Entry) where
   rest-count : (first owed n : ℕ) → IsAt h start entries first owed → length (filter (visible h) (from_first (visible h) (past (visible h) n (drop (first - start) entries)))) ≡ owed - n
   rest-count first owed n is = ap length (filter-from_first (visible h) (past (visible h) n (drop (first - start) entries))) ∙ past-count (visible h) n (drop (first - start) entries) ∙ ap (λ m. m - n) is.count
 
@@ -96,10 +96,10 @@ caught-seen-at : (start : ℕ) (entries : List Entry) (b : Bool) → seen_at sta
 caught-seen-at start entries true = refl
 caught-seen-at start entries false = refl
 
-pub caught-seen : {S : Type 0} (h : Open S) (start : ℕ) (entries : List Entry) → is_reader h.kind ≡ true → seen_at start entries (caught_place h.kind) ≡ caught_up h
+pub caught-seen : {S : Type 0} (h : OpenHandle S) (start : ℕ) (entries : List Entry) → is_reader h.kind ≡ true → seen_at start entries (caught_place h.kind) ≡ caught_up h
 caught-seen h start entries is = caught-seen-at start entries (is_full_style (style h.kind)) ∙ by-style (style h.kind) h.reads (over_limit h []) is (let f : ltb h.limit 0 ≡ false = grind (arith, nat_tests) in f)
 
-pub caught-is : {S : Type 0} (h : Open S) (start : ℕ) (entries : List Entry) → is_reader h.kind ≡ true → IsPlace h start entries (caught_place h.kind)
+pub caught-is : {S : Type 0} (h : OpenHandle S) (start : ℕ) (entries : List Entry) → is_reader h.kind ≡ true → IsPlace h start entries (caught_place h.kind)
 caught-is h start entries is = by (is_full_style (style h.kind)) refl is
   where
     by : (b : Bool) → is_full_style (style h.kind) ≡ b → (b || is_delta_style (style h.kind)) ≡ true → IsPlace h start entries (cond b (News false) Idle)
@@ -111,15 +111,15 @@ first-by Full reads start entries is = refl
 first-by Delta reads start entries is = refl
 first-by Queue reads start entries is = absurd cc
 
-first-unread : {S : Type 0} (h : Open S) (s : Style) → (is_full_style s || is_delta_style s) ≡ true → first_seen h s ≡ unread s h.reads
+first-unread : {S : Type 0} (h : OpenHandle S) (s : Style) → (is_full_style s || is_delta_style s) ≡ true → first_seen h s ≡ unread s h.reads
 first-unread h Full is = refl
 first-unread h Delta is = refl
 first-unread h Queue is = absurd cc
 
-pub first-place-seen : {S : Type 0} (h : Open S) (start : ℕ) (entries : List Entry) → is_reader h.kind ≡ true → seen_at start entries (first_place h.kind h.reads) ≡ first_seen h (style h.kind)
+pub first-place-seen : {S : Type 0} (h : OpenHandle S) (start : ℕ) (entries : List Entry) → is_reader h.kind ≡ true → seen_at start entries (first_place h.kind h.reads) ≡ first_seen h (style h.kind)
 first-place-seen h start entries is = first-by (style h.kind) h.reads start entries is ∙ sym (first-unread h (style h.kind) is)
 
-pub first-place-is : {S : Type 0} (h : Open S) (start : ℕ) (entries : List Entry) → is_reader h.kind ≡ true → IsPlace h start entries (first_place h.kind h.reads)
+pub first-place-is : {S : Type 0} (h : OpenHandle S) (start : ℕ) (entries : List Entry) → is_reader h.kind ≡ true → IsPlace h start entries (first_place h.kind h.reads)
 first-place-is h start entries is = by (is_full_style (style h.kind)) refl is
   where
     by : (b : Bool) → is_full_style (style h.kind) ≡ b → (b || is_delta_style (style h.kind)) ≡ true → IsPlace h start entries (cond b (News h.reads) Fresh)

@@ -6,7 +6,7 @@ use Rattle.std.specs.Prelude.{filter}
 use Rattle.std.proofs.lemmas.List.{drop-drop, length-set, get_or-set_same, get_or-set_other, get_or-drop, length-drop}
 use Rattle.std.proofs.lemmas.List.Sums.{sum_by-set, sum_by-cons, get_or-le-sum_by}
 use Rattle.pps_types.specs.History.{Entry}
-use Rattle.pps_types.specs.Reading.{Open, reseen, visible}
+use Rattle.pps_types.specs.Reading.{OpenHandle, reseen, visible}
 use Rattle.pps_types.specs.Rests.{Owed}
 use Rattle.sub_reader.specs.declared.place.Place.{Place}
 use Rattle.sub_reader.specs.declared.place.Place.TheVariants.{News, Fresh, Over, Idle, At}
@@ -142,7 +142,7 @@ IsBehind position _ = Unit {0}
 drop-less : {X : Type 0} (f start z : ℕ) (xs : List X) → start + z ≤ f → drop (f - (start + z)) (drop z xs) ≡ drop (f - start) xs
 drop-less f start z xs le = drop-drop (f - (start + z)) z xs ∙ ap (λ n. drop n xs) (let e : z + (f - (start + z)) ≡ f - start = omega arith in e)
 
-place-cut : {S : Type 0} (h : Open S) (start z : ℕ) (entries : List Entry) (p : Place) → z ≤ length entries → IsPlace h start entries p → IsBehind (start + z) p → IsPlace h (start + z) (drop z entries) p × (seen_at (start + z) (drop z entries) p ≡ seen_at start entries p)
+place-cut : {S : Type 0} (h : OpenHandle S) (start z : ℕ) (entries : List Entry) (p : Place) → z ≤ length entries → IsPlace h start entries p → IsBehind (start + z) p → IsPlace h (start + z) (drop z entries) p × (seen_at (start + z) (drop z entries) p ≡ seen_at start entries p)
 place-cut h start z entries (News b) le is behind = (is, refl)
 place-cut h start z entries Fresh le is behind = (is, refl)
 place-cut h start z entries Over le is behind = (is, refl)

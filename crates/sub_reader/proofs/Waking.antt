@@ -3,8 +3,8 @@ use Rattle.std.proofs.Common.{◌≡◌, ℕ, ◌-◌, Bool, true, false, cond, 
 use Rattle.std.specs.Prelude.{filter, map, is_some, option_map}
 use Rattle.std.specs.List.{AllByRecursion, list_any}
 use Rattle.pps_types.specs.History.{Entry}
-use Rattle.pps_types.specs.Reading.{Open, visible}
-use Rattle.pps_types.specs.Rests.{Seen, news_in, Owed}
+use Rattle.pps_types.specs.Reading.{OpenHandle, visible}
+use Rattle.pps_types.specs.Rests.{Progress, news_in, Owed}
 use Rattle.pps_types.specs.Content.{is_waiting, learns}
 use Rattle.sub_reader.specs.declared.place.Place.{Place}
 use Rattle.sub_reader.specs.declared.place.Place.TheVariants.{News, Fresh, Over, Idle, At}
@@ -22,7 +22,7 @@ begun : (test : Entry → Bool) (reads : Bool) (rest : List Entry) → Begins te
 begun test reads [] is = absurd is
 begun test reads (e ∷ es) is = refl
 
-news-place : {S : Type 0} (h : Open S) (start : ℕ) (entries : List Entry) (p : Place) → IsPlace h start entries p → news_at h.reads p ≡ news_in h.reads (seen_at start entries p)
+news-place : {S : Type 0} (h : OpenHandle S) (start : ℕ) (entries : List Entry) (p : Place) → IsPlace h start entries p → news_at h.reads p ≡ news_in h.reads (seen_at start entries p)
 news-place h start entries (News b) is = refl
 news-place h start entries Fresh is = refl
 news-place h start entries Over is = refl
@@ -45,6 +45,6 @@ module _ (t : ℕ) (name : List ℕ) (start : ℕ) (entries : List Entry) (es : 
     where
       by : (b : Bool) → map (λ r. r.opening.number) (filter (wakes_at t es) rs) ≡ woken_by es (map (handle_of t name start entries) rs)
           → map {A = Reader} (λ x. x.opening.number) (cond b (r ∷ filter (wakes_at t es) rs) (filter (wakes_at t es) rs))
-          ≡ map {A = Open Seen} (λ h. h.number) (cond b (handle_of t name start entries r ∷ filter (λ h. is_waiting h && learns es h) (map (handle_of t name start entries) rs)) (filter (λ h. is_waiting h && learns es h) (map (handle_of t name start entries) rs)))
+          ≡ map {A = OpenHandle Progress} (λ h. h.number) (cond b (handle_of t name start entries r ∷ filter (λ h. is_waiting h && learns es h) (map (handle_of t name start entries) rs)) (filter (λ h. is_waiting h && learns es h) (map (handle_of t name start entries) rs)))
       by true rec = ap (λ ns. r.opening.number ∷ ns) rec
       by false rec = rec

@@ -3,8 +3,8 @@ use Rattle.std.specs.Prelude.{◌≡◌, ℕ, List, [], Option, Some, filter, ma
 use Rattle.std.specs.Option.{option_map_or}
 use Rattle.change_chain.specs.Span.{Span}
 use Rattle.pps_types.specs.History.{Entry}
-use Rattle.pps_types.specs.Reading.{Open, Shown as ShownBlock, print_shown, block, visible}
-use Rattle.pps_types.specs.Rests.{Seen, owed_in}
+use Rattle.pps_types.specs.Reading.{OpenHandle, Shown as ShownBlock, print_shown, block, visible}
+use Rattle.pps_types.specs.Rests.{Progress, owed_in}
 use Rattle.server_queue.specs.declared.shown.Shown.{Shown}
 use Rattle.server_queue.specs.Shown.{printed_as}
 use Rattle.sub_reader.specs.declared.opening.Opening.{Opening}
@@ -13,11 +13,11 @@ use Rattle.sub_reader.specs.Opened.{opened, handle_at}
 use Rattle.sub_reader.specs.Places.{seen_at}
 use Rattle.sub_reader.specs.Chained.{records_from}
 
-abbrev pub blocks_given : {S : Type 0} → Open S → List Entry → List (List ℕ)
+abbrev pub blocks_given : {S : Type 0} → OpenHandle S → List Entry → List (List ℕ)
 blocks_given h entries = map (block h) (filter (visible h) entries)
 
 -- of all that a handle has seen, those of what it is owed
-abbrev pub owed_blocks : Option (Open Seen) → List (List ℕ)
+abbrev pub owed_blocks : Option (OpenHandle Progress) → List (List ℕ)
 owed_blocks h = option_map_or (λ h. map (block h) (owed_in h h.seen)) h []
 
 -- the same, of a handle at its place
@@ -33,7 +33,7 @@ abbrev pub blocks_from : ℕ → Opening → ℕ → Span Entry → List (List �
 blocks_from target o position records = blocks_given (opened target [] o) (records_from position records)
 
 -- those that the handle of a number is owed
-abbrev pub owed_blocks_at : ℕ → List (Open Seen) → List (List ℕ)
+abbrev pub owed_blocks_at : ℕ → List (OpenHandle Progress) → List (List ℕ)
 owed_blocks_at number handles = owed_blocks (handle_at number handles)
 
 -- ---- the block of one record

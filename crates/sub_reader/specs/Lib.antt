@@ -9,7 +9,7 @@ pub mod Counts
 pub mod Standing
 pub mod Blocks
 pub mod Woken
-pub mod Seated
+pub mod HandlesOf
 pub mod Alike
 pub mod Glances
 pub mod Audience

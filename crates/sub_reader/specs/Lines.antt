@@ -3,7 +3,7 @@ use Rattle.std.specs.Prelude.{◌≡◌, ℕ, List, Option, Some, is_none, Bool,
 use Rattle.pps_types.specs.declared.handle_kind.HandleKind.{HandleKind}
 use Rattle.pps_types.specs.declared.handle_kind.HandleKind.TheVariants.{Object as ObjectHandle, Directory as DirectoryHandle}
 use Rattle.pps_types.specs.History.{Entry}
-use Rattle.pps_types.specs.Reading.{Open, concerns, is_writer, is_object_kind}
+use Rattle.pps_types.specs.Reading.{OpenHandle, concerns, is_writer, is_object_kind}
 use Rattle.server_queue.specs.Printed.{printed_text}
 use Rattle.sub_reader.specs.declared.opening.Opening.{Opening}
 
@@ -18,7 +18,7 @@ abbrev pub reads_changes_of : Opening → Option ℕ → Bool
 reads_changes_of o writer = o.reads && (not (is_writer o.number writer) || (o.options.reflect && is_object_kind o.kind))
 
 -- it is told of a record, where that has a block for it
-abbrev pub is_told : {S : Type 0} → Open S → Entry → Bool
+abbrev pub is_told : {S : Type 0} → OpenHandle S → Entry → Bool
 is_told h e = concerns h e && (h.reads && (not (is_writer h.number e.record_of.writer) || (h.options.reflect && is_object_kind h.kind)))
 
 -- the record has lines, and the handle takes all of them

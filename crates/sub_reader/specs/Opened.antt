@@ -6,8 +6,8 @@ use Rattle.pps_types.specs.declared.found.Found.{Found}
 use Rattle.pps_types.specs.declared.found.Found.TheVariants.{Object as FoundObject, Directory as FoundDirectory}
 use Rattle.pps_types.specs.declared.handle_kind.HandleKind.{HandleKind}
 use Rattle.pps_types.specs.History.{Entry}
-use Rattle.pps_types.specs.Reading.{Open, Style, Queue, reseen, style, is_full_style, is_delta_style, is_directory_kind, visible}
-use Rattle.pps_types.specs.Rests.{Seen}
+use Rattle.pps_types.specs.Reading.{OpenHandle, Style, Queue, reseen, style, is_full_style, is_delta_style, is_directory_kind, visible}
+use Rattle.pps_types.specs.Rests.{Progress}
 use Rattle.pps_types.specs.Owed.{same_flag}
 use Rattle.open_options.specs.Seen.{handle_options_seen}
 use Rattle.sub_reader.specs.declared.opening.Opening.{Opening}
@@ -22,7 +22,7 @@ number_of (FoundObject number) = number
 number_of (FoundDirectory number) = number
 
 -- a handle on the target of that number and name, before it has read
-abbrev pub opened : ℕ → List ℕ → Opening → Open (Unit {0})
+abbrev pub opened : ℕ → List ℕ → Opening → OpenHandle (Unit {0})
 opened target name o = record { number = o.number; connection = o.connection; target = target; name = name; kind = o.kind; reads = o.reads; writes = o.writes; options = handle_options_seen o.options; limit = o.limit; seen = tt; parked = None; armed = None }
 
 abbrev pub armed_pulse : Option Pulse → Option (ℕ × ℕ)
@@ -42,15 +42,15 @@ suits kind directory true = is_queue_style (style kind)
 suits kind directory false = is_reader kind && same_flag (is_directory_kind kind) directory
 
 -- what its open fixed of a handle
-abbrev pub as_opened : Open Seen → Open (Unit {0})
+abbrev pub as_opened : OpenHandle Progress → OpenHandle (Unit {0})
 as_opened h = record (reseen (λ x. tt) h) { parked = None; armed = None }
 
 -- the handle of that number
-abbrev pub handle_at : ℕ → List (Open Seen) → Option (Open Seen)
+abbrev pub handle_at : ℕ → List (OpenHandle Progress) → Option (OpenHandle Progress)
 handle_at number handles = find (λ h. h.number == number) handles
 
 -- what an open fixed of the handle of a number, if it is among those on the target of that number and name
-abbrev pub IsOpeningAt : ℕ → ℕ → List ℕ → List (Open Seen) → Option (Bor Opening) → Type 0
+abbrev pub IsOpeningAt : ℕ → ℕ → List ℕ → List (OpenHandle Progress) → Option (Bor Opening) → Type 0
 IsOpeningAt number target name handles opening =
     option_map (opened target name) (option_copied opening) ≡ option_map as_opened (handle_at number handles)
 

@@ -2,8 +2,8 @@
 use Rattle.std.specs.Prelude.{◌≡◌, ℕ, ◌+◌, ◌-◌, ◌<◌, ◌≤◌, Bool, true, false, ◌||◌, nat_lt, if◌then◌else◌, List, [], ◌∷◌, length, filter, drop, Option, Some, None}
 use Rattle.pps_types.specs.declared.handle_kind.HandleKind.{HandleKind}
 use Rattle.pps_types.specs.History.{Entry}
-use Rattle.pps_types.specs.Reading.{Open, reseen, style, is_full_style, is_delta_style, is_directory_kind, visible}
-use Rattle.pps_types.specs.Rests.{Seen, News as SeenNews, Unread, Over as SeenOver, Owed}
+use Rattle.pps_types.specs.Reading.{OpenHandle, reseen, style, is_full_style, is_delta_style, is_directory_kind, visible}
+use Rattle.pps_types.specs.Rests.{Progress, News as SeenNews, Unread, Over as SeenOver, Owed}
 use Rattle.pps_types.specs.Owed.{same_flag}
 use Rattle.sub_reader.specs.Opened.{opened, armed_pulse}
 use Rattle.sub_reader.specs.declared.place.Place.{Place}
@@ -11,7 +11,7 @@ use Rattle.sub_reader.specs.declared.place.Place.TheVariants.{News, Fresh, Over,
 use Rattle.sub_reader.specs.Readers.{Reader}
 
 -- what a handle at a place has seen, where the records that are held begin at a position
-abbrev pub seen_at : ℕ → List Entry → Place → Seen
+abbrev pub seen_at : ℕ → List Entry → Place → Progress
 seen_at start entries (News b) = SeenNews b
 seen_at start entries Fresh = Unread
 seen_at start entries Over = SeenOver
@@ -19,11 +19,11 @@ seen_at start entries Idle = Owed []
 seen_at start entries (At first owed) = Owed (drop (first - start) entries)
 
 -- with what waits on it
-abbrev pub waiting : Reader → Open Seen → Open Seen
+abbrev pub waiting : Reader → OpenHandle Progress → OpenHandle Progress
 waiting r h = record h { parked = r.parked; armed = armed_pulse r.armed }
 
 -- the handle, on the target of that number and name
-abbrev pub handle_of : ℕ → List ℕ → ℕ → List Entry → Reader → Open Seen
+abbrev pub handle_of : ℕ → List ℕ → ℕ → List Entry → Reader → OpenHandle Progress
 handle_of target name start entries r = waiting r (reseen (λ h. seen_at start entries r.progress) (opened target name r.opening))
 
 abbrev pub placed : Place → Reader → Reader
@@ -67,7 +67,7 @@ Begins test [] = ⊥
 Begins test (e ∷ es) = test e ≡ true
 
 -- The first record that is owed stands among those that are held, so many are owed from there, and they are within the limit.
-pub record IsAt {S : Type 0} (h : Open S) (start : ℕ) (entries : List Entry) (first owed : ℕ) : Type 0 where
+pub record IsAt {S : Type 0} (h : OpenHandle S) (start : ℕ) (entries : List Entry) (first owed : ℕ) : Type 0 where
   pub delta : is_delta_style (style h.kind) ≡ true
   pub from_start : start ≤ first
   pub before_end : first < start + length entries
@@ -75,7 +75,7 @@ pub record IsAt {S : Type 0} (h : Open S) (start : ℕ) (entries : List Entry) (
   pub count : length (filter (visible h) (drop (first - start) entries)) ≡ owed
   pub few : owed ≤ h.limit
 
-abbrev pub IsPlace : {S : Type 0} → Open S → ℕ → List Entry → Place → Type 0
+abbrev pub IsPlace : {S : Type 0} → OpenHandle S → ℕ → List Entry → Place → Type 0
 IsPlace h start entries (News b) = is_full_style (style h.kind) ≡ true
 IsPlace h start entries Fresh = is_delta_style (style h.kind) ≡ true
 IsPlace h start entries Over = is_delta_style (style h.kind) ≡ true

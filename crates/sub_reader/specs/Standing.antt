@@ -3,8 +3,8 @@ use Rattle.std.specs.Prelude.{◌≡◌, ℕ, ◌+◌, ◌-◌, ◌<◌, ◌^◌
 use Rattle.std.specs.List.{AllByRecursion}
 use Rattle.pps_types.specs.declared.found.Found.{Found}
 use Rattle.pps_types.specs.History.{Entry}
-use Rattle.pps_types.specs.Reading.{Open}
-use Rattle.pps_types.specs.Rests.{Seen}
+use Rattle.pps_types.specs.Reading.{OpenHandle}
+use Rattle.pps_types.specs.Rests.{Progress}
 use Rattle.pps_types.specs.Rising.{IsRising}
 use Rattle.sub_reader.specs.declared.opening.Opening.{Opening}
 use Rattle.sub_reader.specs.Opened.{number_of}
@@ -20,13 +20,13 @@ use Rattle.sub_reader.specs.Rows.{number_in}
 pub record Standing : Type 0 where
   pub of : Found
   pub name : List ℕ
-  pub handles : List (Open Seen)
+  pub handles : List (OpenHandle Progress)
   pub kept : List Entry
   pub room : ℕ
   pub places : ℕ
 
 -- its handles and one more that was opened on it
-abbrev pub handles_with : Opening → Standing → List (Open Seen)
+abbrev pub handles_with : Opening → Standing → List (OpenHandle Progress)
 handles_with opening s = with_opened (number_of s.of) s.name opening s.handles
 
 -- the same target with the same handles

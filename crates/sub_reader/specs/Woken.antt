@@ -2,8 +2,8 @@
 use Rattle.std.specs.Prelude.{ℕ, List, Bool, true, false, not, ◌&&◌, ◌||◌, is_some, filter, map, []}
 use Rattle.std.specs.List.{list_any}
 use Rattle.pps_types.specs.History.{Entry}
-use Rattle.pps_types.specs.Reading.{Open, visible}
-use Rattle.pps_types.specs.Rests.{Seen}
+use Rattle.pps_types.specs.Reading.{OpenHandle, visible}
+use Rattle.pps_types.specs.Rests.{Progress}
 use Rattle.pps_types.specs.Content.{is_waiting, learns}
 use Rattle.sub_reader.specs.Opened.{opened}
 use Rattle.sub_reader.specs.declared.place.Place.{Place}
@@ -13,7 +13,7 @@ use Rattle.sub_reader.specs.Readers.{Reader}
 use Rattle.sub_reader.specs.Rows.{rows_in}
 
 -- the numbers of those that wait, had no news and see one of the records
-abbrev pub woken_by : List Entry → List (Open Seen) → List ℕ
+abbrev pub woken_by : List Entry → List (OpenHandle Progress) → List ℕ
 woken_by es handles = map (λ h. h.number) (filter (λ h. is_waiting h && learns es h) handles)
 
 -- the same of a handle at its place: whether a read would give something new

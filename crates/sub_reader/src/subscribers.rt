@@ -7,7 +7,7 @@ ghost use Rattle.server_queue.specs.Given.{GivesFitting, RefusesTooSmall, Checks
 ghost use Rattle.sub_reader.specs.Blocks.{owed_blocks_at};
 ghost use Rattle.sub_reader.specs.Opened.{armed_pulse, number_of, is_reader, IsOpeningAt};
 ghost use Rattle.sub_reader.specs.Glances.{IsGlanceAt};
-ghost use Rattle.sub_reader.specs.Seated.{AreSeatedOn, SuitsTarget, longest_rest_on, HaveName, AreReaders};
+ghost use Rattle.sub_reader.specs.HandlesOf.{AreOnFound, SuitsTarget, longest_rest_on, HaveName, AreReaders};
 ghost use Rattle.sub_reader.specs.HandleAt.{parked_at, armed_at, has_news_at, is_over_at, owed_at, AreBelow};
 ghost use Rattle.sub_reader.specs.HandleAt.{with_offered, with_caught_up, with_passed, with_parked, with_armed};
 ghost use Rattle.sub_reader.specs.Standing.{handles_with, AreSame};
@@ -403,8 +403,8 @@ impl Subscribers {
 
     /// Does nothing. Its contract is the law that its handles are on it, are owed no more than their limits, and stand in
     /// rising number.
-    pub fn handles_are_seated(&self)
-        ensures { AreSeatedOn self.now.of self.now.handles }
+    pub fn handles_are_on_it(&self)
+        ensures { AreOnFound self.now.of self.now.handles }
     {
         let _held = self.records.start();
     }

@@ -2,8 +2,8 @@
 use Rattle.std.proofs.Common.{◌≡◌, ◌<◌, ℕ, Bool, List, [], ◌∷◌, ◌++◌, map, refl, sym, ap, subst, ◌∙◌, None}
 use Rattle.std.specs.List.{AllByRecursion, AllZip}
 use Rattle.pps_types.specs.History.{Entry}
-use Rattle.pps_types.specs.Reading.{Open, reseen, style}
-use Rattle.pps_types.specs.Rests.{Seen, Owed}
+use Rattle.pps_types.specs.Reading.{OpenHandle, reseen, style}
+use Rattle.pps_types.specs.Rests.{Progress, Owed}
 use Rattle.pps_types.specs.Rising.{IsRising, AllAbove}
 use Rattle.sub_reader.specs.declared.opening.Opening.{Opening}
 use Rattle.sub_reader.specs.Opened.{opened, armed_pulse}
@@ -66,11 +66,11 @@ owed_is xs ys same = cc
 
 handle_held : (object : ℕ) (name : List ℕ) (x y : QueueRow) → IsRowOn object x → IsRowOn object y → handle_of object name x ≡ handle_of object name y → held_of x ≡ held_of y
 handle_held object name x y is be same =
-    let opening = opening-is x.opening y.opening object name (ap (λ (h : Open Seen). record (reseen (λ s. tt) h) { parked = None; armed = None }) same) in
+    let opening = opening-is x.opening y.opening object name (ap (λ (h : OpenHandle Progress). record (reseen (λ s. tt) h) { parked = None; armed = None }) same) in
     let limit = is.limit ∙ ap (λ (o : Opening). o.limit) opening ∙ sym be.limit in
-    let owed = owed_is x.progress.owed y.progress.owed (ap (λ (h : Open Seen). h.seen) same) in
-    let parked = ap (λ (h : Open Seen). h.parked) same in
-    let armed = armed-is x.armed y.armed (ap (λ (h : Open Seen). h.armed) same) in
+    let owed = owed_is x.progress.owed y.progress.owed (ap (λ (h : OpenHandle Progress). h.seen) same) in
+    let parked = ap (λ (h : OpenHandle Progress). h.parked) same in
+    let armed = armed-is x.armed y.armed (ap (λ (h : OpenHandle Progress). h.armed) same) in
     λ i. record { opening = opening i; limit = limit i; owed = owed i; parked = parked i; armed = armed i }
 
 pub handles_held : (object : ℕ) (name : List ℕ) (xs ys : List QueueRow) → AllByRecursion (IsRowOn object) xs → AllByRecursion (IsRowOn object) ys → map (handle_of object name) xs ≡ map (handle_of object name) ys → map held_of xs ≡ map held_of ys
@@ -101,11 +101,11 @@ pub service_held : (object : ℕ) (led : Bool) (xs ys : List QueueRow) → map h
 service_held object led xs ys same is =
     service-is object (λ x y. held_of y ≡ held_of x) (λ x y alike. ap (λ (s : Held). s.opening) alike) (λ x y right alike. row_held object x y alike right) led xs ys is (held_each xs ys same)
 
-pub renamed : (o p : ℕ) (n m : List ℕ) (xs : List QueueRow) (hs : List (Open Seen)) → o ≡ p → n ≡ m → map (handle_of p m) xs ≡ hs → map (handle_of o n) xs ≡ hs
+pub renamed : (o p : ℕ) (n m : List ℕ) (xs : List QueueRow) (hs : List (OpenHandle Progress)) → o ≡ p → n ≡ m → map (handle_of p m) xs ≡ hs → map (handle_of o n) xs ≡ hs
 renamed o p n m xs hs number name same = (λ i. map (handle_of (number i) (name i)) xs) ∙ same
 
 -- for two of the same number and name, what stands of the handles is the same just where the handles are
-pub same_services : (o p : ℕ) (n m : List ℕ) (xs ys : List QueueRow) (hs gs : List (Open Seen)) → o ≡ p → n ≡ m → AllByRecursion (IsRowOn o) xs → AllByRecursion (IsRowOn p) ys → map (handle_of o n) xs ≡ hs → map (handle_of p m) ys ≡ gs → (hs ≡ gs → map held_of xs ≡ map held_of ys) × (map held_of xs ≡ map held_of ys → hs ≡ gs)
+pub same_services : (o p : ℕ) (n m : List ℕ) (xs ys : List QueueRow) (hs gs : List (OpenHandle Progress)) → o ≡ p → n ≡ m → AllByRecursion (IsRowOn o) xs → AllByRecursion (IsRowOn p) ys → map (handle_of o n) xs ≡ hs → map (handle_of p m) ys ≡ gs → (hs ≡ gs → map held_of xs ≡ map held_of ys) × (map held_of xs ≡ map held_of ys → hs ≡ gs)
 same_services o p n m xs ys hs gs number name all every left right =
     let those : map (handle_of o n) ys ≡ gs = renamed o p n m ys gs number name right in (
       λ same. handles_held o n xs ys all (subst (λ q. AllByRecursion (IsRowOn q) ys) (sym number) every) (left ∙ same ∙ sym those),

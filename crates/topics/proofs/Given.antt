@@ -5,8 +5,8 @@ use Rattle.std.specs.List.{AllByRecursion}
 use Rattle.std.proofs.lemmas.Bool.Decides.{leb_tells}
 use Rattle.std.proofs.lemmas.List.{append-nil}
 use Rattle.pps_types.specs.History.{Entry}
-use Rattle.pps_types.specs.Reading.{Open, block, visible}
-use Rattle.pps_types.specs.Rests.{Seen}
+use Rattle.pps_types.specs.Reading.{OpenHandle, block, visible}
+use Rattle.pps_types.specs.Rests.{Progress}
 use Rattle.pps_types.specs.Checks.{count_owed, is_client, is_server_message}
 use Rattle.server_queue.specs.Blocks.{queue_blocks}
 use Rattle.server_queue.specs.OwedTo.{AllVisible}
@@ -16,7 +16,7 @@ use Rattle.sub_reader.specs.Rows.{number_in}
 use Rattle.topics.specs.QueueRows.{QueueRow, handle_of, is_full_client, IsRowOn}
 use Rattle.topics.proofs.Seen.{all-kept}
 
-all-visible : (h : Open Seen) (xs : List Entry) → AllByRecursion (λ e. visible h e ≡ true) xs → AllVisible h xs
+all-visible : (h : OpenHandle Progress) (xs : List Entry) → AllByRecursion (λ e. visible h e ≡ true) xs → AllVisible h xs
 all-visible h [] all = tt
 all-visible h (x ∷ xs) all = (all.0, all-visible h xs all.1)
 
@@ -47,20 +47,20 @@ not-lt a b = ⊎_elim
 -- ---- the first client that is full
 
 module _ (object : ℕ) (name : List ℕ) where
-  abbrev pub is_full : Open Seen → Bool
+  abbrev pub is_full : OpenHandle Progress → Bool
   is_full h = is_client h.kind && nat_le h.limit (count_owed is_server_message h)
 
   full-same : (x : QueueRow) → IsRowOn object x → is_full_client x ≡ is_full (handle_of object name x)
   full-same x is = ap (λ b. is_client x.opening.kind && b)
       (not-lt (length (filter is_server_message x.progress.owed)) x.progress.limit ∙ (λ i. nat_le (is.limit i) (count-is object name x is is_server_message i)))
 
-  pub full-found : (xs : List QueueRow) → AllByRecursion (IsRowOn object) xs → option_map number_in (find is_full_client xs) ≡ option_map (λ (h : Open Seen). h.number) (find is_full (map (handle_of object name) xs))
+  pub full-found : (xs : List QueueRow) → AllByRecursion (IsRowOn object) xs → option_map number_in (find is_full_client xs) ≡ option_map (λ (h : OpenHandle Progress). h.number) (find is_full (map (handle_of object name) xs))
   full-found [] all = refl
   full-found (x ∷ xs) all =
       ap (λ b. option_map number_in (cond b (Some x) (find is_full_client xs))) (full-same x all.0)
       ∙ by (is_full (handle_of object name x)) (full-found xs all.1)
     where
-      by : (b : Bool) → option_map number_in (find is_full_client xs) ≡ option_map (λ (h : Open Seen). h.number) (find is_full (map (handle_of object name) xs))
-          → option_map number_in (cond b (Some x) (find is_full_client xs)) ≡ option_map (λ (h : Open Seen). h.number) (cond b (Some (handle_of object name x)) (find is_full (map (handle_of object name) xs)))
+      by : (b : Bool) → option_map number_in (find is_full_client xs) ≡ option_map (λ (h : OpenHandle Progress). h.number) (find is_full (map (handle_of object name) xs))
+          → option_map number_in (cond b (Some x) (find is_full_client xs)) ≡ option_map (λ (h : OpenHandle Progress). h.number) (cond b (Some (handle_of object name x)) (find is_full (map (handle_of object name) xs)))
       by true rec = refl
       by false rec = rec

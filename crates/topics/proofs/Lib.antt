@@ -7,7 +7,7 @@ pub mod Roomed
 pub mod Given
 pub mod Waking
 pub mod Copying
-pub mod Seating
+pub mod HandlesOf
 pub mod Spans
 pub mod Shared
 pub mod Alike

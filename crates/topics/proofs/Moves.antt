@@ -8,8 +8,8 @@ use Rattle.pps_types.specs.declared.handle_kind.HandleKind.TheVariants.{Object a
 use Rattle.pps_types.specs.Bytes.{is_empty}
 use Rattle.pps_types.specs.Checks.{is_client}
 use Rattle.pps_types.specs.History.{Entry}
-use Rattle.pps_types.specs.Reading.{Open}
-use Rattle.pps_types.specs.Rests.{Seen}
+use Rattle.pps_types.specs.Reading.{OpenHandle}
+use Rattle.pps_types.specs.Rests.{Progress}
 use Rattle.pps_types.specs.Plan.{on_numbered, without_number}
 use Rattle.pps_types.proofs.Lists.{all-push, map-without_first}
 use Rattle.pps_types.specs.Rising.{IsPlaceOf, IsGapFor}
@@ -30,30 +30,30 @@ all-remove P (x ∷ xs) zero all = all.1
 all-remove P (x ∷ xs) (suc k) all = (all.0, all-remove P xs k all.1)
 
 module _ (object : ℕ) (name : List ℕ) (rows : List QueueRow) where
-  abbrev see : QueueRow → Open Seen
+  abbrev see : QueueRow → OpenHandle Progress
   see = handle_of object name
 
   -- ---- one handle changes
 
-  pub set-seen : (number k : ℕ) (change : Open Seen → Open Seen) (x d : QueueRow) → IsPlaceOf number_in rows number k → k < length rows → see x ≡ change (see (get_or rows k d))
+  pub set-seen : (number k : ℕ) (change : OpenHandle Progress → OpenHandle Progress) (x d : QueueRow) → IsPlaceOf number_in rows number k → k < length rows → see x ≡ change (see (get_or rows k d))
       → map see (set rows k x) ≡ on_numbered number change (map see rows)
   set-seen number k change x d place lt same =
       map-set see rows k x
       ∙ ap (set (map see rows) k) (same ∙ ap change (sym (get_or-map see rows k d (see d) lt)))
-      ∙ sym (change_place (λ (h : Open Seen). h.number) change number (map see rows) k (see d) (place_map number_in (λ (h : Open Seen). h.number) see (λ x. refl) number rows k place))
+      ∙ sym (change_place (λ (h : OpenHandle Progress). h.number) change number (map see rows) k (see d) (place_map number_in (λ (h : OpenHandle Progress). h.number) see (λ x. refl) number rows k place))
 
-  pub same-nowhere : (number k : ℕ) (change : Open Seen → Open Seen) → IsGapFor number_in rows number k → map see rows ≡ on_numbered number change (map see rows)
-  same-nowhere number k change gap = sym (change_gap (λ (h : Open Seen). h.number) change number (map see rows) k (gap_map number_in (λ (h : Open Seen). h.number) see (λ x. refl) number rows k gap))
+  pub same-nowhere : (number k : ℕ) (change : OpenHandle Progress → OpenHandle Progress) → IsGapFor number_in rows number k → map see rows ≡ on_numbered number change (map see rows)
+  same-nowhere number k change gap = sym (change_gap (λ (h : OpenHandle Progress). h.number) change number (map see rows) k (gap_map number_in (λ (h : OpenHandle Progress). h.number) see (λ x. refl) number rows k gap))
 
   -- ---- one handle leaves
 
   pub gone-seen : (number k : ℕ) → IsPlaceOf number_in rows number k → map see (remove rows k) ≡ without_number number (map see rows)
   gone-seen number k place =
       ap (map see) (sym (without_place number_in number rows k place))
-      ∙ map-without_first see (λ (x : QueueRow). eqb x.opening.number number) (λ (h : Open Seen). eqb h.number number) (λ x. refl) rows
+      ∙ map-without_first see (λ (x : QueueRow). eqb x.opening.number number) (λ (h : OpenHandle Progress). eqb h.number number) (λ x. refl) rows
 
   pub gone-nowhere : (number k : ℕ) → IsGapFor number_in rows number k → map see rows ≡ without_number number (map see rows)
-  gone-nowhere number k gap = sym (without_gap (λ (h : Open Seen). h.number) number (map see rows) k (gap_map number_in (λ (h : Open Seen). h.number) see (λ x. refl) number rows k gap))
+  gone-nowhere number k gap = sym (without_gap (λ (h : OpenHandle Progress). h.number) number (map see rows) k (gap_map number_in (λ (h : OpenHandle Progress). h.number) see (λ x. refl) number rows k gap))
 
 -- ---- what is always so
 
@@ -111,7 +111,7 @@ module _ (object : ℕ) (led : Bool) (rows : List QueueRow) (is : IsService obje
     clients = led-push led rows x is.clients;
   }
 
-pub above-rows : (object : ℕ) (name : List ℕ) (rows : List QueueRow) (number : ℕ) → AllByRecursion (λ (h : Open Seen). h.number < number) (map (handle_of object name) rows)
+pub above-rows : (object : ℕ) (name : List ℕ) (rows : List QueueRow) (number : ℕ) → AllByRecursion (λ (h : OpenHandle Progress). h.number < number) (map (handle_of object name) rows)
     → AllByRecursion (λ (x : QueueRow). x.opening.number < number) rows
 above-rows object name [] number all = tt
 above-rows object name (x ∷ xs) number all = (all.0, above-rows object name xs number all.1)
@@ -155,7 +155,7 @@ module _ (object : ℕ) (name : List ℕ) (slots : List QueueSlot) (place : ℕ)
       subst (IsService object led) (sym is)
       (set-is object led (rows_in slots) service (rank place slots) y x lt-at (same ∙ ap (λ (r : QueueRow). r.opening) x-at) right)
 
-  pub changed-seen : (number : ℕ) (change : Open Seen → Open Seen) → IsPlaceOf number_in (rows_in slots) number (rank place slots) → handle_of object name y ≡ change (handle_of object name x)
+  pub changed-seen : (number : ℕ) (change : OpenHandle Progress → OpenHandle Progress) → IsPlaceOf number_in (rows_in slots) number (rank place slots) → handle_of object name y ≡ change (handle_of object name x)
       → map (handle_of object name) new ≡ on_numbered number change (map (handle_of object name) (rows_in slots))
   changed-seen number change found same =
       ap (map (handle_of object name)) is

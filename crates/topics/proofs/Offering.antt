@@ -8,8 +8,8 @@ use Rattle.pps_types.specs.declared.handle_kind.HandleKind.{HandleKind}
 use Rattle.pps_types.specs.declared.handle_kind.HandleKind.TheVariants.{Object as ObjectHandle, Directory as DirectoryHandle, Names as NamesHandle, Server as ServerHandle, Client as ClientHandle}
 use Rattle.pps_types.specs.declared.record.Kind.{Kind}
 use Rattle.pps_types.specs.History.{Entry}
-use Rattle.pps_types.specs.Reading.{Open, Queue, style, visible, concerns, is_chained, reseen}
-use Rattle.pps_types.specs.Rests.{Seen, Owed, keeps, pushed}
+use Rattle.pps_types.specs.Reading.{OpenHandle, Queue, style, visible, concerns, is_chained, reseen}
+use Rattle.pps_types.specs.Rests.{Progress, Owed, keeps, pushed}
 use Rattle.pps_types.specs.Plan.{offered, offer}
 use Rattle.pps_types.proofs.Lists.{all-push}
 use Rattle.server_queue.specs.Senders.{client_messages}
@@ -93,14 +93,14 @@ or-none true b c is = refl
 or-none false true c is = is
 or-none false false c is = refl
 
-keeps-seen : {S : Type 0} (h : Open S) (e : Entry) → style h.kind ≡ Queue → keeps h e ≡ visible h e
+keeps-seen : {S : Type 0} (h : OpenHandle S) (e : Entry) → style h.kind ≡ Queue → keeps h e ≡ visible h e
 keeps-seen h e kind = or-none (visible h e) (concerns h e) (is_chained h.kind e.record_of.kind) (no-chain h.kind e.record_of.kind kind)
 
 pushed-is : (test : Entry → Bool) (e : Entry) (rest : List Entry) → test e ≡ true → pushed test e rest ≡ rest ++ e ∷ []
 pushed-is test e [] is = rw is refl
 pushed-is test e (x ∷ xs) is = refl
 
-pub offered-is : {S : Type 0} (h : Open S) (e : Entry) (rest : List Entry) → style h.kind ≡ Queue → offered h e (Owed rest) ≡ Owed (cond (visible h e) (rest ++ e ∷ []) rest)
+pub offered-is : {S : Type 0} (h : OpenHandle S) (e : Entry) (rest : List Entry) → style h.kind ≡ Queue → offered h e (Owed rest) ≡ Owed (cond (visible h e) (rest ++ e ∷ []) rest)
 offered-is h e rest kind =
     queue-seen h (cond (keeps h e) (pushed (visible h) e rest) rest) kind
     ∙ ap Owed (ap (λ b. cond b (pushed (visible h) e rest) rest) (keeps-seen h e kind) ∙ by (visible h e) refl)
@@ -113,7 +113,7 @@ module _ (object : ℕ) (name : List ℕ) (e : Entry) where
   one-seen : (x y : QueueRow) → IsRowOn object x → IsOffered object e x y → handle_of object name y ≡ offer e (handle_of object name x)
   one-seen x y is r =
       (λ i. record (reseen (λ h. Owed (r.owed i)) (opened object name (r.opening i))) { parked = r.parked i; armed = armed_pulse (r.armed i) })
-      ∙ ap (λ (seen : Seen). record (reseen (λ h. seen) (opened object name x.opening)) { parked = x.parked; armed = armed_pulse x.armed }) (sym (offered-is (handle_of object name x) e x.progress.owed is.kind))
+      ∙ ap (λ (seen : Progress). record (reseen (λ h. seen) (opened object name x.opening)) { parked = x.parked; armed = armed_pulse x.armed }) (sym (offered-is (handle_of object name x) e x.progress.owed is.kind))
 
   pub offers-seen : (xs ys : List QueueRow) → AllByRecursion (IsRowOn object) xs → AreOffered object e xs ys → map (handle_of object name) ys ≡ map (offer e) (map (handle_of object name) xs)
   offers-seen [] [] each all = refl
@@ -157,12 +157,12 @@ module _ (object : ℕ) (name : List ℕ) where
   room-all entries (x ∷ xs) room = (record { records = room.0.records; messages = room.0.messages }, room-all entries xs room.1)
 
   -- as many are counted
-  pub count-handles : (e : Entry) (xs : List QueueRow) → length (filter (sees object e) xs) ≡ length (filter (λ (h : Open Seen). visible h e) (map (handle_of object name) xs))
+  pub count-handles : (e : Entry) (xs : List QueueRow) → length (filter (sees object e) xs) ≡ length (filter (λ (h : OpenHandle Progress). visible h e) (map (handle_of object name) xs))
   count-handles e [] = refl
   count-handles e (x ∷ xs) = by (sees object e x) (count-handles e xs)
     where
-      by : (b : Bool) → length (filter (sees object e) xs) ≡ length (filter (λ (h : Open Seen). visible h e) (map (handle_of object name) xs))
-          → length (cond b (x ∷ filter (sees object e) xs) (filter (sees object e) xs)) ≡ length (cond b (handle_of object name x ∷ filter (λ (h : Open Seen). visible h e) (map (handle_of object name) xs)) (filter (λ (h : Open Seen). visible h e) (map (handle_of object name) xs)))
+      by : (b : Bool) → length (filter (sees object e) xs) ≡ length (filter (λ (h : OpenHandle Progress). visible h e) (map (handle_of object name) xs))
+          → length (cond b (x ∷ filter (sees object e) xs) (filter (sees object e) xs)) ≡ length (cond b (handle_of object name x ∷ filter (λ (h : OpenHandle Progress). visible h e) (map (handle_of object name) xs)) (filter (λ (h : OpenHandle Progress). visible h e) (map (handle_of object name) xs)))
       by true same = ap suc same
       by false same = same
 

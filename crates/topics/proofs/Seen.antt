@@ -4,13 +4,13 @@ use Rattle.std.specs.Prelude.{find, filter, option_map}
 use Rattle.std.specs.List.{AllByRecursion}
 use Rattle.std.proofs.Math.Seq.{drop-length}
 use Rattle.pps_types.specs.History.{Entry}
-use Rattle.pps_types.specs.Reading.{Open, Queue, style, visible, reseen}
-use Rattle.pps_types.specs.Rests.{Seen, Owed, stand, over_limit, seen_of, from_first, past}
+use Rattle.pps_types.specs.Reading.{OpenHandle, Queue, style, visible, reseen}
+use Rattle.pps_types.specs.Rests.{Progress, Owed, stand, over_limit, seen_of, from_first, past}
 use Rattle.pps_types.specs.Plan.{left, caught_up}
 use Rattle.sub_reader.specs.Opened.{opened, handle_at}
 use Rattle.topics.specs.QueueRows.{QueueRow, waiting, owed_as, handle_of, IsRowOn}
 
-pub queue-seen : {S : Type 0} (h : Open S) (rest : List Entry) → style h.kind ≡ Queue → seen_of h rest ≡ Owed rest
+pub queue-seen : {S : Type 0} (h : OpenHandle S) (rest : List Entry) → style h.kind ≡ Queue → seen_of h rest ≡ Owed rest
 queue-seen h rest kind = ap (λ s. stand s h.reads (over_limit h rest) rest) kind
 
 module _ (test : Entry → Bool) where
@@ -37,7 +37,7 @@ module _ (object : ℕ) (name : List ℕ) (x : QueueRow) (is : IsRowOn object x)
   pub left-is : (n : ℕ) (owed : List Entry) → owed ≡ drop n x.progress.owed → owed_as object name x owed ≡ reseen (λ h. left h n h.seen) (handle_of object name x)
   left-is n owed same =
       let h = handle_of object name x in
-      ap (λ (s : Seen). waiting x (reseen (λ o. s) (opened object name x.opening)))
+      ap (λ (s : Progress). waiting x (reseen (λ o. s) (opened object name x.opening)))
       (ap Owed same ∙ sym (queue-seen h (from_first (visible h) (past (visible h) n x.progress.owed)) is.kind
       ∙ ap (λ xs. Owed (from_first (visible h) xs)) (all-past (visible h) n x.progress.owed is.owed)
       ∙ ap Owed (all-from (visible h) (drop n x.progress.owed) (all-drop (visible h) n x.progress.owed is.owed))))
@@ -45,7 +45,7 @@ module _ (object : ℕ) (name : List ℕ) (x : QueueRow) (is : IsRowOn object x)
   pub caught-is : (owed : List Entry) → owed ≡ drop (length x.progress.owed) x.progress.owed → owed_as object name x owed ≡ reseen caught_up (handle_of object name x)
   caught-is owed same =
       let h = handle_of object name x in
-      ap (λ (s : Seen). waiting x (reseen (λ o. s) (opened object name x.opening)))
+      ap (λ (s : Progress). waiting x (reseen (λ o. s) (opened object name x.opening)))
       (ap Owed (same ∙ drop-length x.progress.owed) ∙ sym (queue-seen h [] is.kind))
 
 -- ---- the handle of a number

@@ -2,18 +2,18 @@
 use Rattle.std.proofs.Common.{◌≡◌, ◌≤◌, length, sym, subst, arith, Ok, Err}
 use Rattle.std.specs.Prelude.{IfOk, filter, Result}
 use Rattle.pps_types.specs.History.{Entry}
-use Rattle.pps_types.specs.Reading.{Open, visible}
-use Rattle.pps_types.specs.Rests.{Seen}
+use Rattle.pps_types.specs.Reading.{OpenHandle, visible}
+use Rattle.pps_types.specs.Rests.{Progress}
 use Rattle.server_queue.specs.Shared.{Shared}
 use Rattle.topics.specs.Standing.{Standing}
 use Rattle.topics.specs.declared.topic.Topic.{Topic}
 use Rattle.topics.specs.declared.topic.Topic.TheVariants.{Served}
-use Rattle.topics.specs.Seated.{IsEnough}
+use Rattle.topics.specs.HandlesOf.{IsEnough}
 
 module _ {E : Type 0} (e : Entry) (s : Standing) (x : Topic) (is : x ≡ Served s) where
-  pub enough : (r : Result Shared E) → IfOk r (λ made. made ≡ record { entry = e; count = length (filter (λ (h : Open Seen). visible h e) s.handles) })
+  pub enough : (r : Result Shared E) → IfOk r (λ made. made ≡ record { entry = e; count = length (filter (λ (h : OpenHandle Progress). visible h e) s.handles) })
       → IfOk r (λ made. IsEnough made.count made.entry x)
   enough (Err error) told = tt
   enough (Ok made) told =
       subst (λ y. IsEnough made.count made.entry y) (sym is)
-      (subst (λ (m : Shared). length (filter (λ (h : Open Seen). visible h m.entry) s.handles) ≤ m.count) (sym told) (omega arith))
+      (subst (λ (m : Shared). length (filter (λ (h : OpenHandle Progress). visible h m.entry) s.handles) ≤ m.count) (sym told) (omega arith))

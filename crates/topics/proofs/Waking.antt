@@ -4,8 +4,8 @@ use Rattle.std.specs.Prelude.{filter, map, is_some, option_map}
 use Rattle.std.specs.List.{list_any}
 use Rattle.pps_types.specs.Bytes.{is_empty}
 use Rattle.pps_types.specs.History.{Entry}
-use Rattle.pps_types.specs.Reading.{Open}
-use Rattle.pps_types.specs.Rests.{Seen}
+use Rattle.pps_types.specs.Reading.{OpenHandle}
+use Rattle.pps_types.specs.Rests.{Progress}
 use Rattle.pps_types.specs.Content.{is_waiting, learns}
 use Rattle.sub_reader.specs.Woken.{woken_by}
 use Rattle.sub_reader.specs.Rows.{number_in}
@@ -28,6 +28,6 @@ module _ (object : ℕ) (name : List ℕ) (es : List Entry) where
     where
       by : (b : Bool) → map number_in (filter (wakes_at object es) xs) ≡ woken_by es (map (handle_of object name) xs)
           → map number_in (cond b (x ∷ filter (wakes_at object es) xs) (filter (wakes_at object es) xs))
-          ≡ map {A = Open Seen} (λ h. h.number) (cond b (handle_of object name x ∷ filter (λ h. is_waiting h && learns es h) (map (handle_of object name) xs)) (filter (λ h. is_waiting h && learns es h) (map (handle_of object name) xs)))
+          ≡ map {A = OpenHandle Progress} (λ h. h.number) (cond b (handle_of object name x ∷ filter (λ h. is_waiting h && learns es h) (map (handle_of object name) xs)) (filter (λ h. is_waiting h && learns es h) (map (handle_of object name) xs)))
       by true rec = ap (λ ns. number_in x ∷ ns) rec
       by false rec = rec

@@ -1,23 +1,23 @@
 -- Handles on a server object that are owed as many messages as their limits.
 use Rattle.std.specs.Prelude.{ℕ, Bool, false, ◌&&◌, nat_le, List, Option, option_map, find}
 use Rattle.std.specs.Option.{option_map_or}
-use Rattle.pps_types.specs.Reading.{Open}
-use Rattle.pps_types.specs.Rests.{Seen}
+use Rattle.pps_types.specs.Reading.{OpenHandle}
+use Rattle.pps_types.specs.Rests.{Progress}
 use Rattle.pps_types.specs.Checks.{is_client, is_message_of, is_server_message, count_owed}
 use Rattle.sub_reader.specs.Opened.{handle_at}
 
 -- the server's handle, if it is here, is owed as many messages of a client
-abbrev pub is_server_full_at : ℕ → ℕ → List (Open Seen) → Bool
+abbrev pub is_server_full_at : ℕ → ℕ → List (OpenHandle Progress) → Bool
 is_server_full_at server client handles =
-    option_map_or (λ (h : Open Seen). nat_le h.limit (count_owed (is_message_of client) h)) (handle_at server handles) false
+    option_map_or (λ (h : OpenHandle Progress). nat_le h.limit (count_owed (is_message_of client) h)) (handle_at server handles) false
 
 -- a client's handle, if it is here, is owed as many messages of its server
-abbrev pub is_client_full_at : ℕ → List (Open Seen) → Bool
+abbrev pub is_client_full_at : ℕ → List (OpenHandle Progress) → Bool
 is_client_full_at client handles =
-    option_map_or (λ (h : Open Seen). nat_le h.limit (count_owed is_server_message h)) (handle_at client handles) false
+    option_map_or (λ (h : OpenHandle Progress). nat_le h.limit (count_owed is_server_message h)) (handle_at client handles) false
 
 -- the first client that is
-abbrev pub full_client_in : List (Open Seen) → Option ℕ
+abbrev pub full_client_in : List (OpenHandle Progress) → Option ℕ
 full_client_in handles =
-    option_map (λ (h : Open Seen). h.number)
-    (find (λ (h : Open Seen). is_client h.kind && nat_le h.limit (count_owed is_server_message h)) handles)
+    option_map (λ (h : OpenHandle Progress). h.number)
+    (find (λ (h : OpenHandle Progress). is_client h.kind && nat_le h.limit (count_owed is_server_message h)) handles)

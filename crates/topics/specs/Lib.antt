@@ -7,6 +7,6 @@ pub mod Rooms
 pub mod Woken
 pub mod Held
 pub mod Spans
-pub mod Seated
+pub mod HandlesOf
 pub mod Backlogs
 pub mod Glances

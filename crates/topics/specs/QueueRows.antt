@@ -3,8 +3,8 @@ use Rattle.std.specs.Prelude.{◌≡◌, ℕ, Bool, List, [], ◌∷◌, true, f
 use Rattle.std.specs.List.{AllByRecursion}
 use Rattle.pps_types.specs.declared.handle_kind.HandleKind.TheVariants.{Client as ClientHandle}
 use Rattle.pps_types.specs.History.{Entry}
-use Rattle.pps_types.specs.Reading.{Open, Queue, reseen, style, visible}
-use Rattle.pps_types.specs.Rests.{Seen, Owed}
+use Rattle.pps_types.specs.Reading.{OpenHandle, Queue, reseen, style, visible}
+use Rattle.pps_types.specs.Rests.{Progress, Owed}
 use Rattle.pps_types.specs.Checks.{is_client}
 use Rattle.server_queue.specs.Messages.{message_count}
 use Rattle.server_queue.specs.declared.sender.Sender.TheVariants.{Server}
@@ -25,15 +25,15 @@ abbrev pub QueueSlot : Type 0
 QueueSlot = Slot Queued
 
 -- with what waits on it
-abbrev pub waiting : QueueRow → Open Seen → Open Seen
+abbrev pub waiting : QueueRow → OpenHandle Progress → OpenHandle Progress
 waiting x h = record h { parked = x.parked; armed = armed_pulse x.armed }
 
 -- a handle on the object of that number and name, which is owed these
-abbrev pub owed_as : ℕ → List ℕ → QueueRow → List Entry → Open Seen
+abbrev pub owed_as : ℕ → List ℕ → QueueRow → List Entry → OpenHandle Progress
 owed_as object name x owed = waiting x (reseen (λ h. Owed owed) (opened object name x.opening))
 
 -- it is owed what its queue holds
-abbrev pub handle_of : ℕ → List ℕ → QueueRow → Open Seen
+abbrev pub handle_of : ℕ → List ℕ → QueueRow → OpenHandle Progress
 handle_of object name x = owed_as object name x x.progress.owed
 
 -- it is a server's or a client's

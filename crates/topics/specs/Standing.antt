@@ -2,8 +2,8 @@
 use Rattle.std.specs.Prelude.{◌≡◌, ℕ, Bool, false, ◌≤◌, List, [], ◌∷◌, filter, length}
 use Rattle.std.specs.List.{sum_by, AllByRecursion}
 use Rattle.pps_types.specs.History.{Entry}
-use Rattle.pps_types.specs.Reading.{Open, Queue, style, visible}
-use Rattle.pps_types.specs.Rests.{Seen}
+use Rattle.pps_types.specs.Reading.{OpenHandle, Queue, style, visible}
+use Rattle.pps_types.specs.Rests.{Progress}
 use Rattle.pps_types.specs.Owed.{longest_rest}
 use Rattle.server_queue.specs.Senders.{client_messages}
 use Rattle.sub_reader.specs.declared.opening.Opening.{Opening}
@@ -20,7 +20,7 @@ pub record Spare : Type 0 where
 pub record Standing : Type 0 where
   pub object : ℕ
   pub name : List ℕ
-  pub handles : List (Open Seen)
+  pub handles : List (OpenHandle Progress)
   pub spares : List Spare
   pub places : ℕ
 
@@ -32,11 +32,11 @@ abbrev pub messages_in : List Entry → ℕ
 messages_in entries = sum_by (λ e. client_messages e.record_of.kind) entries
 
 -- a queue has room for those of the records that are for its handle
-pub record HasRoom {S : Type 0} (entries : List Entry) (h : Open S) (spare : Spare) : Type 0 where
+pub record HasRoom {S : Type 0} (entries : List Entry) (h : OpenHandle S) (spare : Spare) : Type 0 where
   pub records : length (filter (visible h) entries) ≤ spare.records
   pub messages : messages_in (filter (visible h) entries) ≤ spare.messages
 
-abbrev pub HaveRoom : List Entry → List (Open Seen) → List Spare → Type 0
+abbrev pub HaveRoom : List Entry → List (OpenHandle Progress) → List Spare → Type 0
 HaveRoom entries [] spares = Unit {0}
 HaveRoom entries (h ∷ hs) [] = ⊥
 HaveRoom entries (h ∷ hs) (s ∷ ss) = HasRoom entries h s × HaveRoom entries hs ss
@@ -54,7 +54,7 @@ abbrev pub UsesRoomFor : Entry → Standing → Standing → Type 0
 UsesRoomFor e old new = (entries : List Entry) → IsReady (e ∷ entries) old → IsReady entries new
 
 -- its handles and one more that was opened on it
-abbrev pub handles_with : Opening → Standing → List (Open Seen)
+abbrev pub handles_with : Opening → Standing → List (OpenHandle Progress)
 handles_with opening s = with_opened s.object s.name opening s.handles
 
 -- of the same number and name
@@ -66,9 +66,9 @@ abbrev pub AreSame : Standing → Standing → Type 0
 AreSame one other = (one.object ≡ other.object) × (one.name ≡ other.name) × (one.handles ≡ other.handles)
 
 -- each of these handles is a server's or a client's
-abbrev pub AreQueued : List (Open Seen) → Type 0
-AreQueued handles = AllByRecursion (λ (h : Open Seen). style h.kind ≡ Queue) handles
+abbrev pub AreQueued : List (OpenHandle Progress) → Type 0
+AreQueued handles = AllByRecursion (λ (h : OpenHandle Progress). style h.kind ≡ Queue) handles
 
 -- whatever they are on, none of them is owed records of a list that handles share
-abbrev pub ShareNoList : List (Open Seen) → Type 0
+abbrev pub ShareNoList : List (OpenHandle Progress) → Type 0
 ShareNoList handles = (directory : Bool) (target : ℕ) → longest_rest directory target handles ≡ []

@@ -12,7 +12,7 @@ ghost use Rattle.sub_reader.specs.Glances.{IsGlanceAt};
 ghost use Rattle.sub_reader.specs.HandleAt.{parked_at, armed_at, has_news_at, owed_at, AreBelow};
 ghost use Rattle.sub_reader.specs.HandleAt.{with_offered, with_caught_up, with_passed, with_parked, with_armed};
 ghost use Rattle.sub_reader.specs.Rows.{rows_of};
-ghost use Rattle.sub_reader.specs.Seated.{AreSeated, HaveName};
+ghost use Rattle.sub_reader.specs.HandlesOf.{AreOn, HaveName};
 ghost use Rattle.sub_reader.specs.Woken.{woken_by};
 ghost use Rattle.topics.specs.Standing.{IsReady, KeepsRoom, UsesRoomFor, handles_with, IsSameObject, AreSame};
 ghost use Rattle.topics.specs.Standing.{AreQueued, ShareNoList};
@@ -386,8 +386,8 @@ impl ServerHandles {
     }
 
     /// Does nothing. Its contract is the law that its handles are on it, and stand in rising number.
-    pub fn handles_are_seated(&self)
-        ensures { AreSeated false self.now.object self.now.handles }
+    pub fn handles_are_on_it(&self)
+        ensures { AreOn false self.now.object self.now.handles }
     {
         let _count = self.rows.len();
     }

@@ -8,11 +8,11 @@ ghost use Rattle.sub_reader.specs.Blocks.{owed_blocks_at};
 ghost use Rattle.sub_reader.specs.Opened.{armed_pulse};
 ghost use Rattle.sub_reader.specs.HandleAt.{parked_at, armed_at, has_news_at, owed_at, AreBelow};
 ghost use Rattle.sub_reader.specs.HandleAt.{with_offered, with_caught_up, with_passed, with_parked, with_armed};
-ghost use Rattle.sub_reader.specs.Seated.{AreSeatedOn, longest_rest_on, HaveName};
+ghost use Rattle.sub_reader.specs.HandlesOf.{AreOnFound, longest_rest_on, HaveName};
 ghost use Rattle.sub_reader.specs.Woken.{woken_by};
-ghost use Rattle.topics.specs.Seated.{target_of, name_of, handles_of, kept_of, places_of, is_service, handles_with};
-ghost use Rattle.topics.specs.Seated.{IsReady, Suits, IsSameTarget, AreSame, KeepsRoom, UsesRoomFor, IsEnough};
-ghost use Rattle.topics.specs.Seated.{HasOpening, HasGlance, AreQueuedJustIf};
+ghost use Rattle.topics.specs.HandlesOf.{target_of, name_of, handles_of, kept_of, places_of, is_service, handles_with};
+ghost use Rattle.topics.specs.HandlesOf.{IsReady, Suits, IsSameTarget, AreSame, KeepsRoom, UsesRoomFor, IsEnough};
+ghost use Rattle.topics.specs.HandlesOf.{HasOpening, HasGlance, AreQueuedJustIf};
 ghost use Rattle.topics.specs.Backlogs.{is_server_full_at, is_client_full_at, full_client_in};
 
 use crate::server_handles::ServerHandles;
@@ -66,12 +66,12 @@ impl Topic {
 
     /// Does nothing. Its contract is the law that its handles are on it, are owed no more than their limits, and stand in
     /// rising number.
-    pub fn handles_are_seated(&self)
-        ensures { AreSeatedOn (target_of self.now) (handles_of self.now) }
+    pub fn handles_are_on_it(&self)
+        ensures { AreOnFound (target_of self.now) (handles_of self.now) }
     {
         match self {
-            Topic::Readers(target) => target.handles_are_seated(),
-            Topic::Served(service) => service.handles_are_seated(),
+            Topic::Readers(target) => target.handles_are_on_it(),
+            Topic::Served(service) => service.handles_are_on_it(),
         }
     }
 
@@ -438,8 +438,8 @@ impl Topic {
     pub fn same_handles(&self, other: &Topic) -> bool
         ensures { IsTrue result ↔ (handles_of self.now ≡ handles_of other.now) }
     {
-        self.handles_are_seated();
-        other.handles_are_seated();
+        self.handles_are_on_it();
+        other.handles_are_on_it();
         self.handles_suit();
         other.handles_suit();
         if self.is_empty() {

@@ -1,5 +1,5 @@
 //! Copies by the trait that a table of handles asks for.
-ghost use Rattle.topics.specs.Seated.{IsCopy};
+ghost use Rattle.topics.specs.HandlesOf.{IsCopy};
 
 use crate::topic::Topic;
 use std::alloc::AllocError;

@@ -4,8 +4,8 @@ use Rattle.std.proofs.lemmas.Bool.{ne_eqb}
 use Rattle.std.specs.Prelude.{nat_le, not, ◌&&◌, is_none}
 use Rattle.pps_types.specs.declared.refusal.Refusal.TheVariants.{TooSmall}
 use Rattle.pps_types.specs.Reading as reading
-use Rattle.pps_types.specs.Reading.{Open, is_directory_kind, block, visible, fitting, with_block, whole_answer, idle_answer, owed_answer, blocks_answer}
-use Rattle.pps_types.specs.Rests.{Seen, News, Unread, Over, Owed, answer}
+use Rattle.pps_types.specs.Reading.{OpenHandle, is_directory_kind, block, visible, fitting, with_block, whole_answer, idle_answer, owed_answer, blocks_answer}
+use Rattle.pps_types.specs.Rests.{Progress, News, Unread, Over, Owed, answer}
 use Rattle.pps_types.specs.Content.{object_numbered}
 use Rattle.whole_texts.specs.Whole.{Source, everything, is_dead, source_of}
 use Rattle.server_queue.specs.declared.plan.GivenBlocks.{GivenBlocks}
@@ -36,7 +36,7 @@ pub fitted-told : (blocks : List (List ℕ)) (dead wait : Bool) (max : ℕ) (g :
 fitted-told [] dead wait max g are = ap (of_pair dead wait) are.same
 fitted-told (b ∷ bs) dead wait max g are = ap (of_pair dead wait) are.same ∙ first_fits b bs dead wait max are.fits
 
-told : (h : Open Seen) (seen : Seen) (w : Source) (max : ℕ) (owed : Option GivenBlocks) → Owes max h seen owed → answer h seen (everything w) (is_dead w) max ≡ answer_by w h.options.wait max owed
+told : (h : OpenHandle Progress) (seen : Progress) (w : Source) (max : ℕ) (owed : Option GivenBlocks) → Owes max h seen owed → answer h seen (everything w) (is_dead w) max ≡ answer_by w h.options.wait max owed
 told h (News true) w max owed owes = sym (ap (answer_by w h.options.wait max) owes)
 told h (News false) w max None owes = absurd owes
 told h (News false) w max (Some g) owes = sym (fitted-told [] (is_dead w) h.options.wait max g owes)

@@ -2,8 +2,8 @@
 use Rattle.std.proofs.Common.{◌≡◌, ℕ, Bool, true, false, cond, not, List, [], ◌∷◌, Option, Some, None, Ok, Err, ◌++◌, refl, sym, ap, ◌∙◌}
 use Rattle.std.specs.Prelude.{filter, is_some}
 use Rattle.std.specs.Option.{option_map_or}
-use Rattle.pps_types.specs.Reading.{Open, Member, visible, everything_of, whole_answer, owed_answer, Answer, Everything, Blocks, Needs, TargetGone, Waits, Nothing}
-use Rattle.pps_types.specs.Rests.{Seen}
+use Rattle.pps_types.specs.Reading.{OpenHandle, Member, visible, everything_of, whole_answer, owed_answer, Answer, Everything, Blocks, Needs, TargetGone, Waits, Nothing}
+use Rattle.pps_types.specs.Rests.{Progress}
 use Rattle.pps_types.specs.Owed.{is_past_limit}
 use Rattle.pps_types.specs.declared.refusal.Refusal.TheVariants.{TooSmall}
 use Rattle.pps_types.specs.declared.outcome.Item.TheVariants.{Pulse as PulseItem, ReadDone}
@@ -19,7 +19,7 @@ use Rattle.whole_texts.specs.Followed.{fired_by}
 
 -- ---- the late reply
 
-module _ (b : Behind) (h : Open Seen) (dead : Bool) (members : List Member) (size : ℕ) where
+module _ (b : Behind) (h : OpenHandle Progress) (dead : Bool) (members : List Member) (size : ℕ) where
   everything : Bool → List Member → Answer
   everything alive ms = whole_answer (everything_of h.kind h.options.filter (is_past_limit h (filter (visible h) b.entries)) alive ms) size
 
@@ -35,12 +35,12 @@ module _ (b : Behind) (h : Open Seen) (dead : Bool) (members : List Member) (siz
 
   pub reply-same : (t : ℕ) (o : Opening) → IsOpened t o h → Shows b h dead members
       → reply_to (opened t [] o) b.entries b.alive b.members size ≡ late_answer h b.entries dead members size
-  reply-same t o is shows = ap (λ (x : Open (Unit {0})). reply_to x b.entries b.alive b.members size) (sym is) ∙ shown shows
+  reply-same t o is shows = ap (λ (x : OpenHandle (Unit {0})). reply_to x b.entries b.alive b.members size) (sym is) ∙ shown shows
 
 -- ---- moves
 
 -- the moves of a pulse, and of a late reply, name the handle and its connection alone
-fired-same : (o : Opening) (armed : Option Pulse) (h : Open Seen) → h.number ≡ o.number → h.connection ≡ o.connection → h.armed ≡ armed_pulse armed → fired h ≡ fired_by o armed
+fired-same : (o : Opening) (armed : Option Pulse) (h : OpenHandle Progress) → h.number ≡ o.number → h.connection ≡ o.connection → h.armed ≡ armed_pulse armed → fired h ≡ fired_by o armed
 fired-same o armed h number connection is =
     (λ i. option_map_or (λ pulse. Arms (number i) None ∷ Queues (connection i) (PulseItem pulse.0 pulse.1) ∷ []) (is i) [])
     ∙ by armed
@@ -49,7 +49,7 @@ fired-same o armed h number connection is =
     by None = refl
     by (Some p) = refl
 
-reply-moves : (o : Opening) (h : Open Seen) → h.number ≡ o.number → h.connection ≡ o.connection → (a : Answer) → late_reply h a ≡ late_reply (opened 0 [] o) a
+reply-moves : (o : Opening) (h : OpenHandle Progress) → h.number ≡ o.number → h.connection ≡ o.connection → (a : Answer) → late_reply h a ≡ late_reply (opened 0 [] o) a
 reply-moves o h number connection (Everything text) = λ i. CatchesUp (number i) ∷ Parks (number i) None ∷ Queues (connection i) (ReadDone (number i) (Ok text)) ∷ []
 reply-moves o h number connection (Blocks count text) = λ i. Advances (number i) count ∷ Parks (number i) None ∷ Queues (connection i) (ReadDone (number i) (Ok text)) ∷ []
 reply-moves o h number connection (Needs need) = λ i. Parks (number i) None ∷ Queues (connection i) (ReadDone (number i) (Err (TooSmall need))) ∷ []
@@ -57,12 +57,12 @@ reply-moves o h number connection TargetGone = refl
 reply-moves o h number connection Waits = refl
 reply-moves o h number connection Nothing = refl
 
-module _ (w : Waiting) (b : Behind) (h : Open Seen) (dead : Bool) (members : List Member) (is : IsWoken w h) where
+module _ (w : Waiting) (b : Behind) (h : OpenHandle Progress) (dead : Bool) (members : List Member) (is : IsWoken w h) where
   number : h.number ≡ w.opening.number
-  number = ap (λ (x : Open (Unit {0})). x.number) is.opened
+  number = ap (λ (x : OpenHandle (Unit {0})). x.number) is.opened
 
   connection : h.connection ≡ w.opening.connection
-  connection = ap (λ (x : Open (Unit {0})). x.connection) is.opened
+  connection = ap (λ (x : OpenHandle (Unit {0})). x.connection) is.opened
 
   -- where a read of that size waits
   pub follows-some : (size : ℕ) → w.parked ≡ Some size

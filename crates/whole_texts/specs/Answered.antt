@@ -3,8 +3,8 @@ use Rattle.std.specs.Prelude.{◌≡◌, ℕ, ◌^◌, List, [], ◌∷◌, Bool
 use Rattle.pps_types.specs.declared.refusal.Refusal.{Refusal}
 use Rattle.pps_types.specs.declared.refusal.Refusal.TheVariants.{TooSmall, Gone}
 use Rattle.pps_types.specs.Reading as reading
-use Rattle.pps_types.specs.Reading.{Open, block, visible, fitting, whole_answer, idle_answer, owed_answer}
-use Rattle.pps_types.specs.Rests.{Seen, News, Unread, Over, Owed}
+use Rattle.pps_types.specs.Reading.{OpenHandle, block, visible, fitting, whole_answer, idle_answer, owed_answer}
+use Rattle.pps_types.specs.Rests.{Progress, News, Unread, Over, Owed}
 use Rattle.pps_types.specs.Content.{Content, read_answer}
 use Rattle.pps_types.specs.Plan.{Move, CatchesUp, Advances, Parks, read_effect}
 use Rattle.whole_texts.specs.declared.answer.Answer.{Answer}
@@ -56,7 +56,7 @@ pub record AreFitting (max : ℕ) (blocks : List (List ℕ)) (g : GivenBlocks) :
   pub fits : refusal_in (owed_answer false blocks false max) ≡ None
 
 -- what a handle that has seen this is owed: everything, or blocks
-abbrev pub Owes : {S : Type 0} → ℕ → Open S → Seen → Option GivenBlocks → Type 0
+abbrev pub Owes : {S : Type 0} → ℕ → OpenHandle S → Progress → Option GivenBlocks → Type 0
 Owes max h (News true) owed = owed ≡ None
 Owes max h (News false) None = ⊥
 Owes max h (News false) (Some g) = AreFitting max [] g
@@ -73,10 +73,10 @@ moves_of number (EffectParks size) = Parks number (Some size) ∷ []
 moves_of number Stays = []
 
 -- the moves of a read of that size, which is answered so
-abbrev pub read_moves : Open Seen → ℕ → reading.Answer → List Move
+abbrev pub read_moves : OpenHandle Progress → ℕ → reading.Answer → List Move
 read_moves h size a = (read_effect h size a).1
 
 -- the answer to a read of so many bytes is told by what the handle is owed and by its target
 abbrev pub AnswersAreRead : Type 0
-AnswersAreRead = (c : Content) (h : Open Seen) (max : ℕ) (owed : Option GivenBlocks) → Owes max h h.seen owed
+AnswersAreRead = (c : Content) (h : OpenHandle Progress) (max : ℕ) (owed : Option GivenBlocks) → Owes max h h.seen owed
     → read_answer c h max ≡ answer_by (source_of c h) h.options.wait max owed

@@ -4,8 +4,8 @@ use Rattle.std.specs.List.{flat_map}
 use Rattle.std.specs.Option.{option_map_or}
 use Rattle.pps_types.specs.declared.refusal.Refusal.{Refusal}
 use Rattle.pps_types.specs.declared.outcome.Item.TheVariants.{Pulse as PulseItem, ReadDone}
-use Rattle.pps_types.specs.Reading.{Open, Member}
-use Rattle.pps_types.specs.Rests.{Seen}
+use Rattle.pps_types.specs.Reading.{OpenHandle, Member}
+use Rattle.pps_types.specs.Rests.{Progress}
 use Rattle.pps_types.specs.Plan.{Move, CatchesUp, Advances, Parks, Arms, Queues, ended, late_reply}
 use Rattle.pps_types.specs.SettlingReplies.{pulse_and_reply}
 use Rattle.sub_reader.specs.declared.opening.Opening.{Opening}
@@ -49,5 +49,5 @@ Adds old new moves = flat_map moves_of new.items ≡ flat_map moves_of old.items
 -- if it is done, what follows for a handle comes to their end, its target being as this shows it
 abbrev pub AddsWhatFollows : {A X : Type 0} → Waiting → Behind → Vec Following A → Vec Following A → Result X Refusal → Type 0
 AddsWhatFollows woken told old new result =
-    (h : Open Seen) (dead : Bool) (members : List Member) → IsWoken woken h → ShowsWaiting told h dead members
+    (h : OpenHandle Progress) (dead : Bool) (members : List Member) → IsWoken woken h → ShowsWaiting told h dead members
     → OnOk result (Adds old new (pulse_and_reply h told.entries dead members))

@@ -2,7 +2,7 @@
 use Rattle.std.specs.Prelude.{◌≡◌, ℕ, ◌^◌, List, [], Bool, true, false, ◌||◌, nat_lt, nat_le, if◌then◌else◌, filter, length}
 use Rattle.pps_types.specs.History.{Entry}
 use Rattle.pps_types.specs.Reading as reading
-use Rattle.pps_types.specs.Reading.{Open, Member, style, is_full_style, visible, everything_of, whole_answer, owed_answer}
+use Rattle.pps_types.specs.Reading.{OpenHandle, Member, style, is_full_style, visible, everything_of, whole_answer, owed_answer}
 use Rattle.pps_types.specs.Owed.{is_past_limit}
 use Rattle.sub_reader.specs.declared.opening.Opening.{Opening}
 use Rattle.sub_reader.specs.Opened.{opened}
@@ -51,7 +51,7 @@ blocks_by target o es size = owed_answer o.options.wait (blocks_for target o es)
 -- ---- the whole reply
 
 -- the late reply to a handle, whatever it has seen
-abbrev pub reply_to : {S : Type 0} → Open S → List Entry → Bool → List Member → ℕ → reading.Answer
+abbrev pub reply_to : {S : Type 0} → OpenHandle S → List Entry → Bool → List Member → ℕ → reading.Answer
 reply_to h es alive members size =
     if is_past_limit h (filter (visible h) es) || is_full_style (style h.kind) then whole_answer (everything_of h.kind h.options.filter (is_past_limit h (filter (visible h) es)) alive members) size
     else owed_answer h.options.wait (blocks_given h es) false size

@@ -10,8 +10,8 @@ use Rattle.pps_types.specs.Filter.{Part}
 use Rattle.pps_types.specs.History.{line_of}
 use Rattle.pps_types.specs.Text.{print_header}
 use Rattle.pps_types.specs.Reading as reading
-use Rattle.pps_types.specs.Reading.{Open, Member, print_member, overflow_mark, overflow_line, everything_of, is_directory_kind, whole_answer}
-use Rattle.pps_types.specs.Rests.{Seen, is_over}
+use Rattle.pps_types.specs.Reading.{OpenHandle, Member, print_member, overflow_mark, overflow_line, everything_of, is_directory_kind, whole_answer}
+use Rattle.pps_types.specs.Rests.{Progress, is_over}
 use Rattle.pps_types.specs.Content.{Content, target_members, target_is_dead}
 use Rattle.object_state.specs.Held.{Held}
 
@@ -54,7 +54,7 @@ abbrev pub lines_of : Option Held → List Line
 lines_of held = option_map_or (λ o. map line_of o.attributes) held []
 
 -- what everything of a handle's target is read from
-abbrev pub source_of : Content → Open Seen → Source
+abbrev pub source_of : Content → OpenHandle Progress → Source
 source_of c h = record { kind = h.kind; parts = h.options.filter; over = is_over h.seen; alive = not (target_is_dead c h); members = target_members c h }
 
 -- ---- a read that is answered by everything

@@ -1,8 +1,8 @@
 -- A handle that records wake, and what it is told of its target.
 use Rattle.std.specs.Prelude.{◌≡◌, ℕ, List, Bool, true, not, Option, is_some}
 use Rattle.pps_types.specs.History.{Entry}
-use Rattle.pps_types.specs.Reading.{Open, Member, Answer}
-use Rattle.pps_types.specs.Rests.{Seen}
+use Rattle.pps_types.specs.Reading.{OpenHandle, Member, Answer}
+use Rattle.pps_types.specs.Rests.{Progress}
 use Rattle.pps_types.specs.SettlingReplies.{gives_everything, late_answer}
 use Rattle.sub_reader.specs.declared.opening.Opening.{Opening}
 use Rattle.sub_reader.specs.declared.opening.Pulse.{Pulse}
@@ -26,29 +26,29 @@ pub record Behind : Type 0 where
   pub members : List Member
 
 -- the handle is on the object or directory of that number, and its open fixed this
-abbrev pub IsOpened : ℕ → Opening → Open Seen → Type 0
+abbrev pub IsOpened : ℕ → Opening → OpenHandle Progress → Type 0
 IsOpened target o h = as_opened h ≡ opened target h.name o
 
 -- for each handle that was so opened
-abbrev pub ForOpened : ℕ → Opening → (Open Seen → Type 0) → Type 0
-ForOpened target o P = (h : Open Seen) → IsOpened target o h → P h
+abbrev pub ForOpened : ℕ → Opening → (OpenHandle Progress → Type 0) → Type 0
+ForOpened target o P = (h : OpenHandle Progress) → IsOpened target o h → P h
 
 -- the handle is this one, whatever it has seen
-pub record IsWoken (w : Waiting) (h : Open Seen) : Type 0 where
+pub record IsWoken (w : Waiting) (h : OpenHandle Progress) : Type 0 where
   pub opened : IsOpened w.target w.opening h
   pub parked : h.parked ≡ w.parked
   pub armed : h.armed ≡ armed_pulse w.armed
 
 -- Its target is dead or alive and has these members, where the late reply to it is everything: else none of this is told.
-abbrev pub Shows : Behind → Open Seen → Bool → List Member → Type 0
+abbrev pub Shows : Behind → OpenHandle Progress → Bool → List Member → Type 0
 Shows b h dead members = gives_everything h b.entries ≡ true → (b.alive ≡ not dead) × (b.members ≡ members)
 
 -- the same, where a read waits on it: else there is no late reply
-abbrev pub ShowsWaiting : Behind → Open Seen → Bool → List Member → Type 0
+abbrev pub ShowsWaiting : Behind → OpenHandle Progress → Bool → List Member → Type 0
 ShowsWaiting b h dead members = is_some h.parked ≡ true → Shows b h dead members
 
 -- for the late reply to a read of that size, whatever the handle has seen, its target being as this shows it
 abbrev pub ForLateAnswer : ℕ → Opening → Behind → ℕ → (Answer → Type 0) → Type 0
 ForLateAnswer target o told size P =
-    (h : Open Seen) (dead : Bool) (members : List Member) → IsOpened target o h → Shows told h dead members
+    (h : OpenHandle Progress) (dead : Bool) (members : List Member) → IsOpened target o h → Shows told h dead members
     → P (late_answer h told.entries dead members size)

@@ -1,7 +1,7 @@
 //! What a read answers, and what it leaves of its handle.
 ghost use Rattle.std.specs.Prelude.{◌≡◌};
-ghost use Rattle.pps_types.specs.Reading.{Open};
-ghost use Rattle.pps_types.specs.Rests.{Seen};
+ghost use Rattle.pps_types.specs.Reading.{OpenHandle};
+ghost use Rattle.pps_types.specs.Rests.{Progress};
 ghost use Rattle.whole_texts.specs.Answered.{meant, moves_of, read_moves};
 
 /// What a read answers, where it is not refused.
@@ -33,7 +33,7 @@ pub enum Effect {
 impl Answer {
     /// What a read of that size leaves of its handle, once it is answered so. It takes no memory.
     pub fn effect(&self, size: u32) -> Effect
-        ensures { (h : Open Seen) → moves_of h.number result ≡ read_moves h size (meant self.now) }
+        ensures { (h : OpenHandle Progress) → moves_of h.number result ≡ read_moves h size (meant self.now) }
     {
         match self {
             Answer::Everything(_) => Effect::CatchesUp,

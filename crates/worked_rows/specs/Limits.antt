@@ -12,7 +12,7 @@ use Rattle.pps_types.specs.declared.refusal.Refusal.TheVariants.{TooLarge, Outbo
 use Rattle.pps_types.specs.Outcome.{Reply}
 use Rattle.pps_types.specs.OpenText.{no_handle_options}
 use Rattle.pps_types.specs.declared.handle_kind.HandleKind.TheVariants.{Object as ObjectHandle}
-use Rattle.pps_types.specs.Reading.{Open}
+use Rattle.pps_types.specs.Reading.{OpenHandle}
 use Rattle.pps_types.specs.History.{Attribute}
 use Rattle.pps_types.specs.Content.{Object, Content, queue_of}
 use Rattle.pps_types.specs.Plan.{creation, step_seen}
@@ -111,7 +111,7 @@ abbrev pub gps : Object
 gps = record { number = 0; directory = 0; name = codes "gps"; nopersist = false; server = None }
 
 -- a full handle of connection 2 on /gps that has read, and waits
-abbrev pub subscriber : Option ℕ → Option (ℕ × ℕ) → ℕ → Open (Option ℕ)
+abbrev pub subscriber : Option ℕ → Option (ℕ × ℕ) → ℕ → OpenHandle (Option ℕ)
 subscriber parked armed n = record {
   number = n;
   connection = 2;
@@ -127,11 +127,11 @@ subscriber parked armed n = record {
   armed = armed;
 }
 
-abbrev pub publisher : Open (Option ℕ)
+abbrev pub publisher : OpenHandle (Option ℕ)
 publisher = record (subscriber None None 1) { connection = 1; writes = true; options = no_handle_options }
 
 -- connection 1 publishes /gps, and connection 2 has these handles on it and these items in its queue
-abbrev pub with_subscribers : List (Open (Option ℕ)) → List Item → Machine
+abbrev pub with_subscribers : List (OpenHandle (Option ℕ)) → List Item → Machine
 with_subscribers handles items = record (start 1 256) {
   history = creation gps ∷ [];
   objects = gps ∷ [];
@@ -144,7 +144,7 @@ with_subscribers handles items = record (start 1 256) {
 abbrev pub pulse : ℕ → Item
 pulse n = Pulse 0 n
 
-abbrev pub armed_subscriber : ℕ → Open (Option ℕ)
+abbrev pub armed_subscriber : ℕ → OpenHandle (Option ℕ)
 armed_subscriber n = subscriber None (Some (0, n)) n
 
 -- n armed handles from number 2 on, and one more that is idle

@@ -5,7 +5,7 @@ use Rattle.alloc_tree.specs.Path.{Changes}
 use Rattle.alloc_tree.specs.Refused.{left_by}
 use Rattle.alloc_tree.specs.View.{standing, made_of, node_found}
 use Rattle.alloc_tree.specs.declared.directory.Node.TheVariants.{Object}
-use Rattle.alloc_tree.specs.Entries.{IsRising}
+use Rattle.alloc_tree.specs.Entries.{NamesRise}
 use Rattle.alloc_tree.proofs.Places.{at_place, at_read}
 use Rattle.alloc_tree.proofs.Refusals.{edit_last}
 use Rattle.alloc_tree.proofs.Edits.{changes_set, changes_remove, changes_other, changes_gone, rising_set, rising_remove}
@@ -29,7 +29,7 @@ pub returns-in-Some-clause-rising : goal.returns-in-Some-clause-rising
 returns-in-Some-clause-rising g c =
     let within : c.args.i < length c.args.entries.now.items = subst (λ k. c.args.i < k) c.args.entries.now.ok.0 c.requires.in_range in
     let here = at_read c.args.entries.now.items c.args.i c.index.result.now c.requires.rising within c.index.ensures in
-    subst IsRising (sym (c.put_object.ensures c.index.result.now c.index.ensures)) (rising_set _ _ _ _ _ c.requires.rising here here.name)
+    subst NamesRise (sym (c.put_object.ensures c.index.result.now c.index.ensures)) (rising_set _ _ _ _ _ c.requires.rising here here.name)
 
 pub returns-clause-refusal : goal.returns-clause-refusal
 returns-clause-refusal g c n id place = c.in_default.ensures.refusal ∙ sym (edit_last id _ _ _ c.args.edit _ (at_place _ _ _ n c.requires.rising place c.index.ensures))
@@ -46,4 +46,4 @@ pub returns-clause-rising : goal.returns-clause-rising
 returns-clause-rising g c =
     let within : c.args.i < length c.args.entries.now.items = subst (λ k. c.args.i < k) c.args.entries.now.ok.0 c.requires.in_range in
     let here = at_read c.args.entries.now.items c.args.i c.index.result.now c.requires.rising within c.index.ensures in
-    subst IsRising (sym c.take_out.ensures) (rising_remove _ _ _ _ c.requires.rising here)
+    subst NamesRise (sym c.take_out.ensures) (rising_remove _ _ _ _ c.requires.rising here)

@@ -1,8 +1,8 @@
 use Rattle.std.specs.Prelude.{◌≡◌, ◌++◌, false, Some, None, map}
 use Rattle.std.proofs.Common.{refl, sym, ◌∙◌, ap}
 use Rattle.std.proofs.lemmas.Result.{err_from_is_err_and}
-use Rattle.pps_types.specs.Reading.{Open}
-use Rattle.pps_types.specs.Rests.{Seen}
+use Rattle.pps_types.specs.Reading.{OpenHandle}
+use Rattle.pps_types.specs.Rests.{Progress}
 use Rattle.service_state.specs.Tables.{content_in}
 use Rattle.handle_requests.specs.Own.{opened_as}
 use Rattle.service_state.specs.Begun.{bare}
@@ -11,7 +11,7 @@ use Rattle.handle_requests.proofs.Plans.{IsClosing, closing_known, closing_able,
 use Rattle.handle_requests.proofs.closing.close.Goals as goal
 
 -- nobody is told
-alone : (c : goal.In_default-2) → (h : Open Seen) × IsClosing (content_in c.args.tables.now) c.args.conn c.args.handle c.is_parked-is_parked.result None h
+alone : (c : goal.In_default-2) → (h : OpenHandle Progress) × IsClosing (content_in c.args.tables.now) c.args.conn c.args.handle c.is_parked-is_parked.result None h
 alone c = closing_known (content_in c.args.tables.now) c.args.conn c.args.handle (opened_as c.args.tables.now c.in-Some.own) c.in-Some.ensures c.is_parked-is_parked.result c.is_parked-is_parked.ensures
     None (sym c.in_default-2.is ∙ c.in_ok-entry.ensures.ok)
 
@@ -24,7 +24,7 @@ returns-in_default-2-clause-does c = let is = alone c in
     alone_does (content_in c.args.tables.now) c.args.conn c.args.handle c.is_parked-is_parked.result is.0 is.1 c.events_are_settled.ensures
 
 -- somebody is told
-told : (c : goal.After-deref) → (h : Open Seen) × IsClosing (content_in c.args.tables.now) c.args.conn c.args.handle c.is_parked-is_parked.result (Some c.in-Some-2.entry) h
+told : (c : goal.After-deref) → (h : OpenHandle Progress) × IsClosing (content_in c.args.tables.now) c.args.conn c.args.handle c.is_parked-is_parked.result (Some c.in-Some-2.entry) h
 told c = closing_known (content_in c.args.tables.now) c.args.conn c.args.handle (opened_as c.args.tables.now c.in-Some.own) c.in-Some.ensures c.is_parked-is_parked.result c.is_parked-is_parked.ensures
     (Some c.in-Some-2.entry) (sym c.in-Some-2.is ∙ c.in_ok-entry.ensures.ok)
 
@@ -40,7 +40,7 @@ begin_ready-requires-clause-plain c = let is = told c in
     closing_plain (content_in c.args.tables.now) c.args.conn c.args.handle c.is_parked-is_parked.result (Some c.in-Some-2.entry) is.0 is.1 c.deref.result.now (begins c)
 
 -- behind the room for what is begun
-told_in : (c : goal.In_ok-begin_ready) → (h : Open Seen) × IsClosing (content_in c.args.tables.now) c.args.conn c.args.handle c.is_parked-is_parked.result (Some c.in-Some-2.entry) h
+told_in : (c : goal.In_ok-begin_ready) → (h : OpenHandle Progress) × IsClosing (content_in c.args.tables.now) c.args.conn c.args.handle c.is_parked-is_parked.result (Some c.in-Some-2.entry) h
 told_in c = closing_known (content_in c.args.tables.now) c.args.conn c.args.handle (opened_as c.args.tables.now c.in-Some.own) c.in-Some.ensures c.is_parked-is_parked.result c.is_parked-is_parked.ensures
     (Some c.in-Some-2.entry) (sym c.in-Some-2.is ∙ c.in_ok-entry.ensures.ok)
 

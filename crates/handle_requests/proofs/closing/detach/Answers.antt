@@ -2,8 +2,8 @@ use Rattle.std.specs.Prelude.{◌≡◌, map, false}
 use Rattle.std.specs.List.{flat_map}
 use Rattle.std.proofs.Common.{◌∙◌, ap}
 use Rattle.std.proofs.lemmas.Result.{err_from_is_err_and}
-use Rattle.pps_types.specs.Reading.{Open}
-use Rattle.pps_types.specs.Rests.{Seen}
+use Rattle.pps_types.specs.Reading.{OpenHandle}
+use Rattle.pps_types.specs.Rests.{Progress}
 use Rattle.pps_types.specs.Content.{handles_of}
 use Rattle.service_state.specs.Tables.{content_in}
 use Rattle.service_state.specs.Begun.{bare}
@@ -11,7 +11,7 @@ use Rattle.handle_requests.specs.Begun.{begun_behind}
 use Rattle.handle_requests.proofs.Plans.{detach_able, detach_plain, detach_does, detach_refusal, detach_fails}
 use Rattle.handle_requests.proofs.closing.detach.Goals as goal
 
-begins : (c : goal.After-deref) → map bare c.deref.result.now ≡ flat_map (begun_behind (content_in c.args.tables.now) c.args.conn) (map (λ (h : Open Seen). h.number) (handles_of (content_in c.args.tables.now) c.args.conn))
+begins : (c : goal.After-deref) → map bare c.deref.result.now ≡ flat_map (begun_behind (content_in c.args.tables.now) c.args.conn) (map (λ (h : OpenHandle Progress). h.number) (handles_of (content_in c.args.tables.now) c.args.conn))
 begins c = ap (map bare) c.deref.ensures.value ∙ c.in_ok-beginning.ensures.begun
 
 pub begin_ready-requires-clause-able : goal.begin_ready-requires-clause-able

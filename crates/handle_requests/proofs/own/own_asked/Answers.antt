@@ -2,7 +2,7 @@ use Rattle.std.specs.Prelude.{◌≡◌, Option, Some, None, option_map, IfSome}
 use Rattle.std.proofs.Common.{sym, ◌∙◌, ap, subst}
 use Rattle.sub_reader.specs.Opened.{opened, as_opened, number_of, handle_at}
 use Rattle.sub_reader.specs.Glances.{glanced, glance_on}
-use Rattle.topics.specs.Seated.{handles_of, name_of}
+use Rattle.topics.specs.HandlesOf.{handles_of, name_of}
 use Rattle.open_handles.specs.Whole.{Whole, handles_in, name_at}
 use Rattle.open_handles.specs.declared.handles.Looked.{Looked}
 use Rattle.handle_requests.proofs.Owns.{own_among, alike, unlike, opened_none, opened_other, opened_here}
@@ -44,6 +44,6 @@ returns-clause-known c =
     let at = handle_at c.args.handle (handles_in w) in
     let rise = c.handles_are_placed.ensures.rise in
     let seen : Some g ≡ option_map glanced at = ap (option_map (λ (o : Looked). glance_on (number_of o.found) (name_at o.found w) o.glance)) (sym c.in-Some.is) ∙ c.look.ensures.glance in
-    let seats : handle_at c.args.handle (handles_of l.seats.now) ≡ at = subst (λ (o : Option Looked). IfSome o (λ o. handle_at c.args.handle (handles_of o.seats.now) ≡ at)) c.in-Some.is c.look.ensures.seats in
-    let name : name_of l.seats.now ≡ name_at l.found w = subst (λ (o : Option Looked). IfSome o (λ o. name_of o.seats.now ≡ name_at o.found w)) c.in-Some.is c.look.ensures.name in
-    is_asked c.args.tables.now w c.handles-handles.ensures c.args.conn c.args.handle (record { own = record { found = l.found; opening = l.glance.opening }; seats = l.seats; glance = l.glance }) rise seen seats name
+    let topic : handle_at c.args.handle (handles_of l.topic.now) ≡ at = subst (λ (o : Option Looked). IfSome o (λ o. handle_at c.args.handle (handles_of o.topic.now) ≡ at)) c.in-Some.is c.look.ensures.topic in
+    let name : name_of l.topic.now ≡ name_at l.found w = subst (λ (o : Option Looked). IfSome o (λ o. name_of o.topic.now ≡ name_at o.found w)) c.in-Some.is c.look.ensures.name in
+    is_asked c.args.tables.now w c.handles-handles.ensures c.args.conn c.args.handle (record { own = record { found = l.found; opening = l.glance.opening }; topic = l.topic; glance = l.glance }) rise seen topic name

@@ -1,7 +1,7 @@
 use Rattle.std.specs.Prelude.{◌≡◌, ◌∷◌, [], Bool, Option, Some, None, is_some, map, option_map, IfSome}
 use Rattle.std.specs.Option.{option_copied}
 use Rattle.std.proofs.Common.{Bor, refl, ◌∙◌, sym, ap, subst}
-use Rattle.pps_types.specs.WellFormed.{AreRising}
+use Rattle.pps_types.specs.WellFormed.{RiseBetween}
 use Rattle.pps_types.specs.Content.{own_handle, object_numbered}
 use Rattle.open_handles.specs.Whole.{Whole, handles_in}
 use Rattle.name_table.specs.Standing.{Named, known_of, standing_of, content_of}
@@ -22,7 +22,7 @@ answered-requires-clause-reader c =
     let alive : c.is_some-is_alive.result ≡ is_some known = c.is_some-is_alive.ensures ∙ some_kept known_of c.object-known.result in
     subst (λ (b : Bool). IfSome (own_handle (content_in t) c.args.conn c.args.handle) (IsReader (content_in t) b c.new-whole.result)) (sym c.waits.ensures)
     (object_reader t t.handles.rows.next
-    (subst (λ (w : Whole). AreRising 0 (map (λ h. h.number) (handles_in w)) w.rows.next) c.handles-handles.ensures c.handles_are_placed.ensures.rise)
+    (subst (λ (w : Whole). RiseBetween 0 (map (λ h. h.number) (handles_in w)) w.rows.next) c.handles-handles.ensures c.handles_are_placed.ensures.rise)
     c.args.conn c.args.handle own c.requires.own c.requires.reads c.requires.object c.args.asked.now.glance.is_over
     c.requires.known.over
     known

@@ -2,34 +2,34 @@ use Rattle.std.proofs.Common.{◌≡◌, ◌≤◌, Some, ap, sym, subst, ◌∙
 use Rattle.std.specs.Option.{option_map}
 use Rattle.pps_types.specs.declared.found.Found.{Found}
 use Rattle.pps_types.specs.declared.found.Found.TheVariants.{Directory as FoundDirectory}
-use Rattle.open_handles.specs.Whole.{Whole, handles_in, seats_at, site_of, KeepsPlaces, KeepsRecords}
+use Rattle.open_handles.specs.Whole.{Whole, handles_in, topic_at, site_of, KeepsPlaces, KeepsRecords}
 use Rattle.open_handles.proofs.Wholes.{added_directory}
 use Rattle.open_handles.proofs.handles.Handles.add_directory.Goals as goal
 
 pub invariant_of-self : goal.invariant_of-self
-invariant_of-self c = (added_directory c.self.inside.rows c.self.inside.places.objects c.self.inside.places.directories c.self.invariant c.args.directory c.number.result c.number.ensures.same c.of_directory-seats.result c.of_directory-seats.ensures.handles c.of_directory-seats.ensures.kept c.push_reserved.new.self (subst (λ (w : Whole). w.directories.next ≤ c.args.directory) (sym c.self.view_is) c.requires.above) c.of_directory-seats.ensures.target c.push_reserved.ensures.entries c.push_reserved.ensures.next).whole
+invariant_of-self c = (added_directory c.self.inside.rows c.self.inside.places.objects c.self.inside.places.directories c.self.invariant c.args.directory c.number.result c.number.ensures.same c.of_directory-topic.result c.of_directory-topic.ensures.handles c.of_directory-topic.ensures.kept c.push_reserved.new.self (subst (λ (w : Whole). w.directories.next ≤ c.args.directory) (sym c.self.view_is) c.requires.above) c.of_directory-topic.ensures.target c.push_reserved.ensures.entries c.push_reserved.ensures.next).whole
 
 pub returns-clause-handles : goal.returns-clause-handles
 returns-clause-handles c =
     subst (λ (w : Whole). handles_in (record { rows = c.self.inside.rows; objects = c.self.inside.places.objects; directories = c.push_reserved.new.self }) ≡ handles_in w) c.self.view_is
-    (added_directory c.self.inside.rows c.self.inside.places.objects c.self.inside.places.directories c.self.invariant c.args.directory c.number.result c.number.ensures.same c.of_directory-seats.result c.of_directory-seats.ensures.handles c.of_directory-seats.ensures.kept c.push_reserved.new.self (subst (λ (w : Whole). w.directories.next ≤ c.args.directory) (sym c.self.view_is) c.requires.above) c.of_directory-seats.ensures.target c.push_reserved.ensures.entries c.push_reserved.ensures.next).handles
+    (added_directory c.self.inside.rows c.self.inside.places.objects c.self.inside.places.directories c.self.invariant c.args.directory c.number.result c.number.ensures.same c.of_directory-topic.result c.of_directory-topic.ensures.handles c.of_directory-topic.ensures.kept c.push_reserved.new.self (subst (λ (w : Whole). w.directories.next ≤ c.args.directory) (sym c.self.view_is) c.requires.above) c.of_directory-topic.ensures.target c.push_reserved.ensures.entries c.push_reserved.ensures.next).handles
 
 pub returns-clause-added : goal.returns-clause-added
 returns-clause-added c =
-    ap (option_map site_of) ((added_directory c.self.inside.rows c.self.inside.places.objects c.self.inside.places.directories c.self.invariant c.args.directory c.number.result c.number.ensures.same c.of_directory-seats.result c.of_directory-seats.ensures.handles c.of_directory-seats.ensures.kept c.push_reserved.new.self (subst (λ (w : Whole). w.directories.next ≤ c.args.directory) (sym c.self.view_is) c.requires.above) c.of_directory-seats.ensures.target c.push_reserved.ensures.entries c.push_reserved.ensures.next).here)
-    ∙ (λ i. Some (record { name = c.of_directory-seats.ensures.name i; service = c.of_directory-seats.ensures.service i }))
+    ap (option_map site_of) ((added_directory c.self.inside.rows c.self.inside.places.objects c.self.inside.places.directories c.self.invariant c.args.directory c.number.result c.number.ensures.same c.of_directory-topic.result c.of_directory-topic.ensures.handles c.of_directory-topic.ensures.kept c.push_reserved.new.self (subst (λ (w : Whole). w.directories.next ≤ c.args.directory) (sym c.self.view_is) c.requires.above) c.of_directory-topic.ensures.target c.push_reserved.ensures.entries c.push_reserved.ensures.next).here)
+    ∙ (λ i. Some (record { name = c.of_directory-topic.ensures.name i; service = c.of_directory-topic.ensures.service i }))
 
 pub returns-clause-others : goal.returns-clause-others
 returns-clause-others c =
-    subst (λ (w : Whole). (f : Found) → (f ≡ FoundDirectory c.args.directory → ⊥) → seats_at f (record { rows = c.self.inside.rows; objects = c.self.inside.places.objects; directories = c.push_reserved.new.self }) ≡ seats_at f w) c.self.view_is
-    (added_directory c.self.inside.rows c.self.inside.places.objects c.self.inside.places.directories c.self.invariant c.args.directory c.number.result c.number.ensures.same c.of_directory-seats.result c.of_directory-seats.ensures.handles c.of_directory-seats.ensures.kept c.push_reserved.new.self (subst (λ (w : Whole). w.directories.next ≤ c.args.directory) (sym c.self.view_is) c.requires.above) c.of_directory-seats.ensures.target c.push_reserved.ensures.entries c.push_reserved.ensures.next).others
+    subst (λ (w : Whole). (f : Found) → (f ≡ FoundDirectory c.args.directory → ⊥) → topic_at f (record { rows = c.self.inside.rows; objects = c.self.inside.places.objects; directories = c.push_reserved.new.self }) ≡ topic_at f w) c.self.view_is
+    (added_directory c.self.inside.rows c.self.inside.places.objects c.self.inside.places.directories c.self.invariant c.args.directory c.number.result c.number.ensures.same c.of_directory-topic.result c.of_directory-topic.ensures.handles c.of_directory-topic.ensures.kept c.push_reserved.new.self (subst (λ (w : Whole). w.directories.next ≤ c.args.directory) (sym c.self.view_is) c.requires.above) c.of_directory-topic.ensures.target c.push_reserved.ensures.entries c.push_reserved.ensures.next).others
 
 pub returns-clause-places : goal.returns-clause-places
 returns-clause-places c =
     subst (λ (w : Whole). KeepsPlaces w (record { rows = c.self.inside.rows; objects = c.self.inside.places.objects; directories = c.push_reserved.new.self })) c.self.view_is
-    (added_directory c.self.inside.rows c.self.inside.places.objects c.self.inside.places.directories c.self.invariant c.args.directory c.number.result c.number.ensures.same c.of_directory-seats.result c.of_directory-seats.ensures.handles c.of_directory-seats.ensures.kept c.push_reserved.new.self (subst (λ (w : Whole). w.directories.next ≤ c.args.directory) (sym c.self.view_is) c.requires.above) c.of_directory-seats.ensures.target c.push_reserved.ensures.entries c.push_reserved.ensures.next).places
+    (added_directory c.self.inside.rows c.self.inside.places.objects c.self.inside.places.directories c.self.invariant c.args.directory c.number.result c.number.ensures.same c.of_directory-topic.result c.of_directory-topic.ensures.handles c.of_directory-topic.ensures.kept c.push_reserved.new.self (subst (λ (w : Whole). w.directories.next ≤ c.args.directory) (sym c.self.view_is) c.requires.above) c.of_directory-topic.ensures.target c.push_reserved.ensures.entries c.push_reserved.ensures.next).places
 
 pub returns-clause-records : goal.returns-clause-records
 returns-clause-records c =
     subst (λ (w : Whole). KeepsRecords w (record { rows = c.self.inside.rows; objects = c.self.inside.places.objects; directories = c.push_reserved.new.self })) c.self.view_is
-    (added_directory c.self.inside.rows c.self.inside.places.objects c.self.inside.places.directories c.self.invariant c.args.directory c.number.result c.number.ensures.same c.of_directory-seats.result c.of_directory-seats.ensures.handles c.of_directory-seats.ensures.kept c.push_reserved.new.self (subst (λ (w : Whole). w.directories.next ≤ c.args.directory) (sym c.self.view_is) c.requires.above) c.of_directory-seats.ensures.target c.push_reserved.ensures.entries c.push_reserved.ensures.next).records
+    (added_directory c.self.inside.rows c.self.inside.places.objects c.self.inside.places.directories c.self.invariant c.args.directory c.number.result c.number.ensures.same c.of_directory-topic.result c.of_directory-topic.ensures.handles c.of_directory-topic.ensures.kept c.push_reserved.new.self (subst (λ (w : Whole). w.directories.next ≤ c.args.directory) (sym c.self.view_is) c.requires.above) c.of_directory-topic.ensures.target c.push_reserved.ensures.entries c.push_reserved.ensures.next).records

@@ -2,8 +2,8 @@ use Rattle.std.proofs.Common.{◌≡◌, ◌∙◌, ℕ, Bool, true, false, List
 use Rattle.std.specs.Prelude.{nat_le, IfSome, option_map}
 use Rattle.std.specs.Option.{option_copied, option_map_or}
 use Rattle.pps_types.specs.declared.found.Found.TheVariants.{Object as FoundObject}
-use Rattle.pps_types.specs.Reading.{Open}
-use Rattle.pps_types.specs.Rests.{Seen}
+use Rattle.pps_types.specs.Reading.{OpenHandle}
+use Rattle.pps_types.specs.Rests.{Progress}
 use Rattle.pps_types.specs.Checks.{count_owed, is_server_message}
 use Rattle.sub_reader.specs.Opened.{handle_at}
 use Rattle.topics.specs.declared.topic.Topic.{Topic}
@@ -11,8 +11,8 @@ use Rattle.open_handles.specs.Whole.{Whole, site_of, site_at, handles_at, handle
 use Rattle.open_handles.proofs.handles.Handles.is_client_full.Goals as goal
 
 -- what is said of a server object's place
-abbrev Told : ℕ → Bool → List (Open Seen) → Type 0
-Told client r hs = r ≡ option_map_or (λ (h : Open Seen). nat_le h.limit (count_owed is_server_message h)) (handle_at client hs) false
+abbrev Told : ℕ → Bool → List (OpenHandle Progress) → Type 0
+Told client r hs = r ≡ option_map_or (λ (h : OpenHandle Progress). nat_le h.limit (count_owed is_server_message h)) (handle_at client hs) false
 
 pub returns-in-None : goal.returns-in-None
 returns-in-None c =

@@ -1,7 +1,7 @@
 use Rattle.std.proofs.Common.{◌≡◌, ◌∙◌, Option, [], length, sym, ap, subst}
 use Rattle.std.specs.Option.{option_copied, option_map_or}
 use Rattle.topics.specs.declared.topic.Topic.{Topic}
-use Rattle.topics.specs.Seated.{kept_of}
+use Rattle.topics.specs.HandlesOf.{kept_of}
 use Rattle.open_handles.specs.Whole.{Whole, kept_at}
 use Rattle.open_handles.proofs.handles.Handles.kept.Goals as goal
 

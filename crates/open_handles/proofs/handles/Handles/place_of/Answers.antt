@@ -4,7 +4,7 @@ use Rattle.std.specs.Option.{option_copied}
 use Rattle.number_table.specs.Numbered.{value_under}
 use Rattle.sub_reader.specs.Opened.{handle_at}
 use Rattle.topics.specs.declared.topic.Topic.{Topic}
-use Rattle.topics.specs.Seated.{handles_of}
+use Rattle.topics.specs.HandlesOf.{handles_of}
 use Rattle.open_handles.specs.Whole.{Whole, handles_in}
 use Rattle.open_handles.proofs.Turns.{in_place, in_no_place}
 use Rattle.open_handles.proofs.handles.Handles.place_of.Goals as goal

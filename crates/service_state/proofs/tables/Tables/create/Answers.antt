@@ -2,7 +2,7 @@ use Rattle.std.specs.Prelude.{◌≡◌, ◌+◌, [], ◌∷◌, Some, map, opti
 use Rattle.std.proofs.Common.{refl, sym, ◌∙◌, ap, subst}
 use Rattle.pps_types.specs.declared.found.Found.TheVariants.{Object as FoundObject}
 use Rattle.pps_types.specs.Content.{LiveObject}
-use Rattle.pps_types.specs.WellFormed.{AreRising}
+use Rattle.pps_types.specs.WellFormed.{RiseBetween}
 use Rattle.pps_types.specs.Plan as planning
 use Rattle.open_handles.specs.Whole.{site_of, site_at, handles_in}
 use Rattle.service_state.specs.Tables.{content_in}
@@ -19,7 +19,7 @@ step c =
     let made : c.args.object.creation.entry ≡ planning.creation (new_object c.args.object (the_view c.self.inside)) = c.requires.record_is ∙ ap (λ t. planning.creation (new_object c.args.object t)) (sym c.self.view_is) in
     created_step c.connections_are_found.ensures c.connections_are_told.ensures c.moves_are_told.ensures (the_view c.self.inside) c.create-number.new.self c.add_object.new.self
     (new_object c.args.object (the_view c.self.inside)) c.self.invariant refl
-    (subst (λ t. AreRising 0 (map (λ (o : LiveObject). o.object.number) (content_in t).objects) (content_in t).next_object) (sym c.self.view_is) c.requires.order)
+    (subst (λ t. RiseBetween 0 (map (λ (o : LiveObject). o.object.number) (content_in t).objects) (content_in t).next_object) (sym c.self.view_is) c.requires.order)
     c.create-number.ensures.standing
     (c.add_object.ensures.handles ∙ c.offer.ensures.handles ∙ ap (λ e. map (planning.offer e) (handles_in c.self.inside.handles)) made)
     (c.add_object.ensures.rows ∙ c.offer.ensures.rows)

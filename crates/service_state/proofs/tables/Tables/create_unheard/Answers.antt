@@ -2,7 +2,7 @@ use Rattle.std.specs.Prelude.{◌≡◌, ◌+◌, [], ◌∷◌, Some, map, opti
 use Rattle.std.proofs.Common.{refl, sym, ◌∙◌, ap, subst}
 use Rattle.pps_types.specs.declared.found.Found.TheVariants.{Object as FoundObject}
 use Rattle.pps_types.specs.Content.{LiveObject}
-use Rattle.pps_types.specs.WellFormed.{AreRising}
+use Rattle.pps_types.specs.WellFormed.{RiseBetween}
 use Rattle.pps_types.specs.Plan as planning
 use Rattle.open_handles.specs.Whole.{site_of, site_at, plain_site, handles_in}
 use Rattle.service_state.specs.Tables.{Tabled, content_in}
@@ -23,7 +23,7 @@ step c =
     let number = c.create-number.ensures.number in
     created_step c.connections_are_found.ensures c.connections_are_told.ensures c.moves_are_told.ensures t c.create-number.new.self c.add_bare_object.new.self
     o c.self.invariant refl
-    (subst (λ u. AreRising 0 (map (λ (o : LiveObject). o.object.number) (content_in u).objects) (content_in u).next_object) (sym c.self.view_is) c.requires.order)
+    (subst (λ u. RiseBetween 0 (map (λ (o : LiveObject). o.object.number) (content_in u).objects) (content_in u).next_object) (sym c.self.view_is) c.requires.order)
     c.create-number.ensures.standing
     (c.add_bare_object.ensures.handles ∙ nobody ∙ sym (ap (map (planning.offer (planning.creation o))) nobody))
     c.add_bare_object.ensures.rows

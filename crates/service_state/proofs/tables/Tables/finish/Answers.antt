@@ -1,7 +1,7 @@
 use Rattle.std.specs.Prelude.{◌≡◌, Some, option_map, is_some, true}
 use Rattle.std.proofs.Common.{refl, sym, ap, subst}
-use Rattle.pps_types.specs.Reading.{Open}
-use Rattle.pps_types.specs.Rests.{Seen}
+use Rattle.pps_types.specs.Reading.{OpenHandle}
+use Rattle.pps_types.specs.Rests.{Progress}
 use Rattle.pps_types.specs.Content.{own_handle}
 use Rattle.notify_box.specs.Standing.{HasParked, with_outbox}
 use Rattle.pps_types.specs.Outbox.{finished_in}
@@ -14,7 +14,7 @@ use Rattle.service_state.proofs.tables.Tables.finish.Goals as goal
 
 step : (c : goal.After-finish) → Step (finishing c.args.conn c.args.handle c.args.reply) (the_view c.self.inside) (record (the_view c.self.inside) { handles = c.park.new.self; connections = c.finish.new.self })
 step c =
-    let known = known_by (λ (h : Open Seen). is_some h.parked) (own_handle (content_in (the_view c.self.inside)) c.args.conn c.args.handle) (true) (subst (λ t. option_map (λ (h : Open Seen). is_some h.parked) (own_handle (content_in t) c.args.conn c.args.handle) ≡ Some (true)) (sym c.self.view_is) c.requires) in
+    let known = known_by (λ (h : OpenHandle Progress). is_some h.parked) (own_handle (content_in (the_view c.self.inside)) c.args.conn c.args.handle) (true) (subst (λ t. option_map (λ (h : OpenHandle Progress). is_some h.parked) (own_handle (content_in t) c.args.conn c.args.handle) ≡ Some (true)) (sym c.self.view_is) c.requires) in
     both_stepped c.connections_are_found.ensures (finishing c.args.conn c.args.handle c.args.reply) (the_view c.self.inside) (c.park.new.self) (c.finish.new.self) (with_outbox c.args.conn (λ box. finished_in box c.args.handle c.args.reply)) c.self.invariant
     (finished_aside (content_in (the_view c.self.inside)) c.args.conn c.args.handle c.args.reply) (c.park.ensures.handles) (c.park.ensures.sites) (ap (λ r. r.next) c.park.ensures.rows) (c.finish.ensures.standing) (c.connections_are_told.ensures.finished (content_in (the_view c.self.inside)) c.handles_are_placed.ensures.rise c.self.invariant.rise c.args.conn c.args.handle known.0 known.1.0 c.args.reply) (c.premises_stay.ensures.connections (content_in (the_view c.self.inside)) (finishing c.args.conn c.args.handle c.args.reply) c.self.invariant.rise refl)
 
@@ -26,6 +26,6 @@ returns c = moved_from (finishing c.args.conn c.args.handle c.args.reply) (the_v
 
 pub finish-requires : goal.finish-requires
 finish-requires c =
-    let known = known_by (λ (h : Open Seen). is_some h.parked) (own_handle (content_in (the_view c.self.inside)) c.args.conn c.args.handle) (true) (subst (λ t. option_map (λ (h : Open Seen). is_some h.parked) (own_handle (content_in t) c.args.conn c.args.handle) ≡ Some (true)) (sym c.self.view_is) c.requires) in
+    let known = known_by (λ (h : OpenHandle Progress). is_some h.parked) (own_handle (content_in (the_view c.self.inside)) c.args.conn c.args.handle) (true) (subst (λ t. option_map (λ (h : OpenHandle Progress). is_some h.parked) (own_handle (content_in t) c.args.conn c.args.handle) ≡ Some (true)) (sym c.self.view_is) c.requires) in
     subst (HasParked c.args.conn c.args.handle) (sym c.self.invariant.connected)
     (held_parked c.connections_are_found.ensures (content_in (the_view c.self.inside)) c.handles_are_placed.ensures.rise c.args.conn c.args.handle known.0 known.1.0 known.1.1)

@@ -1,8 +1,8 @@
 use Rattle.std.proofs.Common.{◌≡◌, ◌∙◌, ◌<◌, true, ap, sym, subst}
 use Rattle.std.specs.Prelude.{None}
 use Rattle.std.specs.List.{AllByRecursion}
-use Rattle.pps_types.specs.Reading.{Open, is_directory_kind}
-use Rattle.pps_types.specs.Rests.{Seen}
+use Rattle.pps_types.specs.Reading.{OpenHandle, is_directory_kind}
+use Rattle.pps_types.specs.Rests.{Progress}
 use Rattle.pps_types.specs.Owed.{same_flag}
 use Rattle.sub_reader.specs.Readers.{Reader}
 use Rattle.sub_reader.specs.Opened.{is_directory, number_of, opened}
@@ -16,7 +16,7 @@ use Rattle.sub_reader.proofs.subscribers.Subscribers.open_reserved.Goals as goal
 pub push_reserved-requires-clause-above : goal.push_reserved-requires-clause-above
 push_reserved-requires-clause-above c =
     let t = c.self.inside in
-    above-readers (number_of t.of) t.name t.records.start t.records.items (rows_of t.rows) c.args.opening.number (subst (λ v. AllByRecursion (λ (h : Open Seen). h.number < c.args.opening.number) v.handles) (sym c.self.view_is) c.requires.above)
+    above-readers (number_of t.of) t.name t.records.start t.records.items (rows_of t.rows) c.args.opening.number (subst (λ v. AllByRecursion (λ (h : OpenHandle Progress). h.number < c.args.opening.number) v.handles) (sym c.self.view_is) c.requires.above)
 
 pub invariant_of-self : goal.invariant_of-self
 invariant_of-self c =
@@ -29,7 +29,7 @@ invariant_of-self c =
     } in
     record {
       loose = open-loose (is_directory t.of) (number_of t.of) t.name t.records.start t.records.items t.counts.items (rows_of t.rows) c.self.invariant.loose r (rows_of c.push_reserved.new.self) c.push_reserved.ensures.rows
-          (above-readers (number_of t.of) t.name t.records.start t.records.items (rows_of t.rows) o.number (subst (λ v. AllByRecursion (λ (h : Open Seen). h.number < o.number) v.handles) (sym c.self.view_is) c.requires.above)) right
+          (above-readers (number_of t.of) t.name t.records.start t.records.items (rows_of t.rows) o.number (subst (λ v. AllByRecursion (λ (h : OpenHandle Progress). h.number < o.number) v.handles) (sym c.self.view_is) c.requires.above)) right
           (λ position. ap (stands position) c.at_first-progress.ensures ∙ first-stands o.kind o.reads position);
       exact = c.self.invariant.exact;
     }

@@ -1,7 +1,7 @@
 use Rattle.std.proofs.Common.{ap, ◌∙◌, Some, None}
 use Rattle.std.specs.Prelude.{option_and_then}
-use Rattle.pps_types.specs.Reading.{Open}
-use Rattle.pps_types.specs.Rests.{Seen}
+use Rattle.pps_types.specs.Reading.{OpenHandle}
+use Rattle.pps_types.specs.Rests.{Progress}
 use Rattle.pps_types.specs.Owed.{owed_in_seen}
 use Rattle.sub_reader.specs.Opened.{handle_at, is_directory, number_of}
 use Rattle.sub_reader.proofs.Finds.{found-handle, found-right}
@@ -11,10 +11,10 @@ use Rattle.sub_reader.proofs.subscribers.Subscribers.owed.Goals as goal
 pub returns-in-None : goal.returns-in-None
 returns-in-None c =
     let t = c.self.inside in
-    ap (option_and_then (λ (h : Open Seen). owed_in_seen h h.seen)) (found-handle (number_of t.of) t.name t.records.start t.records.items (rows_of t.rows) c.args.number None c.in-None.ensures ∙ ap (λ v. handle_at c.args.number v.handles) c.self.view_is)
+    ap (option_and_then (λ (h : OpenHandle Progress). owed_in_seen h h.seen)) (found-handle (number_of t.of) t.name t.records.start t.records.items (rows_of t.rows) c.args.number None c.in-None.ensures ∙ ap (λ v. handle_at c.args.number v.handles) c.self.view_is)
 
 pub returns-in-Some : goal.returns-in-Some
 returns-in-Some c =
     let t = c.self.inside in
     c.owed_count.ensures (number_of t.of) t.name t.records.start t.records.items (found-right (number_of t.of) t.name t.records.start t.records.items (rows_of t.rows) c.args.number (is_directory t.of) c.in-Some.reader.now c.self.invariant.loose.each c.in-Some.ensures)
-    ∙ ap (option_and_then (λ (h : Open Seen). owed_in_seen h h.seen)) (found-handle (number_of t.of) t.name t.records.start t.records.items (rows_of t.rows) c.args.number (Some c.in-Some.reader.now) c.in-Some.ensures ∙ ap (λ v. handle_at c.args.number v.handles) c.self.view_is)
+    ∙ ap (option_and_then (λ (h : OpenHandle Progress). owed_in_seen h h.seen)) (found-handle (number_of t.of) t.name t.records.start t.records.items (rows_of t.rows) c.args.number (Some c.in-Some.reader.now) c.in-Some.ensures ∙ ap (λ v. handle_at c.args.number v.handles) c.self.view_is)

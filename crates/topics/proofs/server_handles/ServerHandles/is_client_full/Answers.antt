@@ -1,8 +1,8 @@
 use Rattle.std.proofs.Common.{◌∙◌, length, ap, Option, Some, None, false, not}
 use Rattle.std.specs.Prelude.{filter, nat_le}
 use Rattle.std.specs.Option.{option_map_or}
-use Rattle.pps_types.specs.Reading.{Open}
-use Rattle.pps_types.specs.Rests.{Seen}
+use Rattle.pps_types.specs.Reading.{OpenHandle}
+use Rattle.pps_types.specs.Rests.{Progress}
 use Rattle.pps_types.specs.Checks.{count_owed, is_server_message}
 use Rattle.sub_reader.specs.Opened.{handle_at}
 use Rattle.sub_reader.specs.Rows.{rows_of}
@@ -13,7 +13,7 @@ use Rattle.topics.proofs.server_handles.ServerHandles.is_client_full.Goals as go
 pub returns-in-None : goal.returns-in-None
 returns-in-None c =
     let t = c.self.inside in
-    ap (λ (o : Option (Open Seen)). option_map_or (λ h. nat_le h.limit (count_owed (is_server_message) h)) o false) (found-handle t.object t.name (rows_of t.rows) c.args.client None c.in-None.ensures ∙ ap (λ v. handle_at c.args.client v.handles) c.self.view_is)
+    ap (λ (o : Option (OpenHandle Progress)). option_map_or (λ h. nat_le h.limit (count_owed (is_server_message) h)) o false) (found-handle t.object t.name (rows_of t.rows) c.args.client None c.in-None.ensures ∙ ap (λ v. handle_at c.args.client v.handles) c.self.view_is)
 
 pub returns-in-Some : goal.returns-in-Some
 returns-in-Some c =
@@ -23,4 +23,4 @@ returns-in-Some c =
     ap not c.can_take.ensures
     ∙ not-lt (length (filter (is_server_message) x.progress.owed)) x.progress.limit
     ∙ (λ i. nat_le (right.limit i) (count-is t.object t.name x right (is_server_message) i))
-    ∙ ap (λ (o : Option (Open Seen)). option_map_or (λ h. nat_le h.limit (count_owed (is_server_message) h)) o false) (found-handle t.object t.name (rows_of t.rows) c.args.client (Some x) c.in-Some.ensures ∙ ap (λ v. handle_at c.args.client v.handles) c.self.view_is)
+    ∙ ap (λ (o : Option (OpenHandle Progress)). option_map_or (λ h. nat_le h.limit (count_owed (is_server_message) h)) o false) (found-handle t.object t.name (rows_of t.rows) c.args.client (Some x) c.in-Some.ensures ∙ ap (λ v. handle_at c.args.client v.handles) c.self.view_is)

@@ -1,8 +1,8 @@
 use Rattle.std.proofs.Common.{◌∙◌, [], ◌∷◌, length, map, sym, ap, subst, arith}
 use Rattle.std.specs.Prelude.{filter}
 use Rattle.pps_types.specs.History.{Entry}
-use Rattle.pps_types.specs.Reading.{Open, visible}
-use Rattle.pps_types.specs.Rests.{Seen}
+use Rattle.pps_types.specs.Reading.{OpenHandle, visible}
+use Rattle.pps_types.specs.Rests.{Progress}
 use Rattle.pps_types.specs.Plan.{offer}
 use Rattle.sub_reader.specs.Rows.{rows_of}
 use Rattle.topics.specs.QueueRows.{sees}
@@ -28,7 +28,7 @@ pub offer_each-requires-clause-enough : goal.offer_each-requires-clause-enough
 offer_each-requires-clause-enough c =
     let s = c.self.inside in
     let e = c.args.shares.entry in
-    let same = ap (λ n. length (filter (sees n e) (rows_of s.rows))) c.number-object.ensures.same ∙ count-handles s.object s.name e (rows_of s.rows) ∙ ap (λ v. length (filter (λ (h : Open Seen). visible h e) v.handles)) c.self.view_is in
+    let same = ap (λ n. length (filter (sees n e) (rows_of s.rows))) c.number-object.ensures.same ∙ count-handles s.object s.name e (rows_of s.rows) ∙ ap (λ v. length (filter (λ (h : OpenHandle Progress). visible h e) v.handles)) c.self.view_is in
     omega (arith, same, c.requires.enough)
 
 pub invariant_of-self : goal.invariant_of-self

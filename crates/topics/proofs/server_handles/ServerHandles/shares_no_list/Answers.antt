@@ -1,7 +1,7 @@
 use Rattle.std.proofs.Common.{◌≡◌, [], subst}
 use Rattle.pps_types.specs.Owed.{longest_rest}
 use Rattle.sub_reader.specs.Rows.{rows_of}
-use Rattle.topics.proofs.Seating.{none-held}
+use Rattle.topics.proofs.HandlesOf.{none-held}
 use Rattle.topics.proofs.server_handles.ServerHandles.shares_no_list.Goals as goal
 
 pub returns : goal.returns

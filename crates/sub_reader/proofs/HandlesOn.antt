@@ -4,8 +4,8 @@ use Rattle.std.specs.Prelude.{filter}
 use Rattle.std.proofs.lemmas.Bool.{le-ltb}
 use Rattle.std.specs.List.{AllByRecursion}
 use Rattle.pps_types.specs.History.{Entry}
-use Rattle.pps_types.specs.Reading.{Open, Style, Full, Delta, Queue, style, is_full_style, is_delta_style, is_directory_kind, visible}
-use Rattle.pps_types.specs.Rests.{Seen, News as SeenNews, Unread, Over as SeenOver, Owed, stand, over_limit, seen_of}
+use Rattle.pps_types.specs.Reading.{OpenHandle, Style, Full, Delta, Queue, style, is_full_style, is_delta_style, is_directory_kind, visible}
+use Rattle.pps_types.specs.Rests.{Progress, News as SeenNews, Unread, Over as SeenOver, Owed, stand, over_limit, seen_of}
 use Rattle.pps_types.specs.Owed.{same_flag}
 use Rattle.pps_types.specs.WellFormed.{IsWhole}
 use Rattle.pps_types.specs.Rising.{IsRising, AllAbove}
@@ -15,7 +15,7 @@ use Rattle.sub_reader.specs.Readers.{Reader}
 use Rattle.sub_reader.specs.Opened.{opened, is_reader}
 use Rattle.sub_reader.specs.Places.{seen_at, handle_of, IsPlace, IsReader}
 use Rattle.sub_reader.specs.Rows.{number_in}
-use Rattle.sub_reader.specs.Seated.{IsSeated, AreSeated}
+use Rattle.sub_reader.specs.HandlesOf.{IsOn, AreOn}
 
 flag-is : (a b : Bool) → same_flag a b ≡ true → a ≡ b
 flag-is true true is = refl
@@ -49,33 +49,33 @@ module _ (t : ℕ) (name : List ℕ) (start : ℕ) (entries : List Entry) where
   whole-at r Idle is = owed-whole t name start entries r [] is (omega arith)
   whole-at r (At first owed) is = owed-whole t name start entries r (drop (first - start) entries) is.delta (omega (arith, is.count, is.few))
 
-  whole-same : (r : Reader) (s : Seen) → IsWhole (opened t name r.opening) s → s ≡ seen_at start entries r.progress → IsWhole (handle_of t name start entries r) s
+  whole-same : (r : Reader) (s : Progress) → IsWhole (opened t name r.opening) s → s ≡ seen_at start entries r.progress → IsWhole (handle_of t name start entries r) s
   whole-same r (SeenNews b) is same = tt
   whole-same r Unread is same = tt
   whole-same r SeenOver is same = tt
   whole-same r (Owed rest) is same = is
 
-  seated : (d : Bool) (r : Reader) → IsReader d t name start entries r → IsSeated d t (handle_of t name start entries r)
-  seated d r is = record {
+  on_topic : (d : Bool) (r : Reader) → IsReader d t name start entries r → IsOn d t (handle_of t name start entries r)
+  on_topic d r is = record {
     flag = flag-is (is_directory_kind r.opening.kind) d is.flag;
     on = refl;
     whole = whole-same r (seen_at start entries r.progress) (whole-at r r.progress is.place) refl;
   }
 
-  all-seated : (d : Bool) (rs : List Reader) → AllByRecursion (IsReader d t name start entries) rs → AllByRecursion (IsSeated d t) (map (handle_of t name start entries) rs)
-  all-seated d [] all = tt
-  all-seated d (r ∷ rs) all = (seated d r all.0, all-seated d rs all.1)
+  all-on_topic : (d : Bool) (rs : List Reader) → AllByRecursion (IsReader d t name start entries) rs → AllByRecursion (IsOn d t) (map (handle_of t name start entries) rs)
+  all-on_topic d [] all = tt
+  all-on_topic d (r ∷ rs) all = (on_topic d r all.0, all-on_topic d rs all.1)
 
-  above-seated : (n : ℕ) (rs : List Reader) → AllAbove number_in n rs → AllAbove (λ h. h.number) n (map (handle_of t name start entries) rs)
-  above-seated n [] all = tt
-  above-seated n (r ∷ rs) all = (all.0, above-seated n rs all.1)
+  above-on_topic : (n : ℕ) (rs : List Reader) → AllAbove number_in n rs → AllAbove (λ h. h.number) n (map (handle_of t name start entries) rs)
+  above-on_topic n [] all = tt
+  above-on_topic n (r ∷ rs) all = (all.0, above-on_topic n rs all.1)
 
-  rising-seated : (rs : List Reader) → IsRising number_in rs → IsRising (λ h. h.number) (map (handle_of t name start entries) rs)
-  rising-seated [] all = tt
-  rising-seated (r ∷ rs) all = (above-seated r.opening.number rs all.0, rising-seated rs all.1)
+  rising-on_topic : (rs : List Reader) → IsRising number_in rs → IsRising (λ h. h.number) (map (handle_of t name start entries) rs)
+  rising-on_topic [] all = tt
+  rising-on_topic (r ∷ rs) all = (above-on_topic r.opening.number rs all.0, rising-on_topic rs all.1)
 
-  pub are-seated : (d : Bool) (rs : List Reader) → AllByRecursion (IsReader d t name start entries) rs → IsRising number_in rs → AreSeated d t (map (handle_of t name start entries) rs)
-  are-seated d rs each rising = record { each = all-seated d rs each; rising = rising-seated rs rising }
+  pub are-on_topic : (d : Bool) (rs : List Reader) → AllByRecursion (IsReader d t name start entries) rs → IsRising number_in rs → AreOn d t (map (handle_of t name start entries) rs)
+  are-on_topic d rs each rising = record { each = all-on_topic d rs each; rising = rising-on_topic rs rising }
 
   -- ---- of which kind they are, and what they are called
 
@@ -86,10 +86,10 @@ module _ (t : ℕ) (name : List ℕ) (start : ℕ) (entries : List Entry) where
   reads r Idle is = either (is_full_style (style r.opening.kind)) (is_delta_style (style r.opening.kind)) is
   reads r (At first owed) is = either (is_full_style (style r.opening.kind)) (is_delta_style (style r.opening.kind)) is.delta
 
-  pub all-read : (d : Bool) (rs : List Reader) → AllByRecursion (IsReader d t name start entries) rs → AllByRecursion (λ (h : Open Seen). is_reader h.kind ≡ true) (map (handle_of t name start entries) rs)
+  pub all-read : (d : Bool) (rs : List Reader) → AllByRecursion (IsReader d t name start entries) rs → AllByRecursion (λ (h : OpenHandle Progress). is_reader h.kind ≡ true) (map (handle_of t name start entries) rs)
   all-read d [] all = tt
   all-read d (r ∷ rs) all = (reads r r.progress all.0.place, all-read d rs all.1)
 
-  pub all-named : (rs : List Reader) → AllByRecursion (λ (h : Open Seen). h.name ≡ name) (map (handle_of t name start entries) rs)
+  pub all-named : (rs : List Reader) → AllByRecursion (λ (h : OpenHandle Progress). h.name ≡ name) (map (handle_of t name start entries) rs)
   all-named [] = tt
   all-named (r ∷ rs) = (refl, all-named rs)

@@ -3,11 +3,11 @@ use Rattle.std.proofs.Common.{◌≡◌, ℕ, Bool, true, false, List, [], ◌�
 use Rattle.std.specs.List.{AllByRecursion}
 use Rattle.pps_types.specs.declared.handle_kind.HandleKind.{HandleKind}
 use Rattle.pps_types.specs.declared.handle_kind.HandleKind.TheVariants.{Object as ObjectHandle, Directory as DirectoryHandle, Names as NamesHandle, Server as ServerHandle, Client as ClientHandle}
-use Rattle.pps_types.specs.Reading.{Open, Queue, style, is_directory_kind}
-use Rattle.pps_types.specs.Rests.{Seen}
+use Rattle.pps_types.specs.Reading.{OpenHandle, Queue, style, is_directory_kind}
+use Rattle.pps_types.specs.Rests.{Progress}
 use Rattle.pps_types.specs.Owed.{is_of, longest_rest}
 use Rattle.pps_types.specs.Rising.{IsRising, AllAbove}
-use Rattle.sub_reader.specs.Seated.{IsSeated, AreSeated}
+use Rattle.sub_reader.specs.HandlesOf.{IsOn, AreOn}
 use Rattle.sub_reader.specs.Rows.{number_in}
 use Rattle.topics.specs.QueueRows.{QueueRow, handle_of, IsRowOn, IsService}
 use Rattle.topics.proofs.Seen.{queue-seen}
@@ -21,31 +21,31 @@ flag-is ServerHandle is = refl
 flag-is ClientHandle is = refl
 
 module _ (object : ℕ) (name : List ℕ) where
-  seated : (x : QueueRow) → IsRowOn object x → IsSeated false object (handle_of object name x)
-  seated x is = record { flag = flag-is x.opening.kind is.kind; on = refl; whole = queue-seen (handle_of object name x) x.progress.owed is.kind }
+  on_topic : (x : QueueRow) → IsRowOn object x → IsOn false object (handle_of object name x)
+  on_topic x is = record { flag = flag-is x.opening.kind is.kind; on = refl; whole = queue-seen (handle_of object name x) x.progress.owed is.kind }
 
-  all-seated : (xs : List QueueRow) → AllByRecursion (IsRowOn object) xs → AllByRecursion (IsSeated false object) (map (handle_of object name) xs)
-  all-seated [] all = tt
-  all-seated (x ∷ xs) all = (seated x all.0, all-seated xs all.1)
+  all-on_topic : (xs : List QueueRow) → AllByRecursion (IsRowOn object) xs → AllByRecursion (IsOn false object) (map (handle_of object name) xs)
+  all-on_topic [] all = tt
+  all-on_topic (x ∷ xs) all = (on_topic x all.0, all-on_topic xs all.1)
 
-  above-seated : (n : ℕ) (xs : List QueueRow) → AllAbove number_in n xs → AllAbove (λ h. h.number) n (map (handle_of object name) xs)
-  above-seated n [] all = tt
-  above-seated n (x ∷ xs) all = (all.0, above-seated n xs all.1)
+  above-on_topic : (n : ℕ) (xs : List QueueRow) → AllAbove number_in n xs → AllAbove (λ h. h.number) n (map (handle_of object name) xs)
+  above-on_topic n [] all = tt
+  above-on_topic n (x ∷ xs) all = (all.0, above-on_topic n xs all.1)
 
-  rising-seated : (xs : List QueueRow) → IsRising number_in xs → IsRising (λ h. h.number) (map (handle_of object name) xs)
-  rising-seated [] all = tt
-  rising-seated (x ∷ xs) all = (above-seated x.opening.number xs all.0, rising-seated xs all.1)
+  rising-on_topic : (xs : List QueueRow) → IsRising number_in xs → IsRising (λ h. h.number) (map (handle_of object name) xs)
+  rising-on_topic [] all = tt
+  rising-on_topic (x ∷ xs) all = (above-on_topic x.opening.number xs all.0, rising-on_topic xs all.1)
 
-  pub are-seated : (led : Bool) (xs : List QueueRow) → IsService object led xs → AreSeated false object (map (handle_of object name) xs)
-  are-seated led xs is = record { each = all-seated xs is.each; rising = rising-seated xs is.rising }
+  pub are-on_topic : (led : Bool) (xs : List QueueRow) → IsService object led xs → AreOn false object (map (handle_of object name) xs)
+  are-on_topic led xs is = record { each = all-on_topic xs is.each; rising = rising-on_topic xs is.rising }
 
   -- ---- of which kind they are, and what they are called
 
-  pub all-queued : (xs : List QueueRow) → AllByRecursion (IsRowOn object) xs → AllByRecursion (λ (h : Open Seen). style h.kind ≡ Queue) (map (handle_of object name) xs)
+  pub all-queued : (xs : List QueueRow) → AllByRecursion (IsRowOn object) xs → AllByRecursion (λ (h : OpenHandle Progress). style h.kind ≡ Queue) (map (handle_of object name) xs)
   all-queued [] all = tt
   all-queued (x ∷ xs) all = (all.0.kind, all-queued xs all.1)
 
-  pub all-named : (xs : List QueueRow) → AllByRecursion (λ (h : Open Seen). h.name ≡ name) (map (handle_of object name) xs)
+  pub all-named : (xs : List QueueRow) → AllByRecursion (λ (h : OpenHandle Progress). h.name ≡ name) (map (handle_of object name) xs)
   all-named [] = tt
   all-named (x ∷ xs) = (refl, all-named xs)
 

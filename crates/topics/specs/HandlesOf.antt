@@ -6,8 +6,8 @@ use Rattle.pps_types.specs.declared.found.Found.{Found}
 use Rattle.pps_types.specs.declared.found.Found.TheVariants.{Object as FoundObject}
 use Rattle.pps_types.specs.declared.handle_kind.HandleKind.{HandleKind}
 use Rattle.pps_types.specs.History.{Entry}
-use Rattle.pps_types.specs.Reading.{Open, style, visible}
-use Rattle.pps_types.specs.Rests.{Seen}
+use Rattle.pps_types.specs.Reading.{OpenHandle, style, visible}
+use Rattle.pps_types.specs.Rests.{Progress}
 use Rattle.sub_reader.specs.declared.glance.Glance.{Glance}
 use Rattle.sub_reader.specs.declared.opening.Opening.{Opening}
 use Rattle.sub_reader.specs.Opened.{is_directory, number_of, is_queue_style, suits, IsOpeningAt}
@@ -27,7 +27,7 @@ name_of (Readers t) = t.name
 name_of (Served s) = s.name
 
 -- the handles, in rising number, with what each has seen
-abbrev pub handles_of : Topic → List (Open Seen)
+abbrev pub handles_of : Topic → List (OpenHandle Progress)
 handles_of (Readers t) = t.handles
 handles_of (Served s) = s.handles
 
@@ -73,7 +73,7 @@ KeepsRoom old new = (entries : List Entry) → IsReady entries old → IsReady e
 -- so many shares of a record are enough: one for each handle of a server object that is given it
 abbrev pub IsEnough : ℕ → Entry → Topic → Type 0
 IsEnough count e (Readers t) = Unit {0}
-IsEnough count e (Served s) = length (filter (λ (h : Open Seen). visible h e) s.handles) ≤ count
+IsEnough count e (Served s) = length (filter (λ (h : OpenHandle Progress). visible h e) s.handles) ≤ count
 
 -- where there was room for a record and others, there is room for the others
 abbrev pub UsesRoomFor : Entry → Topic → Topic → Type 0
@@ -82,7 +82,7 @@ UsesRoomFor e old new = (entries : List Entry) → IsReady (e ∷ entries) old �
 -- ---- their handles
 
 -- with one more that was opened on the target
-abbrev pub handles_with : Opening → Topic → List (Open Seen)
+abbrev pub handles_with : Opening → Topic → List (OpenHandle Progress)
 handles_with opening x = with_opened (number_of (target_of x)) (name_of x) opening (handles_of x)
 
 -- what an open fixed of the handle of a number, if it is one of them
@@ -94,8 +94,8 @@ abbrev pub HasGlance : Topic → ℕ → Option Glance → Type 0
 HasGlance x number glance = IsGlanceAt number (number_of (target_of x)) (name_of x) (handles_of x) glance
 
 -- each of these is a server's or a client's just if the flag is set
-abbrev pub AreQueuedJustIf : Bool → List (Open Seen) → Type 0
-AreQueuedJustIf service handles = AllByRecursion (λ (h : Open Seen). is_queue_style (style h.kind) ≡ service) handles
+abbrev pub AreQueuedJustIf : Bool → List (OpenHandle Progress) → Type 0
+AreQueuedJustIf service handles = AllByRecursion (λ (h : OpenHandle Progress). is_queue_style (style h.kind) ≡ service) handles
 
 -- the same target with the same handles
 abbrev pub AreSame : Topic → Topic → Type 0

@@ -1,45 +1,45 @@
--- Handles as they stand on their target.
+-- The handles of one object or directory.
 use Rattle.std.specs.Prelude.{◌≡◌, ℕ, Bool, true, List}
 use Rattle.std.specs.List.{AllByRecursion}
 use Rattle.pps_types.specs.declared.found.Found.{Found}
 use Rattle.pps_types.specs.declared.handle_kind.HandleKind.{HandleKind}
 use Rattle.pps_types.specs.History.{Entry}
-use Rattle.pps_types.specs.Reading.{Open, is_directory_kind}
-use Rattle.pps_types.specs.Rests.{Seen}
+use Rattle.pps_types.specs.Reading.{OpenHandle, is_directory_kind}
+use Rattle.pps_types.specs.Rests.{Progress}
 use Rattle.pps_types.specs.WellFormed.{IsWhole}
 use Rattle.pps_types.specs.Rising.{IsRising}
 use Rattle.pps_types.specs.Owed.{same_flag, longest_rest}
 use Rattle.sub_reader.specs.Opened.{is_directory, number_of, is_reader}
 
 -- It is on the directory or the object of that number, and what it is owed is within its limit.
-pub record IsSeated (directory : Bool) (target : ℕ) (h : Open Seen) : Type 0 where
+pub record IsOn (directory : Bool) (target : ℕ) (h : OpenHandle Progress) : Type 0 where
   pub flag : is_directory_kind h.kind ≡ directory
   pub on : h.target ≡ target
   pub whole : IsWhole h h.seen
 
 -- each of them, and their numbers rise
-pub record AreSeated (directory : Bool) (target : ℕ) (handles : List (Open Seen)) : Type 0 where
-  pub each : AllByRecursion (IsSeated directory target) handles
+pub record AreOn (directory : Bool) (target : ℕ) (handles : List (OpenHandle Progress)) : Type 0 where
+  pub each : AllByRecursion (IsOn directory target) handles
   pub rising : IsRising (λ h. h.number) handles
 
 -- ---- of an object or a directory
 
--- each of them is seated on it, and their numbers rise
-abbrev pub AreSeatedOn : Found → List (Open Seen) → Type 0
-AreSeatedOn found handles = AreSeated (is_directory found) (number_of found) handles
+-- each of them is on it, and their numbers rise
+abbrev pub AreOnFound : Found → List (OpenHandle Progress) → Type 0
+AreOnFound found handles = AreOn (is_directory found) (number_of found) handles
 
 -- a handle of that kind is on a directory if that is one, and else on an object
 abbrev pub SuitsTarget : HandleKind → Found → Type 0
 SuitsTarget kind found = same_flag (is_directory_kind kind) (is_directory found) ≡ true
 
 -- the longest rest that one of them is owed
-abbrev pub longest_rest_on : Found → List (Open Seen) → List Entry
+abbrev pub longest_rest_on : Found → List (OpenHandle Progress) → List Entry
 longest_rest_on found handles = longest_rest (is_directory found) (number_of found) handles
 
 -- each of them has this name
-abbrev pub HaveName : List ℕ → List (Open Seen) → Type 0
-HaveName name handles = AllByRecursion (λ (h : Open Seen). h.name ≡ name) handles
+abbrev pub HaveName : List ℕ → List (OpenHandle Progress) → Type 0
+HaveName name handles = AllByRecursion (λ (h : OpenHandle Progress). h.name ≡ name) handles
 
 -- each of them reads in full or delta mode
-abbrev pub AreReaders : List (Open Seen) → Type 0
-AreReaders handles = AllByRecursion (λ (h : Open Seen). is_reader h.kind ≡ true) handles
+abbrev pub AreReaders : List (OpenHandle Progress) → Type 0
+AreReaders handles = AllByRecursion (λ (h : OpenHandle Progress). is_reader h.kind ≡ true) handles
