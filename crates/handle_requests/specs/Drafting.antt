@@ -1,6 +1,7 @@
 -- A write over the tables: who writes, what its text comes to, and what it begins with.
 use Rattle.std.specs.Prelude.{◌≡◌, ◌⊎◌, ℕ, List, [], ◌∷◌, Bool, true, Option, Some, None, IfSome, IsSomeAnd, map}
 use Rattle.std.specs.List.{flat_map}
+use Rattle.std.specs.Option.{option_to_list}
 use Rattle.pps_types.specs.declared.event.Request.TheVariants.{Write}
 use Rattle.pps_types.specs.declared.refusal.Refusal.{Refusal}
 use Rattle.pps_types.specs.declared.refusal.Refusal.TheVariants.{OutOfMemory, TableFull}
@@ -27,7 +28,7 @@ write_checks_in t conn handle bytes = all_checks_in t conn (Write handle bytes)
 
 -- this is what a write answers and begins with, where no check refuses it
 abbrev pub IsWriteEffect : Tabled → ℕ → ℕ → List ℕ → Written → Type 0
-IsWriteEffect t conn handle bytes w = effect_in t conn (Write handle bytes) ≡ (w.reply, flat_map moves_of w.beginning.items)
+IsWriteEffect t conn handle bytes w = effect_in t conn (Write handle bytes) ≡ (w.reply, flat_map moves_of (option_to_list w.beginning))
 
 -- ---- who writes
 

@@ -1,6 +1,7 @@
 //! The memory that a write takes ahead.
 ghost use Rattle.std.specs.Prelude.{◌≡◌, ◌+◌, ◌<◌, ◌^◌, [], true, false, IfOk, IfErr, OnOk, IfSome, is_some};
 ghost use Rattle.std.specs.List.{flat_map};
+ghost use Rattle.std.specs.Option.{option_to_list};
 ghost use Rattle.service_state.specs.Tables.{content_in};
 ghost use Rattle.service_state.specs.Beginning.{moves_of, AreReady};
 ghost use Rattle.service_state.specs.Lines.{HasLines};
@@ -80,23 +81,21 @@ pub(crate) fn begun(
     tables: &mut Tables,
     alloc: Global,
     entry: Option<Entry>,
-) -> Result<Vec<Beginning>, Refusal>
+) -> Result<Option<Beginning>, Refusal>
     requires { IfSome entry (λ e. HasLines e tables.old.names) }
     ensures content { content_in tables.new ≡ content_in tables.old }
-    ensures tells { IfOk result (λ beginning. flat_map moves_of beginning.items ≡ tells entry) }
-    ensures ready { IfOk result (λ beginning. AreReady beginning.items tables.new) }
+    ensures tells { IfOk result (λ b. flat_map moves_of (option_to_list b) ≡ tells entry) }
+    ensures ready { IfOk result (λ b. AreReady (option_to_list b) tables.new) }
     ensures last { OnOk result (is_past (content_in tables.old) (tells entry) ≡ false) }
     ensures err { IfErr result (λ r. RefusesRecord tables.old entry r) }
 {
     let is_last = is_last(tables);
     let Some(entry) = entry else {
-        return Ok(Vec::new(alloc));
+        return Ok(None);
     };
     if is_last {
         return Err(Refusal::TableFull);
     }
     let told = tables.tell_ready(alloc, entry)?;
-    let mut beginning = Vec::with_capacity(alloc, 1)?;
-    beginning.push_reserved(Beginning::AppendsRecord(told));
-    Ok(beginning)
+    Ok(Some(Beginning::AppendsRecord(told)))
 }

@@ -1,5 +1,6 @@
 //! Writes: their checks in their order, what they answer, and what they begin with.
 ghost use Rattle.std.specs.Prelude.{◌≡◌, IfOk, IfErr, OnOk};
+ghost use Rattle.std.specs.Option.{option_to_list};
 ghost use Rattle.pps_types.specs.WellFormed.{IsContent};
 ghost use Rattle.service_laws.specs.Bounds.{IsBound};
 ghost use Rattle.service_state.specs.Tables.{content_in};
@@ -18,7 +19,7 @@ use std::alloc::Global;
 pub struct Written {
     pub reply: Outcome,
     /// The record of its lines, where it has some.
-    pub beginning: Vec<Beginning>,
+    pub beginning: Option<Beginning>,
 }
 
 /// What a write of these bytes through a handle answers, and what it begins with, for which the memory is taken. What stands
@@ -43,7 +44,7 @@ pub fn write(
     ensures passes { OnOk result (AllPass (write_checks_in tables.old conn handle bytes.now)) }
     ensures wants { OnOk result (TakesMemory (write_checks_in tables.old conn handle bytes.now)) }
     ensures does { IfOk result (λ w. IsWriteEffect tables.old conn handle bytes.now w) }
-    ensures ready { IfOk result (λ w. AreReady w.beginning.items tables.new) }
+    ensures ready { IfOk result (λ w. AreReady (option_to_list w.beginning) tables.new) }
     ensures err { IfErr result (λ r. Fails (write_checks_in tables.old conn handle bytes.now) r) }
 {
     let draft = drafted(tables, alloc, conn, handle, bytes)?;

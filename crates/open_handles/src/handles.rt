@@ -614,7 +614,7 @@ impl Handles {
         ensures entry { IfOk result (λ told. told.entry ≡ entry) }
         ensures enough { IfOk result (λ told. IsShared told.count told.entry self.now) }
     {
-        let for_directory = Shares::new(alloc, entry.share()?, 0)?;
+        let for_directory = entry.share()?;
         let for_object = self.shares_for(alloc, entry)?;
         Ok(SharedRecord {
             for_object,
@@ -671,9 +671,9 @@ impl Handles {
             for_directory,
         } = told;
         let object = for_object.entry().record().object;
-        let directory = DirId::new(for_directory.entry().directory());
+        let directory = DirId::new(for_directory.directory());
         self.offer_at(Found::Object(object), for_object);
-        self.offer_at(Found::Directory(directory), for_directory);
+        self.offer_at(Found::Directory(directory), Shares::alone(for_directory));
     }
 
     // Makes room for records in one place.

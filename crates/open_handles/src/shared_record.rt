@@ -9,7 +9,8 @@ use topics::Shares;
 #[derive(Drop)]
 pub struct SharedRecord {
     pub(crate) for_object: Shares,
-    pub(crate) for_directory: Shares,
+    /// For its directory, whose handles share a list and need no shares of their own.
+    pub(crate) for_directory: Entry,
 }
 
 impl Model for SharedRecord {
@@ -20,7 +21,7 @@ impl Model for SharedRecord {
 
     ghost view = { λ t. record { entry = t.for_object.entry; count = t.for_object.count } };
 
-    ghost invariant = { λ t. t.for_directory.entry ≡ t.for_object.entry };
+    ghost invariant = { λ t. t.for_directory ≡ t.for_object.entry };
 }
 
 impl SharedRecord {

@@ -23,7 +23,7 @@ use Rattle.path_requests.specs.declared.planned_open.Opens.{Opens as OpensAs}
 use Rattle.path_requests.specs.declared.planned_open.Opens.TheVariants.{OnFound, Creating, Replacing}
 use Rattle.path_requests.specs.Planned as opens
 use Rattle.pps_engine.specs.declared.doing.Doing.{Doing}
-use Rattle.pps_engine.specs.declared.doing.Doing.TheVariants.{Nothing, Begins, Leaves, Opens, Attaches, Closes, Reads, Arms, Takes, Makes, Removes}
+use Rattle.pps_engine.specs.declared.doing.Doing.TheVariants.{Nothing, Begins, BeginsWith, Leaves, Opens, Attaches, Closes, Reads, Arms, Takes, Makes, Removes}
 use Rattle.pps_engine.specs.Doing.{moves_in, CanDo}
 use Rattle.pps_engine.specs.EventTold.{closes_in, entries_opened, closes_opened, entries_of, closes_of}
 
@@ -46,6 +46,15 @@ begins_close : (bs : List Beginning) → handles_closed (flat_map moves_of bs) �
 begins_close [] = refl
 begins_close (BeginningCloses conn handle parked ∷ bs) = filter_map-append handle_closed (closing conn handle parked) (flat_map moves_of bs) ∙ (λ i. closing_closes conn handle parked i ++ begins_close bs i)
 begins_close (AppendsRecord told ∷ bs) = begins_close bs
+
+-- one step alone
+step_tells : (b : Beginning) → entries_told (moves_of b) ≡ entries_in (b ∷ [])
+step_tells (BeginningCloses conn handle parked) = closing_tells conn handle parked
+step_tells (AppendsRecord told) = refl
+
+step_closes : (b : Beginning) → handles_closed (moves_of b) ≡ closes_in (b ∷ [])
+step_closes (BeginningCloses conn handle parked) = closing_closes conn handle parked
+step_closes (AppendsRecord told) = refl
 
 append_none : {X : Type 0} (xs : List X) → xs ++ [] ≡ xs
 append_none [] = refl
@@ -96,6 +105,7 @@ reads_close handle Stays = refl
 pub entries_are : (t : Tabled) (d : Doing) → CanDo d t → entries_told (moves_in d t) ≡ entries_of d
 entries_are t Nothing can = refl
 entries_are t (Begins beginning) can = begins_tell beginning.items
+entries_are t (BeginsWith beginning) can = step_tells beginning
 entries_are t (Leaves beginning conn) can = behind_tells beginning.items (planning.Leaves conn) refl
 entries_are t (Opens o) can = opens_tell t o.value can
 entries_are t (Attaches conn outbox) can = refl
@@ -109,6 +119,7 @@ entries_are t (Removes directory) can = refl
 pub closes_are : (t : Tabled) (d : Doing) → handles_closed (moves_in d t) ≡ closes_of d
 closes_are t Nothing = refl
 closes_are t (Begins beginning) = begins_close beginning.items
+closes_are t (BeginsWith beginning) = step_closes beginning
 closes_are t (Leaves beginning conn) = behind_closes beginning.items (planning.Leaves conn) refl
 closes_are t (Opens o) = opens_close t o.value
 closes_are t (Attaches conn outbox) = refl

@@ -24,12 +24,13 @@ use Rattle.service_state.specs.Moves.{closing}
 use Rattle.service_state.specs.Tables.{Tabled, content_in}
 use Rattle.path_requests.specs.Planned as opens
 use Rattle.pps_engine.specs.declared.doing.Doing.{Doing}
-use Rattle.pps_engine.specs.declared.doing.Doing.TheVariants.{Nothing, Begins, Leaves, Opens, Attaches, Closes, Reads, Arms, Takes, Makes, Removes}
+use Rattle.pps_engine.specs.declared.doing.Doing.TheVariants.{Nothing, Begins, BeginsWith, Leaves, Opens, Attaches, Closes, Reads, Arms, Takes, Makes, Removes}
 
 -- the moves that it stands for
 abbrev pub moves_in : Doing → Tabled → List Move
 moves_in Nothing t = []
 moves_in (Begins beginning) t = flat_map moves_of beginning.items
+moves_in (BeginsWith beginning) t = moves_of beginning
 moves_in (Leaves beginning conn) t = flat_map moves_of beginning.items ++ planning.Leaves conn ∷ []
 moves_in (Opens o) t = opens.moves_of o.value t
 moves_in (Attaches conn outbox) t = planning.Attaches conn ∷ []
@@ -86,6 +87,7 @@ pub record CanRemove (directory : ℕ) (t : Tabled) : Type 0 where
 abbrev pub CanDo : Doing → Tabled → Type 0
 CanDo Nothing t = Unit {0}
 CanDo (Begins beginning) t = AreReady beginning.items t
+CanDo (BeginsWith beginning) t = AreReady (beginning ∷ []) t
 CanDo (Leaves beginning conn) t = AreReady beginning.items t
 CanDo (Opens o) t = opens.IsReady o.value t
 CanDo (Attaches conn outbox) t = CanAttach conn outbox.value t

@@ -16,7 +16,7 @@ use Rattle.service_state.specs.Tables.{Tabled, content_in}
 use Rattle.path_requests.specs.declared.planned_open.Opens.{Opens as OpensAs}
 use Rattle.path_requests.specs.declared.planned_open.Opens.TheVariants.{OnFound, Creating, Replacing}
 use Rattle.pps_engine.specs.declared.doing.Doing.{Doing}
-use Rattle.pps_engine.specs.declared.doing.Doing.TheVariants.{Begins, Leaves, Opens, Closes}
+use Rattle.pps_engine.specs.declared.doing.Doing.TheVariants.{Begins, BeginsWith, Leaves, Opens, Closes}
 
 -- the handle that closes
 abbrev pub closed_by : Beginning → Option ℕ
@@ -47,12 +47,14 @@ closes_opened opens = []
 
 abbrev pub entries_of : Doing → List Entry
 entries_of (Begins beginning) = entries_in beginning.items
+entries_of (BeginsWith beginning) = entries_in (beginning ∷ [])
 entries_of (Leaves beginning conn) = entries_in beginning.items
 entries_of (Opens opens) = entries_opened opens.value
 entries_of d = []
 
 abbrev pub closes_of : Doing → List ℕ
 closes_of (Begins beginning) = closes_in beginning.items
+closes_of (BeginsWith beginning) = closes_in (beginning ∷ [])
 closes_of (Leaves beginning conn) = closes_in beginning.items
 closes_of (Opens opens) = closes_opened opens.value
 closes_of (Closes conn handle parked) = handle ∷ []
@@ -61,6 +63,7 @@ closes_of d = []
 -- records are told, so that what follows may take memory
 abbrev pub takes_memory : Doing → Bool
 takes_memory (Begins beginning) = true
+takes_memory (BeginsWith beginning) = true
 takes_memory (Leaves beginning conn) = true
 takes_memory (Opens opens) = true
 takes_memory d = false

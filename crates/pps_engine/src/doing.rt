@@ -20,6 +20,8 @@ pub(crate) enum Doing {
     Nothing,
     /// Handles close, and records are told.
     Begins(Vec<Beginning>),
+    /// The same, of one handle or one record, which needs no list.
+    BeginsWith(Beginning),
     /// The same, and the connection leaves.
     Leaves {
         beginning: Vec<Beginning>,
@@ -99,6 +101,7 @@ pub(crate) fn carry_out(tables: &mut Tables, doing: Doing)
     match doing {
         Doing::Nothing => {}
         Doing::Begins(beginning) => tables.begin_all(beginning),
+        Doing::BeginsWith(beginning) => tables.begin(beginning),
         Doing::Leaves { beginning, conn } => begin_and_leave(tables, beginning, conn),
         Doing::Opens(opens) => path_requests::carry_out(tables, Box::into_inner(opens)),
         Doing::Attaches { conn, outbox } => tables.attach(conn, Box::into_inner(outbox)),

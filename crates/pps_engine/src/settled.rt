@@ -11,6 +11,7 @@ use pps_types::Handle;
 use service_laws::{events_are_settled, moves_are_settled};
 use service_state::{Beginning, Tables, entries_in};
 use std::alloc::{AllocError, Global};
+use std::slice::from_ref;
 use whole_texts::Following;
 
 // The handles that close as an event begins.
@@ -36,7 +37,7 @@ fn settled_begun(
     ensures { IfOk result (λ following. SettlesSteps tables.now beginning.now following.items) }
 {
     if let [Beginning::AppendsRecord(told)] = beginning {
-        return settle(tables, alloc, std::slice::from_ref(told.entry()), &[]);
+        return settle(tables, alloc, from_ref(told.entry()), &[]);
     }
     let entries = entries_in(alloc, beginning)?;
     let closing = handles_of(alloc, beginning)?;
@@ -55,7 +56,7 @@ fn settled_opens(
     match opens {
         Opens::OnFound { beginning, .. } => settled_begun(tables, alloc, beginning),
         Opens::Creating { object, .. } => {
-            let entries = std::slice::from_ref(object.creation.entry());
+            let entries = from_ref(object.creation.entry());
             settle(tables, alloc, entries, &[])
         }
         Opens::Replacing { replacement, .. } => {
@@ -83,6 +84,7 @@ pub(crate) fn settled(
     moves_are_settled();
     match doing {
         Doing::Begins(beginning) => settled_begun(tables, alloc, beginning),
+        Doing::BeginsWith(beginning) => settled_begun(tables, alloc, from_ref(beginning)),
         Doing::Leaves { beginning, .. } => settled_begun(tables, alloc, beginning),
         Doing::Opens(opens) => settled_opens(tables, alloc, opens),
         _ => Ok(Vec::new(alloc)),

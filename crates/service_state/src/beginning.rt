@@ -30,8 +30,8 @@ impl Tables {
         self.handles.handles_are_placed();
     }
 
-    // One of the steps that an event begins with.
-    fn begin(&mut self, beginning: Beginning)
+    /// One step that an event begins with.
+    pub fn begin(&mut self, beginning: Beginning)
         requires { AreReady (beginning ∷ []) self.old }
         ensures moves { Moves (moves_of beginning) self.old self.new }
         ensures ready { LeavesReady beginning self.old self.new }

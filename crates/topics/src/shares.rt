@@ -36,6 +36,16 @@ impl Shares {
         Ok(Shares { entry, made })
     }
 
+    /// A record, and no share of it. It takes no memory.
+    pub fn alone(entry: Entry) -> Shares
+        ensures { result ≡ record { entry = entry; count = 0 } }
+    {
+        Shares {
+            entry,
+            made: Made::Nothing,
+        }
+    }
+
     /// The record.
     pub fn entry(&self) -> &Entry
         ensures { result.now ≡ self.now.entry }

@@ -8,10 +8,10 @@ use Rattle.open_handles.proofs.Offers.{room_mid, both_offered, both_room}
 use Rattle.open_handles.proofs.handles.Handles.offer.Goals as goal
 
 pub offer_at-requires-2-clause-room : goal.offer_at-requires-2-clause-room
-offer_at-requires-2-clause-room c = room_mid c.args.self.now c.offer_at.new.self c.args.told.entry c.told.inside.for_directory.entry (FoundDirectory c.new-directory.result) (c.told.invariant ∙ ap (λ (t : Shared). t.entry) c.told.view_is) (c.offer_at.ensures.others (FoundDirectory c.new-directory.result) (λ bad. cc)) c.requires.room
+offer_at-requires-2-clause-room c = room_mid c.args.self.now c.offer_at.new.self c.args.told.entry c.alone.result.entry (FoundDirectory c.new-directory.result) (ap (λ (t : Shared). t.entry) c.alone.ensures ∙ c.told.invariant ∙ ap (λ (t : Shared). t.entry) c.told.view_is) (c.offer_at.ensures.others (FoundDirectory c.new-directory.result) (λ bad. cc)) c.requires.room
 
 pub returns-clause-handles : goal.returns-clause-handles
-returns-clause-handles c = both_offered c.args.self.now c.offer_at.new.self c.offer_at-2.new.self (subst IsWhole c.self.view_is c.self.invariant) (c.offer_at-2.ensures.rows ∙ c.offer_at.ensures.rows) c.args.told.entry c.told.inside.for_object.entry c.told.inside.for_directory.entry c.record.result.now.object c.new-directory.result (ap (λ (t : Shared). t.entry) c.told.view_is) (c.told.invariant ∙ ap (λ (t : Shared). t.entry) c.told.view_is) (ap (λ (r : Record). r.object) (c.record.ensures ∙ ap (λ (e : Entry). e.record_of) (c.entry.ensures ∙ (ap (λ (t : Shared). t.entry) c.told.view_is)))) (c.new-directory.ensures ∙ c.directory.ensures ∙ ap (λ (e : Entry). e.directory) (c.entry-2.ensures ∙ (c.told.invariant ∙ ap (λ (t : Shared). t.entry) c.told.view_is))) c.offer_at.ensures.handles c.offer_at.ensures.others c.offer_at-2.ensures.handles c.offer_at-2.ensures.others
+returns-clause-handles c = both_offered c.args.self.now c.offer_at.new.self c.offer_at-2.new.self (subst IsWhole c.self.view_is c.self.invariant) (c.offer_at-2.ensures.rows ∙ c.offer_at.ensures.rows) c.args.told.entry c.told.inside.for_object.entry c.alone.result.entry c.record.result.now.object c.new-directory.result (ap (λ (t : Shared). t.entry) c.told.view_is) (ap (λ (t : Shared). t.entry) c.alone.ensures ∙ c.told.invariant ∙ ap (λ (t : Shared). t.entry) c.told.view_is) (ap (λ (r : Record). r.object) (c.record.ensures ∙ ap (λ (e : Entry). e.record_of) (c.entry.ensures ∙ (ap (λ (t : Shared). t.entry) c.told.view_is)))) (c.new-directory.ensures ∙ c.directory.ensures ∙ ap (λ (e : Entry). e.directory) (c.told.invariant ∙ ap (λ (t : Shared). t.entry) c.told.view_is)) c.offer_at.ensures.handles c.offer_at.ensures.others c.offer_at-2.ensures.handles c.offer_at-2.ensures.others
 
 pub returns-clause-records : goal.returns-clause-records
-returns-clause-records c = both_room c.args.self.now c.offer_at.new.self c.offer_at-2.new.self (subst IsWhole c.self.view_is c.self.invariant) (c.offer_at-2.ensures.rows ∙ c.offer_at.ensures.rows) c.args.told.entry c.told.inside.for_object.entry c.told.inside.for_directory.entry c.record.result.now.object c.new-directory.result (ap (λ (t : Shared). t.entry) c.told.view_is) (c.told.invariant ∙ ap (λ (t : Shared). t.entry) c.told.view_is) (ap (λ (r : Record). r.object) (c.record.ensures ∙ ap (λ (e : Entry). e.record_of) (c.entry.ensures ∙ (ap (λ (t : Shared). t.entry) c.told.view_is)))) (c.new-directory.ensures ∙ c.directory.ensures ∙ ap (λ (e : Entry). e.directory) (c.entry-2.ensures ∙ (c.told.invariant ∙ ap (λ (t : Shared). t.entry) c.told.view_is))) c.offer_at.ensures.handles c.offer_at.ensures.others c.offer_at-2.ensures.handles c.offer_at-2.ensures.others c.offer_at.ensures.records c.offer_at-2.ensures.records
+returns-clause-records c = both_room c.args.self.now c.offer_at.new.self c.offer_at-2.new.self (subst IsWhole c.self.view_is c.self.invariant) (c.offer_at-2.ensures.rows ∙ c.offer_at.ensures.rows) c.args.told.entry c.told.inside.for_object.entry c.alone.result.entry c.record.result.now.object c.new-directory.result (ap (λ (t : Shared). t.entry) c.told.view_is) (ap (λ (t : Shared). t.entry) c.alone.ensures ∙ c.told.invariant ∙ ap (λ (t : Shared). t.entry) c.told.view_is) (ap (λ (r : Record). r.object) (c.record.ensures ∙ ap (λ (e : Entry). e.record_of) (c.entry.ensures ∙ (ap (λ (t : Shared). t.entry) c.told.view_is)))) (c.new-directory.ensures ∙ c.directory.ensures ∙ ap (λ (e : Entry). e.directory) (c.told.invariant ∙ ap (λ (t : Shared). t.entry) c.told.view_is)) c.offer_at.ensures.handles c.offer_at.ensures.others c.offer_at-2.ensures.handles c.offer_at-2.ensures.others c.offer_at.ensures.records c.offer_at-2.ensures.records
