@@ -1,5 +1,5 @@
 -- What an edit at a number's place does where numbers rise, in the words of the plan.
-use Rattle.std.proofs.Common.{◌≡◌, ℕ, zero, suc, ◌<◌, List, [], ◌∷◌, ◌++◌, ◌==◌, length, map, get_or, set, refl, subst, sym, arith, ◌∙◌}
+use Rattle.std.proofs.Common.{◌≡◌, ℕ, zero, suc, ◌<◌, Bool, true, false, cond, List, [], ◌∷◌, ◌++◌, ◌==◌, length, map, find, get_or, set, Some, None, refl, ap, subst, sym, arith, ◌∙◌}
 use Rattle.std.specs.List.{AllByRecursion, remove}
 use Rattle.std.proofs.lemmas.Bool.Decides.{nat_tests}
 use Rattle.pps_types.specs.Plan.{on_first, without_first}
@@ -68,6 +68,43 @@ module _ {X : Type 0} (number : X → ℕ) where
   pub rising_push : (xs : List X) (x : X) → IsRising number xs → AllByRecursion (λ y. number y < number x) xs → IsRising number (xs ++ x ∷ [])
   rising_push [] x rising below = (tt, tt)
   rising_push (y ∷ ys) x rising below = (above_push (number y) ys x rising.0 below.0, rising_push ys x rising.1 below.1)
+
+-- what holds of a list, and of the list once any one of it has changed, holds once the first that passes has
+pub on_first_keeps : {X : Type 0} (test : X → Bool) (change : X → X) (K : List X → Type 0) (xs : List X) → K xs → ((k : ℕ) (d : X) → k < length xs → K (set xs k (change (get_or xs k d)))) → K (on_first test change xs)
+on_first_keeps test change K [] here each = here
+on_first_keeps test change K (x ∷ xs) here each =
+    elim (test x) as (λ b. K (cond b (change x ∷ xs) (x ∷ on_first test change xs)))
+    [ true ↦ each zero x (omega arith) | false ↦ on_first_keeps test change (λ ys. K (x ∷ ys)) xs here (λ k d lt. each (suc k) d (omega (arith, lt))) ]
+
+-- the same where one is taken out
+pub without_first_keeps : {X : Type 0} (test : X → Bool) (K : List X → Type 0) (xs : List X) → K xs → ((k : ℕ) → k < length xs → K (remove xs k)) → K (without_first test xs)
+without_first_keeps test K [] here each = here
+without_first_keeps test K (x ∷ xs) here each =
+    elim (test x) as (λ b. K (cond b xs (x ∷ without_first test xs)))
+    [ true ↦ each zero (omega arith) | false ↦ without_first_keeps test (λ ys. K (x ∷ ys)) xs here (λ k lt. each (suc k) (omega (arith, lt))) ]
+
+-- the first that passes has a place, and is the one that is taken out
+pub record IsFirst {X : Type 0} (test : X → Bool) (xs : List X) (x : X) (k : ℕ) : Type 0 where
+  pub within : k < length xs
+  pub is : (d : X) → x ≡ get_or xs k d
+  pub rest : without_first test xs ≡ remove xs k
+
+pub first_at : {X : Type 0} (test : X → Bool) (xs : List X) (x : X) → Some x ≡ find test xs → (k : ℕ) × IsFirst test xs x k
+first_at test [] x found = absurd cc
+first_at test (y ∷ ys) x found = by (test y) refl (λ e. first_at test ys x e) found
+  where
+    by : (b : Bool) → test y ≡ b → (Some x ≡ find test ys → (k : ℕ) × IsFirst test ys x k) → Some x ≡ cond b (Some y) (find test ys) → (k : ℕ) × IsFirst test (y ∷ ys) x k
+    by true is later found = (zero, record { within = omega arith; is = λ d. cc; rest = ap (λ b. cond b ys (y ∷ without_first test ys)) is })
+    by false is later found =
+        let rest = later found in
+        (suc rest.0, record { within = omega (arith, rest.1.within); is = rest.1.is; rest = ap (λ b. cond b ys (y ∷ without_first test ys)) is ∙ ap (λ zs. y ∷ zs) rest.1.rest })
+
+-- where none passes, none is taken out
+pub none_first : {X : Type 0} (test : X → Bool) (xs : List X) → None ≡ find test xs → without_first test xs ≡ xs
+none_first test [] none = refl
+none_first test (x ∷ xs) none =
+    elim (test x) as (λ b. None ≡ cond b (Some x) (find test xs) → cond b xs (x ∷ without_first test xs) ≡ x ∷ xs)
+    [ true ↦ (λ none. absurd cc) | false ↦ (λ none. ap (λ ys. x ∷ ys) (none_first test xs none)) ] none
 
 -- where something tells the same numbers, they stand at the same places
 module _ {X Y : Type 0} (number : X → ℕ) (told : Y → ℕ) (see : X → Y) (same : (x : X) → told (see x) ≡ number x) where

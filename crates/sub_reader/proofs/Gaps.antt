@@ -9,7 +9,8 @@ use Rattle.sub_reader.specs.declared.row.HandleRow.{HandleRow}
 use Rattle.sub_reader.specs.declared.row.Slot.{Slot}
 use Rattle.sub_reader.specs.declared.row.Slot.TheVariants.{Row, Gap}
 use Rattle.sub_reader.specs.Rows.{number_at, number_in, is_row, row_of, row_at, rows_in, rank, on_row, changed_at, ends_in_row, EndsInRow, IsAbsent, IsSound, most_handles}
-use Rattle.sub_reader.proofs.Edits.{rising_set, rising_push}
+use Rattle.pps_types.specs.Plan.{on_first}
+use Rattle.sub_reader.proofs.Edits.{rising_set, rising_push, change_place}
 
 -- what there is
 pub some_of : {X : Type 0} (o : Option X) → IsSome o → (x : X) × (Some x ≡ o)
@@ -139,6 +140,13 @@ module _ {P : Type 0} where
   rows_set (Gap m ∷ ss) zero change s d some = absurd (false≢true some)
   rows_set (Row r ∷ ss) (suc i) change s d some = ap (λ rs. r ∷ rs) (rows_set ss i change s d some)
   rows_set (Gap m ∷ ss) (suc i) change s d some = rows_set ss i change s d some
+
+  -- the handle of a number changes, which is at a place
+  pub rows_numbered : (ss : List (Slot P)) (i n : ℕ) (change : HandleRow P → HandleRow P) (s t : Slot P) → t ≡ on_row change (get_or ss i s) → IsSome (row_at i ss) → IsPlaceOf number_in (rows_in ss) n (rank i ss)
+      → rows_in (set ss i t) ≡ on_first (λ r. number_in r == n) change (rows_in ss)
+  rows_numbered ss i n change s t is some place =
+      let d = (some_of (row_at i ss) some).0 in
+      ap (λ x. rows_in (set ss i x)) is ∙ rows_set ss i change s d some ∙ sym (change_place number_in change n (rows_in ss) (rank i ss) d place)
 
   -- where there is no handle at a place, or one that stays as it is, nothing changes
   pub set_gap : (ss : List (Slot P)) (i : ℕ) (change : HandleRow P → HandleRow P) (d : Slot P) → row_at i ss ≡ None → ss ≡ set ss i (on_row change (get_or ss i d))

@@ -10,9 +10,9 @@ use Rattle.pps_types.specs.declared.handle_kind.HandleKind.{HandleKind}
 use Rattle.pps_types.specs.History.{Entry}
 use Rattle.pps_types.specs.Reading.{OpenHandle, is_directory_kind, is_delta_style, is_full_style, style}
 use Rattle.pps_types.specs.Rests.{Progress}
-use Rattle.pps_types.specs.Plan.{offer, on_numbered, without_number}
+use Rattle.pps_types.specs.Plan.{offer, on_numbered}
 use Rattle.pps_types.specs.Owed.{in_chain, is_of, same_flag, rest_seen, longest}
-use Rattle.pps_types.proofs.Lists.{all-push, map-without_first}
+use Rattle.pps_types.proofs.Lists.{all-push}
 use Rattle.pps_types.specs.Rising.{IsRising, IsPlaceOf, IsGapFor}
 use Rattle.pps_types.proofs.RisingEdits.{rising_remove}
 use Rattle.sub_reader.specs.declared.place.Place.{Place}
@@ -25,7 +25,7 @@ use Rattle.sub_reader.specs.Rows.{number_in}
 use Rattle.sub_reader.specs.Standing.{IsLoose, IsTarget, room_of}
 use Rattle.sub_reader.proofs.Offered.{reader-offered, reader-other}
 use Rattle.sub_reader.proofs.Tallies.{all-at, all-set, cut-is, cut-seen, uncounted-length, uncounted-at}
-use Rattle.sub_reader.proofs.Edits.{change_gap, without_gap, change_place, without_place, rising_map, rising_set, rising_push, place_map, gap_map}
+use Rattle.sub_reader.proofs.Edits.{change_gap, change_place, rising_map, rising_set, rising_push, place_map, gap_map}
 
 -- ---- the cut
 
@@ -237,14 +237,6 @@ module _ (d : Bool) (t : ℕ) (name : List ℕ) (start : ℕ) (entries : List En
   same-nowhere number k change gap = sym (change_gap (λ (h : OpenHandle Progress). h.number) change number (map see readers) k (gap_map number_in (λ (h : OpenHandle Progress). h.number) see (λ x. refl) number readers k gap))
 
   -- ---- one handle leaves
-
-  pub gone-seen : (number k : ℕ) (ss : List Reader) → ss ≡ remove readers k → IsPlaceOf number_in readers number k → map see ss ≡ without_number number (map see readers)
-  gone-seen number k ss are place =
-      ap (map see) (are ∙ sym (without_place number_in number readers k place))
-      ∙ map-without_first see (λ (x : Reader). eqb x.opening.number number) (λ (h : OpenHandle Progress). eqb h.number number) (λ x. refl) readers
-
-  pub gone-nowhere : (number k : ℕ) → IsGapFor number_in readers number k → map see readers ≡ without_number number (map see readers)
-  gone-nowhere number k gap = sym (without_gap (λ (h : OpenHandle Progress). h.number) number (map see readers) k (gap_map number_in (λ (h : OpenHandle Progress). h.number) see (λ x. refl) number readers k gap))
 
   module _ (k : ℕ) (s : Reader) (lt : k < length readers) where
     gone-agree : (cs : List ℕ) → cs ≡ uncounted start (get_or readers k s).progress counts → IsCounted start (remove readers k) cs

@@ -1,8 +1,10 @@
 -- The handles on an object or a directory in rising number, and the gaps that closed ones leave among them.
-use Rattle.std.specs.Prelude.{◌≡◌, ℕ, zero, suc, ◌+◌, ◌*◌, ◌-◌, ◌<◌, ◌≤◌, ◌^◌, Bool, true, false, List, [], ◌∷◌, length, min, Option, Some, None, IsSome, slice_set, slice_index_or}
+use Rattle.std.specs.Prelude.{◌≡◌, ℕ, zero, suc, ◌+◌, ◌*◌, ◌-◌, ◌<◌, ◌≤◌, ◌^◌, Bool, true, false, List, [], ◌∷◌, length, min, find, ◌==◌, Option, Some, None, IsSome, option_and_then, slice_set, slice_index_or}
 use Rattle.std.specs.List.{AllByRecursion}
 use Rattle.std.specs.Option.{option_map}
+use Rattle.pps_types.specs.Plan.{on_first, without_first}
 use Rattle.pps_types.specs.Rising.{IsRising, IsGapFor, IsPlaceOf}
+use Rattle.sub_reader.specs.declared.opening.Opening.{Opening}
 use Rattle.sub_reader.specs.declared.opening.Pulse.{Pulse}
 use Rattle.sub_reader.specs.declared.row.HandleRow.{HandleRow}
 use Rattle.sub_reader.specs.declared.row.Slot.{Slot}
@@ -143,6 +145,30 @@ module _ {P : Type 0} where
   -- it is the handle of a number, alone
   abbrev pub IsRowOf : ℕ → Rows P → ℕ → Type 0
   IsRowOf number rows place = IsPlaceOf number_in (rows_of rows) number (rank place rows.slots)
+
+  -- the handle of a number, if it is open
+  abbrev pub row_numbered : ℕ → Rows P → Option (HandleRow P)
+  row_numbered number rows = find (λ r. number_in r == number) (rows_of rows)
+
+  -- what its open fixed
+  abbrev pub opening_of : ℕ → Rows P → Option Opening
+  opening_of number rows = option_map (λ r. r.opening) (row_numbered number rows)
+
+  -- the size of the read that waits on it
+  abbrev pub parked_of : ℕ → Rows P → Option ℕ
+  parked_of number rows = option_and_then (λ r. r.parked) (row_numbered number rows)
+
+  -- the pulse that waits on it
+  abbrev pub armed_of : ℕ → Rows P → Option Pulse
+  armed_of number rows = option_and_then (λ r. r.armed) (row_numbered number rows)
+
+  -- just the handle of a number, if it is open, is changed
+  abbrev pub IsChangedOf : ℕ → (HandleRow P → HandleRow P) → Rows P → Rows P → Type 0
+  IsChangedOf number change old new = rows_of new ≡ on_first (λ r. number_in r == number) change (rows_of old)
+
+  -- just the handle of a number, if it is open, is gone
+  abbrev pub IsWithout : ℕ → Rows P → Rows P → Type 0
+  IsWithout number old new = rows_of new ≡ without_first (λ r. number_in r == number) (rows_of old)
 
   -- just the handle at a place is changed
   abbrev pub IsChangedAt : ℕ → (HandleRow P → HandleRow P) → Rows P → Rows P → Type 0

@@ -1,11 +1,14 @@
 //! One handle on an object or a directory, and its slot among the others.
-ghost use Rattle.std.specs.Prelude.{◌≡◌, Some, IsSome};
+ghost use Rattle.std.specs.Prelude.{◌≡◌, ◌↔◌, Some, IsSome, IsTrue, IfOk, IfErr};
 ghost use Rattle.std.specs.Borrow.{Lends, sem};
+ghost use Rattle.pps_types.specs.declared.refusal.Refusal.TheVariants.{OutOfMemory};
+ghost use Rattle.sub_reader.specs.Alike.{row_told, IsCopyOf};
 ghost use Rattle.sub_reader.specs.Rows.{row_of, progress_of, slot_with_progress};
 ghost use Rattle.sub_reader.specs.contracts.row.Slot.{the_row};
 
 use crate::opening::{Opening, Pulse};
-use pps_types::Handle;
+use crate::progress::Progress;
+use pps_types::{Handle, Refusal};
 
 /// A handle: what its open fixed, how far it has read, and what waits on it.
 #[derive(Drop)]
@@ -17,6 +20,34 @@ pub struct HandleRow<P> {
     pub parked: Option<u32>,
     /// The pulse that waits.
     pub armed: Option<Pulse>,
+}
+
+impl<P: Progress> HandleRow<P> {
+    /// The same handle once more, without room.
+    pub(crate) fn copy(&self) -> Result<HandleRow<P>, Refusal>
+        ensures ok { IfOk result (IsCopyOf P.told self.now) }
+        ensures err { IfErr result (λ r. r ≡ OutOfMemory) }
+    {
+        let opening = self.opening.copy()?;
+        let progress = self.progress.copied()?;
+        Ok(HandleRow {
+            opening,
+            progress,
+            parked: self.parked,
+            armed: self.armed,
+        })
+    }
+
+    /// Whether the same stands of both, each told from where its records begin. It takes no memory.
+    pub(crate) fn same_from(&self, start: u64, other: &HandleRow<P>, other_start: u64) -> bool
+        ensures { IsTrue result
+            ↔ (row_told P.told start self.now ≡ row_told P.told other_start other.now) }
+    {
+        self.parked == other.parked
+            && self.armed == other.armed
+            && self.opening.same(&other.opening)
+            && self.progress.same_from(start, &other.progress, other_start)
+    }
 }
 
 /// A place among rows: a handle, or the number of one that has closed.

@@ -2,19 +2,20 @@
 ghost use Rattle.std.specs.Prelude.{◌≡◌, ◌==◌, ◌<◌, ◌≤◌, ◌+◌, ◌++◌, ◌∷◌, ◌↔◌, [], find, length};
 ghost use Rattle.std.specs.Prelude.{IfSome, IfNone, IfOk, IsTrue, OnOk, OnErr};
 ghost use Rattle.std.specs.Option.{option_copied};
-ghost use Rattle.std.specs.List.{remove};
-ghost use Rattle.sub_reader.specs.Rows.{number_in, row_at, rows_of, rank, most_handles};
+ghost use Rattle.sub_reader.specs.Rows.{number_in, row_at, rows_of, row_numbered, most_handles};
 ghost use Rattle.sub_reader.specs.Rows.{with_progress, parked_with, armed_with};
+ghost use Rattle.sub_reader.specs.Rows.{opening_of, parked_of, armed_of};
 ghost use Rattle.sub_reader.specs.Rows.{HasRowAt, IsRowAt, IsRowOf, IsAbsent, IsAbove};
-ghost use Rattle.sub_reader.specs.Rows.{IsChangedAt, IsSlotChangedAt};
+ghost use Rattle.sub_reader.specs.Rows.{IsChangedOf, IsChangedAt, IsSlotChangedAt, IsWithout};
 
-use crate::opening::Pulse;
+use crate::opening::{Opening, Pulse};
+use crate::progress::Progress;
 use crate::row::{HandleRow, Slot};
 use crate::slots::{
-    arm_in, compact_if_sparse, end_of_rows, find_row, known_row, park_in, progress_in, row_of,
-    take_row,
+    arm_in, compact_if_sparse, end_of_rows, find_row, first_row, known_row, park_in, progress_in,
+    row_of, take_row,
 };
-use pps_types::Handle;
+use pps_types::{Handle, Refusal};
 use std::alloc::{AllocError, Global};
 use std::marker::Model;
 
@@ -159,22 +160,56 @@ impl<P> HandleRows<P> {
         known_row(slot)
     }
 
-    /// A read of that size waits on the handle at a place, or none any more. It takes no memory.
-    pub fn park(&mut self, place: usize, size: Option<u32>)
-        requires { HasRowAt place self.old }
-        ensures rows { IsChangedAt place (parked_with size) self.old self.new }
+    /// What the open of a handle fixed, if it is open.
+    pub fn opening(&self, number: Handle) -> Option<&Opening>
+        ensures { option_copied result ≡ opening_of number self.now }
+    {
+        match self.get(number) {
+            None => None,
+            Some(row) => Some(&row.opening),
+        }
+    }
+
+    /// The size of the read that waits on a handle, if one does.
+    pub fn parked(&self, number: Handle) -> Option<u32>
+        ensures { result ≡ parked_of number self.now }
+    {
+        match self.get(number) {
+            None => None,
+            Some(row) => row.parked,
+        }
+    }
+
+    /// The pulse that waits on a handle, if one does.
+    pub fn armed(&self, number: Handle) -> Option<Pulse>
+        ensures { result ≡ armed_of number self.now }
+    {
+        match self.get(number) {
+            None => None,
+            Some(row) => row.armed,
+        }
+    }
+
+    /// A read of that size waits on a handle, or none any more. It takes no memory.
+    pub fn park(&mut self, number: Handle, size: Option<u32>)
+        ensures rows { IsChangedOf number (parked_with size) self.old self.new }
         ensures places { self.new.places ≡ self.old.places }
     {
+        let Some(place) = self.find(number) else {
+            return;
+        };
         let slot = &mut self.slots[place];
         park_in(slot, size);
     }
 
-    /// A pulse waits on the handle at a place, or none any more. It takes no memory.
-    pub fn arm(&mut self, place: usize, pulse: Option<Pulse>)
-        requires { HasRowAt place self.old }
-        ensures rows { IsChangedAt place (armed_with pulse) self.old self.new }
+    /// A pulse waits on a handle, or none any more. It takes no memory.
+    pub fn arm(&mut self, number: Handle, pulse: Option<Pulse>)
+        ensures rows { IsChangedOf number (armed_with pulse) self.old self.new }
         ensures places { self.new.places ≡ self.old.places }
     {
+        let Some(place) = self.find(number) else {
+            return;
+        };
         let slot = &mut self.slots[place];
         arm_in(slot, pulse);
     }
@@ -209,19 +244,64 @@ impl<P: Drop> HandleRows<P> {
         progress_in(slot, progress);
     }
 
-    /// Takes out the handle at a place, which closes. It takes no memory.
-    pub fn take(&mut self, place: usize) -> HandleRow<P>
-        requires { HasRowAt place self.old }
-        ensures row { IsRowAt place self.old result }
-        ensures rows { rows_of self.new ≡ remove (rows_of self.old) (rank place self.old.slots) }
+    /// Takes out a handle, which closes, if it is open. It takes no memory.
+    pub fn take(&mut self, number: Handle) -> Option<HandleRow<P>>
+        ensures row { result ≡ row_numbered number self.old }
+        ensures rows { IsWithout number self.old self.new }
         ensures places { self.old.places ≤ self.new.places }
     {
+        let Some(place) = self.find(number) else {
+            return None;
+        };
         let slot = &mut self.slots[place];
         let row = take_row(slot);
         self.count -= 1;
         let end = end_of_rows(&self.slots);
         self.slots.truncate(end);
         compact_if_sparse(&mut self.slots, self.count);
-        row
+        Some(row)
+    }
+}
+
+impl<P: Progress> HandleRows<P> {
+    ghost use Rattle.std.specs.Prelude.{IfErr};
+    ghost use Rattle.pps_types.specs.declared.refusal.Refusal.TheVariants.{OutOfMemory};
+    ghost use Rattle.sub_reader.specs.Alike.{rows_told, AreCopiesOf};
+
+    /// The same handles once more, without room.
+    ///
+    /// OutOfMemory is the only error.
+    pub fn copy(&self) -> Result<HandleRows<P>, Refusal>
+        ensures ok { IfOk result (AreCopiesOf P.told self.now) }
+        ensures err { IfErr result (λ r. r ≡ OutOfMemory) }
+    {
+        let mut copy = HandleRows::with_places(*self.slots.allocator(), self.len())?;
+        let mut rest = self.slots();
+        while let Some(first) = first_row(rest) {
+            let row = first.row.copy()?;
+            copy.push_reserved(row);
+            rest = first.behind;
+        }
+        Ok(copy)
+    }
+
+    /// Whether the same stands of both, one by one, each told from where its records begin. It takes no memory.
+    pub fn same_from(&self, start: u64, other: &HandleRows<P>, other_start: u64) -> bool
+        ensures { IsTrue result
+            ↔ (rows_told P.told start self.now ≡ rows_told P.told other_start other.now) }
+    {
+        let mut ours = self.slots();
+        let mut theirs = other.slots();
+        while let Some(our) = first_row(ours) {
+            let Some(their) = first_row(theirs) else {
+                return false;
+            };
+            if !our.row.same_from(start, their.row, other_start) {
+                return false;
+            }
+            ours = our.behind;
+            theirs = their.behind;
+        }
+        first_row(theirs).is_none()
     }
 }

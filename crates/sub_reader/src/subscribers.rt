@@ -13,7 +13,7 @@ ghost use Rattle.sub_reader.specs.HandleAt.{with_offered, with_caught_up, with_p
 ghost use Rattle.sub_reader.specs.Standing.{handles_with, AreSame};
 ghost use Rattle.sub_reader.specs.Woken.{woken_by};
 
-use crate::copies::{copy_all, copy_records, same_all, same_records};
+use crate::copies::{copy_records, same_records};
 use crate::counts::{leave, offer_each, put};
 use crate::cut::cut;
 use crate::glance::{Glance, glance_at};
@@ -251,10 +251,7 @@ impl Subscribers {
         ensures room { self.new.room ≡ self.old.room }
         ensures places { self.new.places ≡ self.old.places }
     {
-        let Some(place) = self.rows.find(number) else {
-            return;
-        };
-        self.rows.park(place, size);
+        self.rows.park(number, size);
     }
 
     /// A pulse waits on a handle, or none any more. It takes no memory.
@@ -266,10 +263,7 @@ impl Subscribers {
         ensures room { self.new.room ≡ self.old.room }
         ensures places { self.new.places ≡ self.old.places }
     {
-        let Some(place) = self.rows.find(number) else {
-            return;
-        };
-        self.rows.arm(place, pulse);
+        self.rows.arm(number, pulse);
     }
 
     /// Closes a handle. It takes no memory.
@@ -280,10 +274,9 @@ impl Subscribers {
         ensures room { self.old.room ≤ self.new.room }
         ensures places { self.old.places ≤ self.new.places }
     {
-        let Some(place) = self.rows.find(number) else {
+        let Some(row) = self.rows.take(number) else {
             return;
         };
-        let row = self.rows.take(place);
         let start = self.records.start();
         leave(&mut self.counts, start, row.progress);
         cut(&mut self.records, &mut self.counts);
@@ -293,10 +286,7 @@ impl Subscribers {
     pub fn opening(&self, number: Handle) -> Option<&Opening>
         ensures { IsOpeningAt number (number_of self.now.of) self.now.name self.now.handles result }
     {
-        match self.rows.get(number) {
-            None => None,
-            Some(reader) => Some(&reader.opening),
-        }
+        self.rows.opening(number)
     }
 
     /// What is seen of a handle, where it is here.
@@ -313,20 +303,14 @@ impl Subscribers {
     pub fn parked(&self, number: Handle) -> Option<u32>
         ensures { result ≡ parked_at number self.now.handles }
     {
-        match self.rows.get(number) {
-            None => None,
-            Some(reader) => reader.parked,
-        }
+        self.rows.parked(number)
     }
 
     /// The pulse that is armed on a handle, if one is.
     pub fn armed(&self, number: Handle) -> Option<Pulse>
         ensures { armed_pulse result ≡ armed_at number self.now.handles }
     {
-        match self.rows.get(number) {
-            None => None,
-            Some(reader) => reader.armed,
-        }
+        self.rows.armed(number)
     }
 
     /// The name of the object, and none of a directory.
@@ -428,6 +412,7 @@ impl Subscribers {
     /// The same target with the same handles, without room.
     ///
     /// OutOfMemory is the only error.
+    #[tactic(auto, using(crate::proofs::Copying::copied_rows))]
     pub fn copy(&self) -> Result<Subscribers, Refusal>
         ensures of { IfOk result (λ copy. copy.of ≡ self.now.of) }
         ensures name { IfOk result (λ copy. copy.name ≡ self.now.name) }
@@ -439,7 +424,7 @@ impl Subscribers {
         let name = self.name.copy()?;
         let records = copy_records(alloc, &self.records)?;
         let counts = self.counts.clone()?;
-        let rows = copy_all(alloc, &self.rows)?;
+        let rows = self.rows.copy()?;
         Ok(Subscribers {
             of: self.of,
             name,
@@ -459,11 +444,8 @@ impl Subscribers {
         if !same_records(&self.records, &other.records) {
             return false;
         }
-        same_all(
-            self.rows.slots(),
-            self.records.start(),
-            other.rows.slots(),
-            other.records.start(),
-        )
+        let start = self.records.start();
+        let other_start = other.records.start();
+        self.rows.same_from(start, &other.rows, other_start)
     }
 }

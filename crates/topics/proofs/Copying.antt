@@ -1,18 +1,19 @@
 -- Copies of handles: what stands of each, and what a handle is.
-use Rattle.std.proofs.Common.{◌≡◌, ◌<◌, ℕ, Bool, List, [], ◌∷◌, ◌++◌, map, refl, sym, ap, subst, ◌∙◌, None}
+use Rattle.std.proofs.Common.{◌≡◌, ℕ, Bool, List, [], ◌∷◌, map, refl, sym, ap, subst, ◌∙◌, None}
 use Rattle.std.specs.List.{AllByRecursion, AllZip}
 use Rattle.pps_types.specs.History.{Entry}
 use Rattle.pps_types.specs.Reading.{OpenHandle, reseen, style}
 use Rattle.pps_types.specs.Rests.{Progress, Owed}
-use Rattle.pps_types.specs.Rising.{IsRising, AllAbove}
 use Rattle.sub_reader.specs.declared.opening.Opening.{Opening}
 use Rattle.sub_reader.specs.Opened.{opened, armed_pulse}
 use Rattle.sub_reader.proofs.Alike.{armed-is, opening-is}
-use Rattle.sub_reader.proofs.Copying.{rising-before}
-use Rattle.topics.specs.Held.{Held, held_of}
-use Rattle.sub_reader.specs.Rows.{number_in}
+use Rattle.sub_reader.specs.Alike.{queue_from, row_told}
 use Rattle.topics.specs.QueueRows.{QueueRow, handle_of, IsFor, IsRowOn, IsService}
 use Rattle.topics.proofs.Openings.{service-is}
+
+-- what stands of a handle
+abbrev held_of : QueueRow → QueueRow
+held_of x = row_told queue_from 0 x
 
 cons_first : {X : Type 0} (x y : X) (xs ys : List X) → x ∷ xs ≡ y ∷ ys → x ≡ y
 cons_first x y xs ys same = cc
@@ -26,32 +27,10 @@ same_head x y xs ys same = cons_first (held_of x) (held_of y) (map held_of xs) (
 same_tail : (x y : QueueRow) (xs ys : List QueueRow) → map held_of (x ∷ xs) ≡ map held_of (y ∷ ys) → map held_of xs ≡ map held_of ys
 same_tail x y xs ys same = cons_rest (held_of x) (held_of y) (map held_of xs) (map held_of ys) same
 
--- ---- handles that hold the same as those so far are below the next one
-
-told-above : (n : ℕ) (xs : List QueueRow) → AllAbove number_in n xs → AllAbove (λ (s : Held). s.opening.number) n (map held_of xs)
-told-above n [] above = tt
-told-above n (x ∷ xs) above = (above.0, told-above n xs above.1)
-
-told-rising : (xs : List QueueRow) → IsRising number_in xs → IsRising (λ (s : Held). s.opening.number) (map held_of xs)
-told-rising [] rising = tt
-told-rising (x ∷ xs) rising = (told-above (number_in x) xs rising.0, told-rising xs rising.1)
-
-told-below : (n : ℕ) (xs : List QueueRow) → AllByRecursion (λ (s : Held). s.opening.number < n) (map held_of xs) → AllByRecursion (λ (r : QueueRow). number_in r < n) xs
-told-below n [] below = tt
-told-below n (x ∷ xs) below = (below.0, told-below n xs below.1)
-
-pub copied-below : (xs done : List QueueRow) (first : QueueRow) (behind : List QueueRow) (copy : QueueRow) → IsRising number_in xs → map held_of xs ≡ map held_of done ++ held_of first ∷ map held_of behind → held_of copy ≡ held_of first
-    → AllByRecursion (λ (r : QueueRow). number_in r < number_in copy) done
-copied-below xs done first behind copy rising held same =
-    told-below (number_in copy) done
-    (subst (λ (s : Held). AllByRecursion (λ (t : Held). t.opening.number < s.opening.number) (map held_of done)) (sym same)
-    (rising-before (λ (s : Held). s.opening.number) (map held_of done) (map held_of behind) (held_of first)
-    (subst (IsRising (λ (s : Held). s.opening.number)) held (told-rising xs rising))))
-
 -- ---- what stands makes the handle
 
 held_handle : (object : ℕ) (name : List ℕ) (x y : QueueRow) → held_of x ≡ held_of y → handle_of object name x ≡ handle_of object name y
-held_handle object name x y same = ap (λ (s : Held). record (reseen (λ h. Owed s.owed) (opened object name s.opening)) { parked = s.parked; armed = armed_pulse s.armed }) same
+held_handle object name x y same = ap (λ (s : QueueRow). record (reseen (λ h. Owed s.progress.owed) (opened object name s.opening)) { parked = s.parked; armed = armed_pulse s.armed }) same
 
 pub held_handles : (object : ℕ) (name : List ℕ) (xs ys : List QueueRow) → map held_of xs ≡ map held_of ys → map (handle_of object name) xs ≡ map (handle_of object name) ys
 held_handles object name [] [] same = refl
@@ -71,7 +50,7 @@ handle_held object name x y is be same =
     let owed = owed_is x.progress.owed y.progress.owed (ap (λ (h : OpenHandle Progress). h.seen) same) in
     let parked = ap (λ (h : OpenHandle Progress). h.parked) same in
     let armed = armed-is x.armed y.armed (ap (λ (h : OpenHandle Progress). h.armed) same) in
-    λ i. record { opening = opening i; limit = limit i; owed = owed i; parked = parked i; armed = armed i }
+    λ i. record { opening = opening i; progress = record { limit = limit i; owed = owed i; room = 0; counters = 0 }; parked = parked i; armed = armed i }
 
 pub handles_held : (object : ℕ) (name : List ℕ) (xs ys : List QueueRow) → AllByRecursion (IsRowOn object) xs → AllByRecursion (IsRowOn object) ys → map (handle_of object name) xs ≡ map (handle_of object name) ys → map held_of xs ≡ map held_of ys
 handles_held object name [] [] all every same = refl
@@ -86,9 +65,9 @@ handles_held object name (x ∷ xs) (y ∷ ys) all every same =
 
 row_held : (object : ℕ) (x y : QueueRow) → held_of y ≡ held_of x → IsRowOn object x → IsRowOn object y
 row_held object x y same is = record {
-  kind = ap (λ (s : Held). style s.opening.kind) same ∙ is.kind;
-  limit = ap (λ (s : Held). s.limit) same ∙ is.limit ∙ sym (ap (λ (s : Held). s.opening.limit) same);
-  owed = subst (λ (s : Held). IsFor object s.opening s.owed) (sym same) is.owed;
+  kind = ap (λ (s : QueueRow). style s.opening.kind) same ∙ is.kind;
+  limit = ap (λ (s : QueueRow). s.progress.limit) same ∙ is.limit ∙ sym (ap (λ (s : QueueRow). s.opening.limit) same);
+  owed = subst (λ (s : QueueRow). IsFor object s.opening s.progress.owed) (sym same) is.owed;
 }
 
 held_each : (xs ys : List QueueRow) → map held_of ys ≡ map held_of xs → AllZip (λ x y. held_of y ≡ held_of x) xs ys
@@ -99,7 +78,7 @@ held_each (x ∷ xs) (y ∷ ys) same = (same_head y x ys xs same, held_each xs y
 
 pub service_held : (object : ℕ) (led : Bool) (xs ys : List QueueRow) → map held_of ys ≡ map held_of xs → IsService object led xs → IsService object led ys
 service_held object led xs ys same is =
-    service-is object (λ x y. held_of y ≡ held_of x) (λ x y alike. ap (λ (s : Held). s.opening) alike) (λ x y right alike. row_held object x y alike right) led xs ys is (held_each xs ys same)
+    service-is object (λ x y. held_of y ≡ held_of x) (λ x y alike. ap (λ (s : QueueRow). s.opening) alike) (λ x y right alike. row_held object x y alike right) led xs ys is (held_each xs ys same)
 
 pub renamed : (o p : ℕ) (n m : List ℕ) (xs : List QueueRow) (hs : List (OpenHandle Progress)) → o ≡ p → n ≡ m → map (handle_of p m) xs ≡ hs → map (handle_of o n) xs ≡ hs
 renamed o p n m xs hs number name same = (λ i. map (handle_of (number i) (name i)) xs) ∙ same

@@ -1,5 +1,5 @@
 -- What a move makes of the handles of a server object.
-use Rattle.std.proofs.Common.{◌≡◌, ℕ, zero, suc, ◌<◌, eqb, Bool, true, false, ◌&&◌, ◌||◌, arith, List, [], ◌∷◌, ◌++◌, length, map, set, get_or, refl, sym, ap, subst, ◌∙◌, Option, Some, None, IsSome}
+use Rattle.std.proofs.Common.{◌≡◌, ℕ, zero, suc, ◌<◌, ◌==◌, Bool, true, false, ◌&&◌, ◌||◌, arith, List, [], ◌∷◌, ◌++◌, length, map, set, get_or, refl, sym, ap, subst, ◌∙◌, Option, Some, None, IsSome}
 use Rattle.std.specs.Prelude.{option_map}
 use Rattle.std.specs.List.{AllByRecursion, remove}
 use Rattle.std.proofs.lemmas.List.{map-set, get_or-map}
@@ -10,11 +10,11 @@ use Rattle.pps_types.specs.Checks.{is_client}
 use Rattle.pps_types.specs.History.{Entry}
 use Rattle.pps_types.specs.Reading.{OpenHandle}
 use Rattle.pps_types.specs.Rests.{Progress}
-use Rattle.pps_types.specs.Plan.{on_numbered, without_number}
-use Rattle.pps_types.proofs.Lists.{all-push, map-without_first}
+use Rattle.pps_types.specs.Plan.{on_first, on_numbered, without_first}
+use Rattle.pps_types.proofs.Lists.{all-push}
 use Rattle.pps_types.specs.Rising.{IsPlaceOf, IsGapFor}
 use Rattle.pps_types.proofs.RisingEdits.{rising_remove}
-use Rattle.sub_reader.proofs.Edits.{change_gap, without_gap, change_place, without_place, rising_set, rising_push, place_map, gap_map}
+use Rattle.sub_reader.proofs.Edits.{change_gap, change_place, rising_set, rising_push, place_map, gap_map, on_first_keeps, without_first_keeps}
 use Rattle.sub_reader.proofs.Tallies.{all-at, all-set}
 use Rattle.sub_reader.specs.declared.opening.Opening.{Opening}
 use Rattle.server_queue.specs.Queued.{Queued}
@@ -44,16 +44,6 @@ module _ (object : ℕ) (name : List ℕ) (rows : List QueueRow) where
 
   pub same-nowhere : (number k : ℕ) (change : OpenHandle Progress → OpenHandle Progress) → IsGapFor number_in rows number k → map see rows ≡ on_numbered number change (map see rows)
   same-nowhere number k change gap = sym (change_gap (λ (h : OpenHandle Progress). h.number) change number (map see rows) k (gap_map number_in (λ (h : OpenHandle Progress). h.number) see (λ x. refl) number rows k gap))
-
-  -- ---- one handle leaves
-
-  pub gone-seen : (number k : ℕ) → IsPlaceOf number_in rows number k → map see (remove rows k) ≡ without_number number (map see rows)
-  gone-seen number k place =
-      ap (map see) (sym (without_place number_in number rows k place))
-      ∙ map-without_first see (λ (x : QueueRow). eqb x.opening.number number) (λ (h : OpenHandle Progress). eqb h.number number) (λ x. refl) rows
-
-  pub gone-nowhere : (number k : ℕ) → IsGapFor number_in rows number k → map see rows ≡ without_number number (map see rows)
-  gone-nowhere number k gap = sym (without_gap (λ (h : OpenHandle Progress). h.number) number (map see rows) k (gap_map number_in (λ (h : OpenHandle Progress). h.number) see (λ x. refl) number rows k gap))
 
 -- ---- what is always so
 
@@ -97,12 +87,18 @@ module _ (object : ℕ) (led : Bool) (rows : List QueueRow) (is : IsService obje
     clients = led-set led rows k x d lt same is.clients;
   }
 
-  pub gone-is : (k : ℕ) → IsService object led (remove rows k)
-  gone-is k = record {
+  -- something else waits on a handle
+  pub wait-is : (number : ℕ) (change : QueueRow → QueueRow) → ((x : QueueRow) → (change x).opening ≡ x.opening) → ((x : QueueRow) → IsRowOn object x → IsRowOn object (change x)) → IsService object led (on_first (λ x. number_in x == number) change rows)
+  wait-is number change same right =
+      on_first_keeps (λ x. number_in x == number) change (IsService object led) rows is
+      (λ k d lt. set-is k (change (get_or rows k d)) d lt (same (get_or rows k d)) (right (get_or rows k d) (all-at (IsRowOn object) rows k d is.each lt)))
+
+  pub gone-is : (number : ℕ) → IsService object led (without_first (λ x. number_in x == number) rows)
+  gone-is number = without_first_keeps (λ x. number_in x == number) (IsService object led) rows is (λ k lt. record {
     each = all-remove (IsRowOn object) rows k is.each;
     rising = rising_remove number_in rows k is.rising;
     clients = led-gone led rows k is.clients;
-  }
+  })
 
   pub push-is : (x : QueueRow) → AllByRecursion (λ y. y.opening.number < x.opening.number) rows → IsRowOn object x → IsService object (led && (is_empty rows || is_client x.opening.kind)) (rows ++ x ∷ [])
   push-is x above right = record {
@@ -118,17 +114,25 @@ above-rows object name (x ∷ xs) number all = (all.0, above-rows object name xs
 
 -- ---- the room
 
-pub room-gone : (object : ℕ) (name : List ℕ) (entries : List Entry) (rows : List QueueRow) (k : ℕ) → HaveRoom entries (map (handle_of object name) rows) (map spare_of rows)
-    → HaveRoom entries (map (handle_of object name) (remove rows k)) (map spare_of (remove rows k))
-room-gone object name entries [] zero room = tt
-room-gone object name entries [] (suc k) room = tt
-room-gone object name entries (x ∷ xs) zero room = room.1
-room-gone object name entries (x ∷ xs) (suc k) room = (room.0, room-gone object name entries xs k room.1)
+pub room-gone : (object : ℕ) (name : List ℕ) (entries : List Entry) (rows : List QueueRow) (number : ℕ) → HaveRoom entries (map (handle_of object name) rows) (map spare_of rows)
+    → HaveRoom entries (map (handle_of object name) (without_first (λ x. number_in x == number) rows)) (map spare_of (without_first (λ x. number_in x == number) rows))
+room-gone object name entries rows number room = without_first_keeps (λ x. number_in x == number) (λ xs. HaveRoom entries (map (handle_of object name) xs) (map spare_of xs)) rows room (λ k lt. by rows k room)
+  where
+    by : (xs : List QueueRow) (k : ℕ) → HaveRoom entries (map (handle_of object name) xs) (map spare_of xs) → HaveRoom entries (map (handle_of object name) (remove xs k)) (map spare_of (remove xs k))
+    by [] zero room = tt
+    by [] (suc k) room = tt
+    by (x ∷ xs) zero room = room.1
+    by (x ∷ xs) (suc k) room = (room.0, by xs k room.1)
 
 pub spares-set : (rows : List QueueRow) (k : ℕ) (x d : QueueRow) → spare_of x ≡ spare_of (get_or rows k d) → map spare_of (set rows k x) ≡ map spare_of rows
 spares-set [] k x d same = refl
 spares-set (y ∷ ys) zero x d same = ap (λ s. s ∷ map spare_of ys) same
 spares-set (y ∷ ys) (suc k) x d same = ap (λ ss. spare_of y ∷ ss) (spares-set ys k x d same)
+
+pub spares-wait : (rows : List QueueRow) (number : ℕ) (change : QueueRow → QueueRow) → ((x : QueueRow) → spare_of (change x) ≡ spare_of x) → map spare_of (on_first (λ x. number_in x == number) change rows) ≡ map spare_of rows
+spares-wait rows number change same =
+    on_first_keeps (λ x. number_in x == number) change (λ xs. map spare_of xs ≡ map spare_of rows) rows refl
+    (λ k d lt. spares-set rows k (change (get_or rows k d)) d (same (get_or rows k d)))
 
 -- ---- the handle at a place changes
 
@@ -160,6 +164,3 @@ module _ (object : ℕ) (name : List ℕ) (slots : List QueueSlot) (place : ℕ)
   changed-seen number change found same =
       ap (map (handle_of object name)) is
       ∙ set-seen object name (rows_in slots) number (rank place slots) change y x found lt-at (same ∙ ap (λ (r : QueueRow). change (handle_of object name r)) x-at)
-
-  pub changed-spares : spare_of y ≡ spare_of x → map spare_of new ≡ map spare_of (rows_in slots)
-  changed-spares same = ap (map spare_of) is ∙ spares-set (rows_in slots) (rank place slots) y x (same ∙ ap spare_of x-at)

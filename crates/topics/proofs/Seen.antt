@@ -8,6 +8,7 @@ use Rattle.pps_types.specs.Reading.{OpenHandle, Queue, style, visible, reseen}
 use Rattle.pps_types.specs.Rests.{Progress, Owed, stand, over_limit, seen_of, from_first, past}
 use Rattle.pps_types.specs.Plan.{left, caught_up}
 use Rattle.sub_reader.specs.Opened.{opened, handle_at}
+use Rattle.sub_reader.proofs.Finds.{found-seen}
 use Rattle.topics.specs.QueueRows.{QueueRow, waiting, owed_as, handle_of, IsRowOn}
 
 pub queue-seen : {S : Type 0} (h : OpenHandle S) (rest : List Entry) → style h.kind ≡ Queue → seen_of h rest ≡ Owed rest
@@ -51,19 +52,10 @@ module _ (object : ℕ) (name : List ℕ) (x : QueueRow) (is : IsRowOn object x)
 -- ---- the handle of a number
 
 module _ (object : ℕ) (name : List ℕ) where
-  find-see : (n : ℕ) (xs : List QueueRow) (o : Option QueueRow) → o ≡ find (λ x. eqb x.opening.number n) xs → option_map (handle_of object name) o ≡ handle_at n (map (handle_of object name) xs)
-  find-see n [] o is = ap (option_map (handle_of object name)) is
-  find-see n (x ∷ xs) o is = ap (option_map (handle_of object name)) is ∙ by (eqb x.opening.number n) (find-see n xs (find (λ x. eqb x.opening.number n) xs) refl)
-    where
-      by : (b : Bool) → option_map (handle_of object name) (find (λ x. eqb x.opening.number n) xs) ≡ handle_at n (map (handle_of object name) xs)
-          → option_map (handle_of object name) (cond b (Some x) (find (λ x. eqb x.opening.number n) xs)) ≡ cond b (Some (handle_of object name x)) (handle_at n (map (handle_of object name) xs))
-      by true rec = refl
-      by false rec = rec
-
   module _ (xs : List QueueRow) (n : ℕ) where
     -- none, or one, is found
     pub found-handle : (o : Option QueueRow) → o ≡ find (λ x. eqb x.opening.number n) xs → option_map (handle_of object name) o ≡ handle_at n (map (handle_of object name) xs)
-    found-handle o is = find-see n xs o is
+    found-handle o is = ap (option_map (handle_of object name)) is ∙ found-seen (handle_of object name) (λ x. refl) n xs
 
     pub found-right : (x : QueueRow) → AllByRecursion (IsRowOn object) xs → Some x ≡ find (λ x. eqb x.opening.number n) xs → IsRowOn object x
     found-right x all is = by xs all is

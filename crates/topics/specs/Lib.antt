@@ -5,7 +5,6 @@ pub mod Walks
 pub mod Offers
 pub mod Rooms
 pub mod Woken
-pub mod Held
 pub mod Spans
 pub mod HandlesOf
 pub mod Backlogs

@@ -2,7 +2,6 @@
 //! handles on any object or directory, its readers or a server object's, by the same calls (`Topic`).
 #![tactic(auto)]
 
-mod copies;
 mod full;
 mod glance;
 mod made;

@@ -19,7 +19,6 @@ ghost use Rattle.topics.specs.Standing.{AreQueued, ShareNoList};
 ghost use Rattle.server_queue.specs.Shared.{seer_count, shares_for};
 ghost use Rattle.topics.specs.Backlogs.{is_server_full_at, is_client_full_at, full_client_in};
 
-use crate::copies::{copy_all, same_all};
 use crate::full::find_full;
 use crate::glance::glance_at;
 use crate::offers::{count_seers, offer_each};
@@ -200,10 +199,7 @@ impl ServerHandles {
         ensures spares { self.new.spares ≡ self.old.spares }
         ensures places { self.new.places ≡ self.old.places }
     {
-        let Some(place) = self.rows.find(number) else {
-            return;
-        };
-        self.rows.park(place, size);
+        self.rows.park(number, size);
     }
 
     /// A pulse waits on a handle, or none any more. It takes no memory.
@@ -214,10 +210,7 @@ impl ServerHandles {
         ensures spares { self.new.spares ≡ self.old.spares }
         ensures places { self.new.places ≡ self.old.places }
     {
-        let Some(place) = self.rows.find(number) else {
-            return;
-        };
-        self.rows.arm(place, pulse);
+        self.rows.arm(number, pulse);
     }
 
     /// Closes a handle. It takes no memory.
@@ -228,10 +221,7 @@ impl ServerHandles {
         ensures ready { KeepsRoom self.old self.new }
         ensures places { self.old.places ≤ self.new.places }
     {
-        let Some(place) = self.rows.find(number) else {
-            return;
-        };
-        let _ = self.rows.take(place);
+        let _ = self.rows.take(number);
     }
 
     /// A handle has read everything. It takes no memory.
@@ -266,10 +256,7 @@ impl ServerHandles {
     pub fn opening(&self, number: Handle) -> Option<&Opening>
         ensures { IsOpeningAt number self.now.object self.now.name self.now.handles result }
     {
-        match self.rows.get(number) {
-            None => None,
-            Some(row) => Some(&row.opening),
-        }
+        self.rows.opening(number)
     }
 
     /// What is seen of a handle at one look, if it is here.
@@ -286,20 +273,14 @@ impl ServerHandles {
     pub fn parked(&self, number: Handle) -> Option<u32>
         ensures { result ≡ parked_at number self.now.handles }
     {
-        match self.rows.get(number) {
-            None => None,
-            Some(row) => row.parked,
-        }
+        self.rows.parked(number)
     }
 
     /// The pulse that is armed on a handle, if one is.
     pub fn armed(&self, number: Handle) -> Option<Pulse>
         ensures { armed_pulse result ≡ armed_at number self.now.handles }
     {
-        match self.rows.get(number) {
-            None => None,
-            Some(row) => row.armed,
-        }
+        self.rows.armed(number)
     }
 
     /// The name of the object.
@@ -417,7 +398,7 @@ impl ServerHandles {
         ensures err { IfErr result (λ r. r ≡ OutOfMemory) }
     {
         let name = self.name.copy()?;
-        let rows = copy_all(*self.rows.allocator(), &self.rows)?;
+        let rows = self.rows.copy()?;
         Ok(ServerHandles {
             object: self.object,
             name,
@@ -431,6 +412,6 @@ impl ServerHandles {
     pub fn same(&self, other: &ServerHandles) -> bool
         ensures { IsTrue result ↔ AreSame self.now other.now }
     {
-        is_of_same(self, other) && same_all(self.rows.slots(), other.rows.slots())
+        is_of_same(self, other) && self.rows.same_from(0, &other.rows, 0)
     }
 }

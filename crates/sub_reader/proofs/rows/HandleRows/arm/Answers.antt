@@ -1,27 +1,34 @@
-use Rattle.std.proofs.Common.{◌∙◌, get_or, set, subst, ap, sym, refl, arith}
+use Rattle.std.proofs.Common.{◌∙◌, ◌==◌, subst, ap, sym, refl, arith}
 use Rattle.std.specs.Prelude.{IsSome}
-use Rattle.sub_reader.specs.Rows.{row_at, rows_in, rows_of, rank, on_row, armed_with}
-use Rattle.sub_reader.proofs.Gaps.{place_within, sound_set, rows_set}
+use Rattle.pps_types.specs.Plan.{on_first}
+use Rattle.pps_types.specs.Rising.{IsPlaceOf}
+use Rattle.sub_reader.specs.Rows.{number_in, row_at, rows_of, rank, on_row, armed_with}
+use Rattle.sub_reader.proofs.Edits.{change_gap}
+use Rattle.sub_reader.proofs.Gaps.{place_within, sound_set, rows_numbered}
 use Rattle.sub_reader.proofs.rows.HandleRows.arm.Goals as goal
+
+pub returns-in_default-clause-rows : goal.returns-in_default-clause-rows
+returns-in_default-clause-rows g c = sym (change_gap number_in (armed_with c.args.pulse) c.args.number (rows_of c.args.self.now) c.in_default.ensures.absent.0 c.in_default.ensures.absent.1)
 
 pub index_mut-slot-requires : goal.index_mut-slot-requires
 index_mut-slot-requires g c =
-    let lt = place_within c.self.inside.slots.items c.args.place (subst (λ v. IsSome (row_at c.args.place v.slots)) (sym c.self.view_is) c.requires) in
+    let lt = place_within c.self.inside.slots.items c.in-Some.place (subst (λ v. IsSome (row_at c.in-Some.place v.slots)) (sym c.self.view_is) c.in-Some.ensures.row) in
     omega arith
 
 pub invariant_of-self : goal.invariant_of-self
 invariant_of-self g c =
     let ss = c.self.inside.slots.items in
     let s = c.index_mut-slot.result.now in
-    let some = subst (λ v. IsSome (row_at c.args.place v.slots)) (sym c.self.view_is) c.requires in
+    let some = subst (λ v. IsSome (row_at c.in-Some.place v.slots)) (sym c.self.view_is) c.in-Some.ensures.row in
     rw (c.arm_in.ensures, c.index_mut-slot.ensures.value)
-    (sound_set ss c.self.inside.count c.args.place (armed_with c.args.pulse) s (λ r. refl) some c.self.invariant)
+    (sound_set ss c.self.inside.count c.in-Some.place (armed_with c.args.pulse) s (λ r. refl) some c.self.invariant)
 
 pub returns-clause-rows : goal.returns-clause-rows
-returns-clause-rows g c = λ d.
+returns-clause-rows g c =
     let ss = c.self.inside.slots.items in
     let s = c.index_mut-slot.result.now in
-    let some = subst (λ v. IsSome (row_at c.args.place v.slots)) (sym c.self.view_is) c.requires in
-    ap (λ t. rows_in (set ss c.args.place t)) (c.arm_in.ensures ∙ ap (on_row (armed_with c.args.pulse)) c.index_mut-slot.ensures.value)
-    ∙ rows_set ss c.args.place (armed_with c.args.pulse) s d some
-    ∙ ap (λ v. set (rows_of v) (rank c.args.place v.slots) (armed_with c.args.pulse (get_or (rows_of v) (rank c.args.place v.slots) d))) c.self.view_is
+    let i = c.in-Some.place in
+    let some = subst (λ v. IsSome (row_at i v.slots)) (sym c.self.view_is) c.in-Some.ensures.row in
+    let found = subst (λ v. IsPlaceOf number_in (rows_of v) c.args.number (rank i v.slots)) (sym c.self.view_is) c.in-Some.ensures.found in
+    rows_numbered ss i c.args.number (armed_with c.args.pulse) s c.arm_in.new.slot (c.arm_in.ensures ∙ ap (on_row (armed_with c.args.pulse)) c.index_mut-slot.ensures.value) some found
+    ∙ ap (λ v. on_first (λ r. number_in r == c.args.number) (armed_with c.args.pulse) (rows_of v)) c.self.view_is

@@ -1,18 +1,14 @@
-use Rattle.std.proofs.Common.{ap, ◌∙◌, Some, None}
-use Rattle.std.specs.Prelude.{option_and_then}
-use Rattle.pps_types.specs.Reading.{OpenHandle}
-use Rattle.pps_types.specs.Rests.{Progress}
-use Rattle.sub_reader.specs.Opened.{handle_at, number_of}
-use Rattle.sub_reader.proofs.Finds.{found-handle}
+use Rattle.std.proofs.Common.{refl, ap, ◌∙◌}
+use Rattle.sub_reader.specs.HandleAt.{armed_at}
+use Rattle.sub_reader.specs.Opened.{number_of, armed_pulse}
+use Rattle.sub_reader.specs.Places.{handle_of}
 use Rattle.sub_reader.specs.Rows.{rows_of}
+use Rattle.sub_reader.proofs.Finds.{armed-seen}
 use Rattle.sub_reader.proofs.subscribers.Subscribers.armed.Goals as goal
 
-pub returns-in-None : goal.returns-in-None
-returns-in-None c =
+pub returns : goal.returns
+returns c =
     let t = c.self.inside in
-    ap (option_and_then (λ (h : OpenHandle Progress). h.armed)) (found-handle (number_of t.of) t.name t.records.start t.records.items (rows_of t.rows) c.args.number None c.in-None.ensures ∙ ap (λ v. handle_at c.args.number v.handles) c.self.view_is)
-
-pub returns-in-Some : goal.returns-in-Some
-returns-in-Some c =
-    let t = c.self.inside in
-    ap (option_and_then (λ (h : OpenHandle Progress). h.armed)) (found-handle (number_of t.of) t.name t.records.start t.records.items (rows_of t.rows) c.args.number (Some c.in-Some.reader.now) c.in-Some.ensures ∙ ap (λ v. handle_at c.args.number v.handles) c.self.view_is)
+    ap armed_pulse c.armed.ensures
+    ∙ armed-seen (handle_of (number_of t.of) t.name t.records.start t.records.items) (λ r. refl) (λ r. refl) c.args.number (rows_of t.rows)
+    ∙ ap (λ v. armed_at c.args.number v.handles) c.self.view_is

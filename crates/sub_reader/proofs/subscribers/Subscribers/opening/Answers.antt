@@ -1,17 +1,16 @@
-use Rattle.std.proofs.Common.{sym, ap, ◌∙◌, Some, None}
+use Rattle.std.proofs.Common.{refl, sym, ap, ◌∙◌}
 use Rattle.std.specs.Prelude.{option_map}
+use Rattle.std.specs.Option.{option_copied}
 use Rattle.sub_reader.specs.Opened.{opened, as_opened, handle_at, number_of}
-use Rattle.sub_reader.proofs.Finds.{found-handle}
+use Rattle.sub_reader.specs.Places.{handle_of}
 use Rattle.sub_reader.specs.Rows.{rows_of}
+use Rattle.sub_reader.proofs.Finds.{opening-seen}
 use Rattle.sub_reader.proofs.subscribers.Subscribers.opening.Goals as goal
 
-pub returns-in-None : goal.returns-in-None
-returns-in-None c =
+pub returns : goal.returns
+returns c =
     let t = c.self.inside in
-    ap (option_map as_opened) (found-handle (number_of t.of) t.name t.records.start t.records.items (rows_of t.rows) c.args.number None c.in-None.ensures ∙ ap (λ v. handle_at c.args.number v.handles) c.self.view_is)
-
-pub returns-in-Some : goal.returns-in-Some
-returns-in-Some c =
-    let t = c.self.inside in
-    ap (λ v. Some (opened (number_of v.of) v.name c.in-Some.reader.now.opening)) (sym c.self.view_is)
-    ∙ ap (option_map as_opened) (found-handle (number_of t.of) t.name t.records.start t.records.items (rows_of t.rows) c.args.number (Some c.in-Some.reader.now) c.in-Some.ensures ∙ ap (λ v. handle_at c.args.number v.handles) c.self.view_is)
+    ap (λ v. option_map (opened (number_of v.of) v.name) (option_copied c.opening.result)) (sym c.self.view_is)
+    ∙ ap (option_map (opened (number_of t.of) t.name)) c.opening.ensures
+    ∙ opening-seen (handle_of (number_of t.of) t.name t.records.start t.records.items) (λ r. refl) (number_of t.of) t.name (λ r. refl) c.args.number (rows_of t.rows)
+    ∙ ap (λ v. option_map as_opened (handle_at c.args.number v.handles)) c.self.view_is

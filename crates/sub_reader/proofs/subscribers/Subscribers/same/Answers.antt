@@ -28,5 +28,5 @@ returns c =
     (ap (λ v. v.name) c.self.view_is ∙ of.1 ∙ sym (ap (λ v. v.name) c.other.view_is))
     c.self.invariant c.other.invariant
     (ap (λ v. v.handles) c.self.view_is) (ap (λ v. v.handles) c.other.view_is) records in
-    let told = rw (c.slots.ensures, c.slots-2.ensures, c.start.ensures, c.start-2.ensures) at c.same_all.ensures in
+    let told = rw (c.start-start.ensures, c.start-other_start.ensures) at c.same_from.ensures in
     (λ is. (of.0, of.1, all.0 (told.0 is)), λ same. told.1 (all.1 same.2))

@@ -13,5 +13,4 @@ returns-then-is_of_same c =
     (ap (λ v. v.name) c.self.view_is ∙ of.1 ∙ sym (ap (λ v. v.name) c.other.view_is))
     c.self.invariant.each c.other.invariant.each
     (ap (λ v. v.handles) c.self.view_is) (ap (λ v. v.handles) c.other.view_is) in
-    let told = rw (c.slots.ensures, c.slots-then-is_of_same.ensures) at c.same_all.ensures in
-    (λ is. (of.0, of.1, all.1 (told.0 is)), λ same. told.1 (all.0 same.2))
+    (λ is. (of.0, of.1, all.1 (c.same_from.ensures.0 is)), λ same. c.same_from.ensures.1 (all.0 same.2))
