@@ -1,2 +1,3 @@
+mod FilesRead
 mod FilesServed
 mod Reading

@@ -1,5 +1,5 @@
 -- What becomes of a command line: what it asks for is done, and the program ends with a status.
-use Rattle.std.specs.Prelude.{◌≡◌, ℕ, false, List, Option, Result, Ok, Err, IfOk, string_bytes}
+use Rattle.std.specs.Prelude.{◌≡◌, ℕ, false, List, Option, Result, Ok, Err, IfErr, IfOk, string_bytes}
 use Rattle.std.specs.Io.KnownBytes.{Appends, Keeps}
 use Rattle.pps_types.specs.Device.{device_inner}
 use Rattle.pps_types.specs.Exchange.{output_of, with_output}
@@ -15,6 +15,7 @@ use Rattle.pps_cli.specs.declared.fault.Fault.TheVariants.{CannotWriteOutput}
 use Rattle.pps_cli.specs.declared.fault.Failure.{Failure}
 use Rattle.pps_cli.specs.declared.fault.Failure.TheVariants as failures
 use Rattle.pps_cli.specs.Faults.{IsFaultOfWords, status_of, status_after}
+use Rattle.pps_cli.specs.Images.{FailsWithFiles}
 use Rattle.pps_cli.specs.Jobs.{Does, RunsOver, ServesOver}
 use Rattle.pps_cli.specs.Sessions.{Serves}
 use Rattle.pps_cli.specs.Words.{AsksFor}
@@ -81,13 +82,16 @@ IsQuiet (Run options) (Ok done) before after = options.manner.patient ≡ false 
 IsQuiet asked (Ok done) before after = Keeps before after
 IsQuiet asked (Err failure) before after = Unit {0}
 
--- What was asked for was done or failed, and the program ends so.
+-- What was asked for was done or failed, and the program ends so. A file is said to fail only if it
+-- may.
 pub record EndsAfter {R W : Type 0} (remaining : R → Option (List ℕ))
-    (contents : W → Option (List ℕ)) (held : List ℕ → Option (List ℕ)) (asked : Asked)
-    (from to : Exchange R W) (old new : Option (List Replaced))
-    (before after : Option (List ℕ)) (status : ℕ) : Type 0 where
+    (contents : W → Option (List ℕ)) (held : List ℕ → Option (List ℕ))
+    (may_fail : List ℕ → Type 0) (asked : Asked) (from to : Exchange R W)
+    (old new : Option (List Replaced)) (before after : Option (List ℕ)) (status : ℕ)
+    : Type 0 where
   pub outcome : Result (Unit {0}) Failure
   pub does : DoesAsked remaining contents held asked from to old new outcome
+  pub files : IfErr outcome (FailsWithFiles held may_fail)
   pub ends : status ≡ status_after outcome
   pub quiet : IsQuiet asked outcome before after
 
@@ -101,18 +105,19 @@ pub record EndsAtOnce {R W : Type 0} (fault : Fault) (from to : Exchange R W)
 
 -- what became of words that were read so
 abbrev pub EndsAs : {R W : Type 0} → (R → Option (List ℕ)) → (W → Option (List ℕ))
-    → (held : List ℕ → Option (List ℕ)) → Result Asked Fault → (from to : Exchange R W)
-    → (old new : Option (List Replaced)) → (before after : Option (List ℕ)) → ℕ → Type 0
-EndsAs remaining contents held (Ok asked) from to old new before after status =
-    EndsAfter remaining contents held asked from to old new before after status
-EndsAs remaining contents held (Err fault) from to old new before after status =
+    → (held : List ℕ → Option (List ℕ)) → (may_fail : List ℕ → Type 0) → Result Asked Fault
+    → (from to : Exchange R W) → (old new : Option (List Replaced))
+    → (before after : Option (List ℕ)) → ℕ → Type 0
+EndsAs remaining contents held may_fail (Ok asked) from to old new before after status =
+    EndsAfter remaining contents held may_fail asked from to old new before after status
+EndsAs remaining contents held may_fail (Err fault) from to old new before after status =
     EndsAtOnce fault from to old new status
 
 -- The words were read, and that became of them. A job is the one that they name.
 pub record RunsWords {R W : Type 0} (words : List (List ℕ)) (remaining : R → Option (List ℕ))
     (contents : W → Option (List ℕ)) (held : List ℕ → Option (List ℕ))
-    (from to : Exchange R W) (old new : Option (List Replaced))
+    (may_fail : List ℕ → Type 0) (from to : Exchange R W) (old new : Option (List Replaced))
     (before after : Option (List ℕ)) (status : ℕ) : Type 0 where
   pub read : Result Asked Fault
   pub asks : IfOk read (AsksFor words)
-  pub ends : EndsAs remaining contents held read from to old new before after status
+  pub ends : EndsAs remaining contents held may_fail read from to old new before after status

@@ -4,7 +4,9 @@ use Rattle.pps_types.specs.Content.{Content}
 use Rattle.pps_types.specs.Machine.{start}
 use Rattle.pps_types.specs.Stands.{Stands}
 use Rattle.pps_types.specs.Image.{read_image}
-use Rattle.pps_persist.specs.Files.{HoldsOf, IsStartOf, Replaced, ReplacesNone, ReplacesOne}
+use Rattle.pps_persist.specs.Files.{HoldsOf, IsStartOf, MayBeUnread, Replaced, ReplacesNone, ReplacesOne}
+use Rattle.pps_persist.specs.declared.files.FileFault.{FileFault}
+use Rattle.pps_persist.specs.declared.files.FileFault.TheVariants as faults
 use Rattle.pps_cli.specs.declared.command_line.Beginning.{Beginning}
 use Rattle.pps_cli.specs.declared.command_line.Beginning.TheVariants.{Empty, Image}
 use Rattle.pps_cli.specs.declared.fault.Fault.TheVariants.{OutOfMemory}
@@ -42,3 +44,20 @@ abbrev pub SavesAs : {X : Type 0} → (file : Option (List ℕ)) → (old new : 
     → (bytes : List ℕ) → Result X Failure → Type 0
 SavesAs file old new bytes (Ok done) = IsSaved file old new bytes
 SavesAs file old new bytes (Err failure) = ReplacesNone old new × FailsToSave file failure
+
+-- ---- faults of files
+
+-- what is said of a fault of this file
+abbrev pub TellsFault : FileFault → (file : List ℕ) → Failure → Type 0
+TellsFault faults.OutOfMemory file (Fault fault) = fault ≡ OutOfMemory
+TellsFault faults.Failed file (CannotWrite named) = named.now ≡ file
+TellsFault fault file failure = ⊥
+
+-- A file is said not to be read only if it may fail, or is too long; and not to be written only if
+-- it may fail.
+abbrev pub FailsWithFiles : (held : List ℕ → Option (List ℕ)) → (may_fail : List ℕ → Type 0)
+    → Failure → Type 0
+FailsWithFiles held may_fail (CannotRead named) =
+    MayBeUnread (held named.now) (may_fail named.now)
+FailsWithFiles held may_fail (CannotWrite named) = may_fail named.now
+FailsWithFiles held may_fail failure = Unit {0}

@@ -1,8 +1,10 @@
 //! What a command line asks for, done.
+ghost use Rattle.std.specs.Prelude.{IfErr};
 ghost use Rattle.pps_types.specs.Device.{device_inner};
 ghost use Rattle.pps_types.specs.Exchange.{IsFresh};
 ghost use Rattle.pps_types.specs.Writing.{FailsWithDevice};
 ghost use Rattle.pps_cli.specs.Commands.{DoesAsked, PrintsText, ReportsFor};
+ghost use Rattle.pps_cli.specs.Images.{FailsWithFiles};
 
 use crate::command_line::Asked;
 use crate::fault::{Failure, Fault};
@@ -31,7 +33,8 @@ fn print_text<'w, O: Write>(text: &str, output: &mut Device<O>) -> Result<(), Fa
 /// Does what a command line asks for, over this exchange: it runs a script or serves frames from the input, serves script
 /// files in several threads, or prints a text.
 ///
-/// Bad lines are reported of a script that goes on after them, and of nothing else.
+/// Bad lines are reported of a script that goes on after them, and of nothing else. A file is said not to be read or
+/// written only if it may fail, or has more bytes than are read.
 pub(crate) fn run_as<'w, F: ImageFiles, R: Threads + Wait + Sync, I: Read, O: Write, B: BadLines>(
     rt: &R,
     alloc: Global,
@@ -43,6 +46,7 @@ pub(crate) fn run_as<'w, F: ImageFiles, R: Threads + Wait + Sync, I: Read, O: Wr
     requires { IsFresh exchange.old }
     ensures does { DoesAsked I.remaining O.contents (F.held files.old) asked.entry
         exchange.old exchange.new (F.replaced files.old) (F.replaced files.new) result }
+    ensures files { IfErr result (FailsWithFiles (F.held files.old) (F.may_fail files.old)) }
     ensures reports { ReportsFor asked.entry bad_lines.old bad_lines.new }
 {
     match asked {

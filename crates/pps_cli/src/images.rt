@@ -1,7 +1,7 @@
 //! What a service begins with, and the file that it is saved to.
 ghost use Rattle.std.specs.Prelude.{IfErr, IfOk, option_map};
 ghost use Rattle.pps_types.specs.Image.{image};
-ghost use Rattle.pps_cli.specs.Images.{BeginsAs, FailsToBegin, FailsToSave, SavesAs};
+ghost use Rattle.pps_cli.specs.Images.{BeginsAs, FailsToBegin, FailsToSave, FailsWithFiles, SavesAs, TellsFault};
 
 use crate::command_line::Beginning;
 use crate::fault::{Failure, Fault};
@@ -14,8 +14,8 @@ use std::fs::{File, Files};
 
 /// The files of the system. A read or a write that is interrupted is tried again.
 ///
-/// What they hold is not known to a clause, nor what becomes of what is handed over for them: that a file is read and
-/// replaced as it should be is tested.
+/// What they hold is not known to a clause, nor what becomes of what is handed over for them, and each may fail: that a file
+/// is read and replaced as it should be is tested.
 #[derive(Drop)]
 pub(crate) struct SystemFiles<'f, F> {
     files: &'f F,
@@ -35,6 +35,8 @@ impl<F: Files> ImageFiles for SystemFiles<'_, F> {
     ghost held = { λ _ _. None };
 
     ghost replaced = { λ _. None };
+
+    ghost may_fail = { λ _ _. Unit {0} };
 
     fn open(&self, file: &str) -> Result<Patient<F::File>, FileFault> {
         match File::open(self.files, file) {
@@ -62,6 +64,7 @@ pub(crate) fn begin<'w, F: ImageFiles>(
     ensures begins { IfOk result (λ engine.
         BeginsAs (F.held files.now) beginning.entry engine.content) }
     ensures fails { IfErr result (FailsToBegin (F.held files.now) beginning.entry) }
+    ensures files { IfErr result (FailsWithFiles (F.held files.now) (F.may_fail files.now)) }
 {
     match beginning {
         Beginning::Empty(limit) => match Engine::with_limit(alloc, u32::from(limit.get())) {
@@ -79,7 +82,8 @@ pub(crate) fn begin<'w, F: ImageFiles>(
 
 /// What ends the program if a file is not replaced.
 pub(crate) fn cannot_replace<'w>(fault: FileFault, file: &'w str) -> Failure<'w>
-    ensures { FailsToSave (Some file.now) result }
+    ensures fails { FailsToSave (Some file.now) result }
+    ensures tells { TellsFault fault file.now result }
 {
     match fault {
         FileFault::OutOfMemory => Failure::Fault(Fault::OutOfMemory),
@@ -94,8 +98,9 @@ pub(crate) fn end<'w, F: ImageFiles>(
     engine: &Engine,
     file: Option<&'w str>,
 ) -> Result<(), Failure<'w>>
-    ensures { SavesAs (option_map (λ name. name.now) file.entry)
+    ensures saves { SavesAs (option_map (λ name. name.now) file.entry)
         (F.replaced files.old) (F.replaced files.new) (image engine.now.content) result }
+    ensures files { IfErr result (FailsWithFiles (F.held files.old) (F.may_fail files.old)) }
 {
     let Some(file) = file else {
         return Ok(());

@@ -1,7 +1,8 @@
 //! Jobs: a service begins, is used, and is saved, as the command line asks for it.
-ghost use Rattle.std.specs.Prelude.{◌≡◌};
+ghost use Rattle.std.specs.Prelude.{◌≡◌, IfErr};
 ghost use Rattle.pps_types.specs.Exchange.{IsFresh};
 ghost use Rattle.pps_script.specs.Served.{ReportsIf};
+ghost use Rattle.pps_cli.specs.Images.{FailsWithFiles};
 ghost use Rattle.pps_cli.specs.Jobs.{Does, RunsOver, ServesOver};
 
 use crate::command_line::{RunOptions, ServiceOptions};
@@ -17,7 +18,8 @@ use std::io::{Read, Write};
 
 /// Runs a script on a service that begins and is saved as it is asked for.
 ///
-/// Nothing is saved if a bad line or a fault ends it. Bad lines are reported only of an interactive script.
+/// Nothing is saved if a bad line or a fault ends it. Bad lines are reported only of an interactive script. A file is said
+/// not to be read or written only if it may fail, or has more bytes than are read.
 pub(crate) fn run_script<'w, F: ImageFiles, I: Read, O: Write, B: BadLines>(
     alloc: Global,
     files: &mut F,
@@ -30,6 +32,7 @@ pub(crate) fn run_script<'w, F: ImageFiles, I: Read, O: Write, B: BadLines>(
         (RunsOver I.remaining O.contents options.entry.manner exchange.old exchange.new)
         (exchange.new ≡ exchange.old)
         (F.replaced files.old) (F.replaced files.new) result }
+    ensures files { IfErr result (FailsWithFiles (F.held files.old) (F.may_fail files.old)) }
     ensures reports { ReportsIf options.entry.manner.patient bad_lines.old bad_lines.new }
 {
     let mut engine = begin(alloc, files, options.service.beginning)?;
@@ -39,7 +42,8 @@ pub(crate) fn run_script<'w, F: ImageFiles, I: Read, O: Write, B: BadLines>(
 
 /// Serves a stream of requests with a service that begins and is saved as it is asked for.
 ///
-/// Nothing is saved if the stream ends within a frame or at a malformed one, or if a fault ends it.
+/// Nothing is saved if the stream ends within a frame or at a malformed one, or if a fault ends it. Of files it says what
+/// `run_script` says.
 pub(crate) fn run_frames<'w, F: ImageFiles, I: Read, O: Write>(
     alloc: Global,
     files: &mut F,
@@ -47,10 +51,11 @@ pub(crate) fn run_frames<'w, F: ImageFiles, I: Read, O: Write>(
     exchange: &mut Exchange<I, O>,
 ) -> Result<(), Failure<'w>>
     requires { IsFresh exchange.old }
-    ensures { Does (F.held files.old) options.entry
+    ensures does { Does (F.held files.old) options.entry
         (ServesOver I.remaining O.contents exchange.old exchange.new)
         (exchange.new ≡ exchange.old)
         (F.replaced files.old) (F.replaced files.new) result }
+    ensures files { IfErr result (FailsWithFiles (F.held files.old) (F.may_fail files.old)) }
 {
     let mut engine = begin(alloc, files, options.beginning)?;
     serve_stream(alloc, &mut engine, exchange)?;

@@ -9,6 +9,7 @@ mod images;
 mod jobs;
 mod patient;
 mod script;
+mod script_file;
 mod sessions;
 mod whole_file;
 mod words;

@@ -4,6 +4,7 @@ ghost use Rattle.std.specs.Io.{ReadsAtMost, WritesAtMost};
 ghost use Rattle.std.specs.Io.KnownBytes.{Keeps, ReadConsumes, WriteAppends};
 ghost use Rattle.std.specs.IoError.{error_kind};
 
+use pps_persist::OpenedFile;
 use std::io;
 use std::io::{ErrorKind, Read, Write};
 
@@ -45,6 +46,15 @@ impl<I: Read> Read for Patient<I> {
             }
         }
         Err(ErrorKind::TimedOut.into())
+    }
+}
+
+/// A file of the system, of which each read may fail.
+impl<I: Read> OpenedFile for Patient<I> {
+    ghost may_fail = { λ _. Unit {0} };
+
+    fn read_some(&mut self, buf: &mut [u8]) -> io::Result<usize> {
+        self.read(buf)
     }
 }
 

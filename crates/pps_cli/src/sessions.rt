@@ -3,15 +3,15 @@ ghost use Rattle.std.specs.Prelude.{◌≡◌, All, IfOk, IfErr, OnErr, length, 
 ghost use Rattle.pps_types.specs.Device.{device_inner, device_failed, device_stalls};
 ghost use Rattle.pps_types.specs.Writing.{SendsTo};
 ghost use Rattle.pps_dispatch.specs.History.{joined};
-ghost use Rattle.pps_cli.specs.Images.{SavesAs};
+ghost use Rattle.pps_cli.specs.Images.{FailsWithFiles, SavesAs};
 ghost use Rattle.pps_cli.specs.Sessions.{AnswersFaultAre, IsOfFile, AreOfFiles, FailsSession, FailsSessions, TellsOfScripts, PrintsFiles, PrintsSomeFiles, Serves, scripts_of};
-ghost use Rattle.pps_persist.specs.Files.{HoldsOf};
 ghost use Rattle.pps_dispatch.specs.Named.{Names};
 ghost use Rattle.pps_dispatch.specs.Printed.{sessions_text, connections_of, history_text};
 
 use crate::command_line::ServeOptions;
 use crate::fault::{Failure, Fault};
 use crate::images::cannot_replace;
+use crate::script_file::read_file;
 use pps_dispatch::{
     Gate, Segment, ServeError, Served, Session, SessionFault, distinct, serve_named, session_of,
     write_history, write_sessions,
@@ -20,7 +20,7 @@ use pps_engine::Engine;
 use pps_persist::{Contents, FileFault, ImageFiles};
 use pps_types::{AnswerFault, Conn, Device};
 use std::alloc::Global;
-use std::io::{ErrorKind, Read, Write};
+use std::io::Write;
 use std::sync::Wait;
 use std::thread::Threads;
 
@@ -36,20 +36,6 @@ impl Gate for OpenGate {
     fn leave(&self, _conn: Conn, _index: u64) {}
 }
 
-// What a file holds.
-fn read_file<F: ImageFiles>(alloc: Global, files: &F, file: &str) -> Result<Vec<u8>, FileFault>
-    ensures { IfOk result (λ text.
-        HoldsOf (F.held files.now file.now) (λ bytes. text.items ≡ bytes)) }
-{
-    let mut script = files.open(file)?;
-    let mut text = Vec::new(alloc);
-    match script.read_to_end(&mut text) {
-        Ok(_) => Ok(text),
-        Err(e) if e.kind() == ErrorKind::OutOfMemory => Err(FileFault::OutOfMemory),
-        Err(_) => Err(FileFault::Failed),
-    }
-}
-
 // The session of a script file.
 fn read_session<'w, F: ImageFiles>(
     alloc: Global,
@@ -59,6 +45,7 @@ fn read_session<'w, F: ImageFiles>(
 ) -> Result<Session, Failure<'w>>
     ensures session { IfOk result (λ session. IsOfFile (F.held files.now file.now) conn session) }
     ensures fails { IfErr result (FailsSession (F.held files.now file.now) conn file.now) }
+    ensures files { IfErr result (FailsWithFiles (F.held files.now) (F.may_fail files.now)) }
 {
     let text = match read_file(alloc, files, file) {
         Ok(text) => text,
@@ -83,6 +70,7 @@ fn read_sessions<'w, F: ImageFiles>(
         AreOfFiles (F.held files.now) (map (λ file. file.now) scripts.now) sessions.items) }
     ensures fails { IfErr result (
         FailsSessions (F.held files.now) (map (λ file. file.now) scripts.now)) }
+    ensures files { IfErr result (FailsWithFiles (F.held files.now) (F.may_fail files.now)) }
 {
     let mut sessions = Vec::new(alloc);
     let mut conn: u16 = 0;
@@ -146,9 +134,10 @@ fn save_history<'w, F: ImageFiles>(
     segments: &[Segment],
     file: Option<&'w str>,
 ) -> Result<(), Failure<'w>>
-    ensures { SavesAs (option_map (λ name. name.now) file.entry)
+    ensures saves { SavesAs (option_map (λ name. name.now) file.entry)
         (F.replaced files.old) (F.replaced files.new)
         (history_text (joined segments.now)) result }
+    ensures files { IfErr result (FailsWithFiles (F.held files.old) (F.may_fail files.old)) }
 {
     let Some(file) = file else {
         return Ok(());
@@ -171,6 +160,7 @@ fn serve_sessions<'w, F: ImageFiles, R: Threads + Wait + Sync, O: Write>(
         PrintsFiles (F.held files.now) (scripts_of options.now) served.segments.items
         (O.contents (device_inner output.old)) (O.contents (device_inner output.new))) }
     ensures told { IfErr result (TellsOfScripts (F.held files.now) (scripts_of options.now)) }
+    ensures files { IfErr result (FailsWithFiles (F.held files.now) (F.may_fail files.now)) }
     ensures some { OnErr result (
         PrintsSomeFiles (F.held files.now) (scripts_of options.now)
         (O.contents (device_inner output.old)) (O.contents (device_inner output.new))) }
@@ -195,7 +185,8 @@ fn serve_sessions<'w, F: ImageFiles, R: Threads + Wait + Sync, O: Write>(
 }
 
 /// Reads the scripts, serves their sessions together, and writes their answers to the output, and the order of their
-/// messages to a file where one is named.
+/// messages to a file where one is named. A file is said not to be read or written only if it may fail, or has more bytes
+/// than are read.
 pub(crate) fn serve_scripts<'w, F: ImageFiles, R: Threads + Wait + Sync, O: Write>(
     rt: &R,
     alloc: Global,
@@ -203,9 +194,10 @@ pub(crate) fn serve_scripts<'w, F: ImageFiles, R: Threads + Wait + Sync, O: Writ
     options: &ServeOptions<'w>,
     output: &mut Device<O>,
 ) -> Result<(), Failure<'w>>
-    ensures { Serves (F.held files.old) options.now
+    ensures serves { Serves (F.held files.old) options.now
         (O.contents (device_inner output.old)) (O.contents (device_inner output.new))
         (F.replaced files.old) (F.replaced files.new) result }
+    ensures files { IfErr result (FailsWithFiles (F.held files.old) (F.may_fail files.old)) }
 {
     let served = serve_sessions(rt, alloc, files, options, output)?;
     save_history(alloc, files, served.segments.as_slice(), options.history)

@@ -41,7 +41,7 @@ fn run_read<'w, F: ImageFiles, R: Threads + Wait + Sync, I: Read, O: Write, E: W
 ) -> u8
     requires fresh { IsFresh exchange.old }
     requires fault { IfErr read IsFaultOfWords }
-    ensures { EndsAs I.remaining O.contents (F.held files.old) read.entry
+    ensures { EndsAs I.remaining O.contents (F.held files.old) (F.may_fail files.old) read.entry
         exchange.old exchange.new (F.replaced files.old) (F.replaced files.new)
         (E.contents errors.old) (E.contents errors.new) result }
 {
@@ -68,7 +68,8 @@ fn run_read<'w, F: ImageFiles, R: Threads + Wait + Sync, I: Read, O: Write, E: W
 ///
 /// A script, frames or script files are asked for only by the words that name them, as `read_words` promises; which words
 /// ask for the help or the version, and which are no command line, is tested. Promised is that just what was read was done,
-/// or nothing where the words are no command line, and that the status is the right one of it.
+/// or nothing where the words are no command line, that a file was said to fail only if it may, and that the status is the
+/// right one of it.
 pub(crate) fn run_words<
     F: ImageFiles,
     R: AllocGlobal + Threads + Wait + Sync,
@@ -78,8 +79,9 @@ pub(crate) fn run_words<
     E: Write + IsTerminal,
 >(rt: &R, words: &[S], files: &mut F, exchange: &mut Exchange<I, O>, errors: &mut E) -> u8
     requires { IsFresh exchange.old }
-    ensures { RunsWords (map S.text words.now) I.remaining O.contents (F.held files.old)
-        exchange.old exchange.new (F.replaced files.old) (F.replaced files.new)
+    ensures { RunsWords (map S.text words.now) I.remaining O.contents
+        (F.held files.old) (F.may_fail files.old) exchange.old exchange.new
+        (F.replaced files.old) (F.replaced files.new)
         (E.contents errors.old) (E.contents errors.new) result }
 {
     let alloc = rt.alloc();

@@ -1,13 +1,12 @@
 -- What loading an input says of a file's bytes, if they are known.
-use Rattle.std.proofs.Common.{◌≡◌, ℕ, List, [], ◌++◌, Option, Some, None, Result, Ok, Err, inl, inr, subst, sym, ap, ◌∙◌, append-nil}
-use Rattle.std.specs.Io.KnownBytes.{Consumes, IsAtEnd}
+use Rattle.std.proofs.Common.{◌≡◌, ℕ, List, [], ◌++◌, length, Option, Some, None, Result, Ok, Err, inl, inr, subst, sym, ap, ◌∙◌, append-nil, length-append, arith}
 use Rattle.pps_types.specs.Image.{read_image}
 use Rattle.pps_engine.specs.Serving.{Serving}
 use Rattle.pps_persist.specs.declared.errors.LoadError.{LoadError}
 use Rattle.pps_persist.specs.declared.errors.LoadError.TheVariants.{OutOfMemory, BadImage, ReadFault}
 use Rattle.pps_persist.specs.Begun.{IsLoadedFrom}
-use Rattle.pps_persist.specs.Loads.{Loads, LoadsImage, RefusesImage}
-use Rattle.pps_persist.specs.Files.{OpensAt, HoldsOf, IsStartOf, LoadsFile}
+use Rattle.pps_persist.specs.Loads.{Loads, LoadsImage, RefusesImage, ReadsMany, FaultAfterMany}
+use Rattle.pps_persist.specs.Files.{OpensAt, HoldsOf, IsStartOf, LoadsFile, IsTooLong, MayBeUnread, ReadFaultOnlyIf}
 
 starts : (bytes : List ℕ) (engine : Serving) → IsLoadedFrom bytes engine → IsStartOf bytes engine.content
 starts bytes engine h = record { image = h.image; read = h.read; stands = h.stands }
@@ -52,3 +51,23 @@ loads-file held from to (Ok engine) opens h = loaded held from to engine opens h
 loads-file held from to (Err (BadImage line)) opens h = refused held from to line opens h
 loads-file held from to (Err OutOfMemory) opens h = tt
 loads-file held from to (Err ReadFault) opens h = tt
+
+-- ---- when it is not read
+
+long-known : (xs : List ℕ) (to : Option (List ℕ)) → ReadsMany (Some xs) to → IsTooLong (Some xs)
+long-known xs None h = absurd h.read
+long-known xs (Some ys) h = omega (arith, h.many, ap length h.read, length-append h.bytes ys)
+
+pub too-long : (held from to : Option (List ℕ)) → OpensAt held from → ReadsMany from to → IsTooLong held
+too-long None from to opens h = (h.bytes, h.many)
+too-long (Some xs) from to opens h = long-known xs to (subst (λ (o : Option (List ℕ)). ReadsMany o to) opens h)
+
+pub fault-of-file : (held from to : Option (List ℕ)) (fails may_fail : Type 0) (r : Result Serving LoadError) → OpensAt held from → (fails → may_fail)
+    → FaultAfterMany from to fails r → ReadFaultOnlyIf (MayBeUnread held may_fail) r
+fault-of-file held from to fails may_fail (Ok engine) opens reads h = tt
+fault-of-file held from to fails may_fail (Err OutOfMemory) opens reads h = tt
+fault-of-file held from to fails may_fail (Err (BadImage line)) opens reads h = tt
+fault-of-file held from to fails may_fail (Err ReadFault) opens reads h = elim h [
+  | inl failed ↦ inl (reads failed)
+  | inr many ↦ inr (too-long held from to opens many)
+]

@@ -1,11 +1,16 @@
--- Images in files: what a file's bytes start, and which files were replaced by which bytes. Own.
-use Rattle.std.specs.Prelude.{◌≡◌, ℕ, List, [], ◌∷◌, ◌++◌, Option, Some, None, Result, Ok, Err}
+-- Images in files: what a file's bytes start, which files were replaced by which bytes, and when a file is said to fail. Own.
+use Rattle.std.specs.Prelude.{◌≡◌, ◌⊎◌, ◌≤◌, ℕ, Bool, true, false, List, [], ◌∷◌, ◌++◌, length, Option, Some, None, Result, Ok, Err}
 use Rattle.pps_types.specs.Content.{Content}
+use Rattle.pps_types.specs.Device.{counted_once_more, device_failed, device_stalls}
+use Rattle.pps_types.specs.declared.device.Device.{Device}
 use Rattle.pps_types.specs.Stands.{Stands}
 use Rattle.pps_types.specs.Image.{Image, read_image, started}
 use Rattle.pps_engine.specs.Serving.{Serving}
 use Rattle.pps_persist.specs.declared.errors.LoadError.{LoadError}
 use Rattle.pps_persist.specs.declared.errors.LoadError.TheVariants.{OutOfMemory, BadImage, ReadFault}
+use Rattle.pps_persist.specs.declared.files.FileFault.{FileFault}
+use Rattle.pps_persist.specs.declared.files.FileFault.TheVariants as faults
+use Rattle.pps_persist.specs.Loads.{most_reads}
 
 -- ---- a file that is read
 
@@ -56,3 +61,41 @@ abbrev pub Replaces : {X E : Type 0} → (old new : Option (List Replaced))
     → (file bytes : List ℕ) → Result X E → Type 0
 Replaces old new file bytes (Ok done) = ReplacesOne old new (record { file = file; bytes = bytes })
 Replaces old new file bytes (Err fault) = ReplacesNone old new
+
+-- ---- faults of files
+
+-- Failed is answered only if that holds
+abbrev pub FailsOnlyIf : {X : Type 0} → Type 0 → Result X FileFault → Type 0
+FailsOnlyIf P (Ok x) = Unit {0}
+FailsOnlyIf P (Err faults.OutOfMemory) = Unit {0}
+FailsOnlyIf P (Err faults.Failed) = P
+
+-- no file may fail that might not before
+abbrev pub MayFailNoMore : (old new : List ℕ → Type 0) → Type 0
+MayFailNoMore old new = (file : List ℕ) → new file → old file
+
+-- The file has more bytes than are read of one, as far as it is known what it holds: each read gives
+-- one byte at least, and no more than 4,294,967,295 reads are made.
+abbrev pub IsTooLong : (held : Option (List ℕ)) → Type 0
+IsTooLong held = HoldsOf held (λ bytes. most_reads ≤ length bytes)
+
+-- a file may fail, or it is too long
+abbrev pub MayBeUnread : (held : Option (List ℕ)) → (may_fail : Type 0) → Type 0
+MayBeUnread held may_fail = may_fail ⊎ IsTooLong held
+
+-- ReadFault is answered only if that holds
+abbrev pub ReadFaultOnlyIf : {X : Type 0} → Type 0 → Result X LoadError → Type 0
+ReadFaultOnlyIf P (Ok x) = Unit {0}
+ReadFaultOnlyIf P (Err OutOfMemory) = Unit {0}
+ReadFaultOnlyIf P (Err (BadImage line)) = Unit {0}
+ReadFaultOnlyIf P (Err ReadFault) = P
+
+-- a fault is told where the writer failed, or where it took none of some bytes
+abbrev pub FileFaultIs : {X : Type 0} → Result X FileFault → (failed : Bool) → (stalls_old stalls_new : ℕ) → Type 0
+FileFaultIs (Ok x) failed old new = (failed ≡ false) × (new ≡ old)
+FileFaultIs (Err faults.OutOfMemory) failed old new = (failed ≡ false) × (new ≡ old)
+FileFaultIs (Err faults.Failed) failed old new = (failed ≡ true) ⊎ (new ≡ counted_once_more old)
+
+-- Failed is answered only where the device failed, or took none of some bytes
+abbrev pub AnswersFileFault : {W X : Type 0} → (old new : Device W) → Result X FileFault → Type 0
+AnswersFileFault old new result = FileFaultIs result (device_failed new) (device_stalls old) (device_stalls new)

@@ -66,11 +66,48 @@ LoadsFrom remaining old new result = Loads (remaining (device_inner old)) (remai
 abbrev pub AnswersReadFault : {R X : Type 0} → (old new : Device R) → Result X LoadError → Type 0
 AnswersReadFault old new result = ReadFaultIs result (device_failed new) (device_reads old) (device_reads new)
 
+-- ---- from any input
+
+-- a read goes on with what was read so often without a failure
+abbrev pub WorksOn : {I E : Type 0} → (works : I → I → ℕ → Type 0) → (old new : I) → Result ℕ E → Type 0
+WorksOn {I} works old new (Ok count) = (first : I) (n : ℕ) → works first old n → works first new (n + 1)
+WorksOn works old new (Err e) = Unit {0}
+
+-- an error is a failure, from whatever was read until then
+abbrev pub FailsFrom : {I E : Type 0} → (works : I → I → ℕ → Type 0) → (fails : I → I → Type 0) → (old new : I) → Result ℕ E → Type 0
+FailsFrom works fails old new (Ok count) = Unit {0}
+FailsFrom {I} works fails old new (Err e) = (first : I) (n : ℕ) → works first old n → fails first new
+
+-- a device was read so often, and has not failed
+abbrev pub HasRead : {R : Type 0} → (old new : Device R) → ℕ → Type 0
+HasRead old new n = (device_failed new ≡ false) × (device_reads new ≡ reads_from (device_reads old) n)
+
+-- a fault is told where a read failed, or after the last one
+abbrev pub InputFaultIs : {X : Type 0} → (works : ℕ → Type 0) → (fails : Type 0) → Result X LoadError → Type 0
+InputFaultIs works fails (Ok x) = (n : ℕ) × works n
+InputFaultIs works fails (Err OutOfMemory) = (n : ℕ) × works n
+InputFaultIs works fails (Err (BadImage line)) = (n : ℕ) × works n
+InputFaultIs works fails (Err ReadFault) = fails ⊎ works most_reads
+
+-- at least one byte was read by each of the most reads
+pub record ReadsMany (from to : Option (List ℕ)) : Type 0 where
+  pub bytes : List ℕ
+  pub read : Consumes from to bytes
+  pub many : most_reads ≤ length bytes
+
+-- ReadFault is told only where a read failed, or so many bytes were read
+abbrev pub FaultAfterMany : {X : Type 0} → (from to : Option (List ℕ)) → (fails : Type 0) → Result X LoadError → Type 0
+FaultAfterMany from to fails (Ok x) = Unit {0}
+FaultAfterMany from to fails (Err OutOfMemory) = Unit {0}
+FaultAfterMany from to fails (Err (BadImage line)) = Unit {0}
+FaultAfterMany from to fails (Err ReadFault) = fails ⊎ ReadsMany from to
+
 -- ---- within
 
--- so far: these bytes were read, at most so many
-pub record Gone (from to : Option (List ℕ)) (s : Reading) (most : ℕ) : Type 0 where
+-- so far: these bytes were read, at least and at most so many
+pub record Gone (from to : Option (List ℕ)) (s : Reading) (least most : ℕ) : Type 0 where
   pub taken : List ℕ
   pub read : Consumes from to taken
   pub is : IsReading taken s
+  pub many : least ≤ length taken
   pub few : length taken ≤ most

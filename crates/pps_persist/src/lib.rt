@@ -6,6 +6,7 @@ mod entries;
 mod errors;
 mod files;
 mod filing;
+mod input;
 mod lines;
 mod loading;
 mod number;
@@ -18,7 +19,7 @@ mod saving;
 
 pub use again::loaded_is_saved_alike;
 pub use errors::{LoadError, SaveError};
-pub use files::{Contents, FileFault, ImageFiles};
+pub use files::{Contents, FileFault, ImageFiles, OpenedFile};
 pub use filing::{load_from, save_to};
 pub use loading::load;
 pub use printing::{push_attribute, push_beginning, push_directory, push_end, push_object};

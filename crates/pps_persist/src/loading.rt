@@ -1,15 +1,41 @@
 //! Images, loaded.
 ghost use Rattle.std.specs.Prelude.{◌≡◌, false};
 ghost use Rattle.pps_types.specs.Device.{device_failed};
-ghost use Rattle.pps_persist.specs.Loads.{LoadsFrom, AnswersReadFault};
+ghost use Rattle.pps_persist.specs.Loads.{LoadsFrom, AnswersReadFault, Loads, InputFaultIs, FaultAfterMany};
 
 use crate::errors::LoadError;
+use crate::input::Input;
 use crate::pieces::Reading;
 use pps_engine::Engine;
 use pps_types::Device;
 use pps_types::limits::{PIECE, READS_MAX};
 use std::alloc::Global;
 use std::io::Read;
+
+/// Loads an image from any input, as `load` does from a device.
+pub(crate) fn load_input<I: Input>(alloc: Global, input: &mut I) -> Result<Engine, LoadError>
+    requires { I.works input.old input.old 0 }
+    ensures loads { Loads (I.remaining input.old) (I.remaining input.new) result }
+    ensures fault { InputFaultIs
+        (I.works input.old input.new) (I.fails input.old input.new) result }
+    ensures many { FaultAfterMany
+        (I.remaining input.old) (I.remaining input.new) (I.fails input.old input.new) result }
+{
+    let mut buffer = Vec::new(alloc);
+    buffer.resize(PIECE, 0u8)?;
+    let mut reading = Reading::new(alloc);
+    'pieces: for _ in 0..READS_MAX {
+        let count = match input.read_some(buffer.as_mut_slice()) {
+            Ok(count) => count,
+            Err(_) => return Err(LoadError::ReadFault),
+        };
+        if count == 0 {
+            return reading.finish();
+        }
+        reading = reading.take_piece(alloc, &buffer[..count])?;
+    }
+    Err(LoadError::ReadFault)
+}
 
 /// Loads an image, of version 1 or 2: an engine for the machine that it starts. The input is read in pieces, to its end.
 ///
@@ -23,18 +49,5 @@ pub fn load<R: Read>(alloc: Global, device: &mut Device<R>) -> Result<Engine, Lo
     ensures loads { LoadsFrom R.remaining device.old device.new result }
     ensures fault { AnswersReadFault device.old device.new result }
 {
-    let mut buffer = Vec::new(alloc);
-    buffer.resize(PIECE, 0u8)?;
-    let mut reading = Reading::new(alloc);
-    'pieces: for _ in 0..READS_MAX {
-        let count = match device.read(buffer.as_mut_slice()) {
-            Ok(count) => count,
-            Err(_) => return Err(LoadError::ReadFault),
-        };
-        if count == 0 {
-            return reading.finish();
-        }
-        reading = reading.take_piece(alloc, &buffer[..count])?;
-    }
-    Err(LoadError::ReadFault)
+    load_input(alloc, device)
 }

@@ -37,7 +37,8 @@ impl MemoryFiles {
 }
 
 impl ImageFiles for MemoryFiles {
-    ghost use Rattle.std.specs.Prelude.{map, string_bytes, Some};
+    ghost use Rattle.std.specs.Prelude.{◌≡◌, ◌≢◌, ◌⊎◌, map, string_bytes, Some, true};
+    ghost use Rattle.service_tests.specs.declared.filing.TheConstants.{NAME};
 
     type Image = &'static [u8];
 
@@ -45,6 +46,8 @@ impl ImageFiles for MemoryFiles {
 
     ghost replaced = { λ it. Some (map
         (λ r. record { file = string_bytes r.file; bytes = r.bytes.items }) it.replaced.items) };
+
+    ghost may_fail = { λ it file. (it.full ≡ true) ⊎ (file ≢ NAME.now) };
 
     fn open(&self, file: &str) -> Result<&'static [u8], FileFault> {
         if file == NAME {
@@ -61,7 +64,10 @@ impl ImageFiles for MemoryFiles {
     ) -> Result<(), FileFault> {
         let file = String::from_str(alloc, file)?;
         let mut device = Device::new(Vec::new(alloc));
-        contents.write_to(alloc, &mut device)?;
+        // A vector takes no byte only for want of memory.
+        if contents.write_to(alloc, &mut device).is_err() {
+            return Err(FileFault::OutOfMemory);
+        }
         if self.full {
             return Err(FileFault::Failed);
         }
