@@ -1,14 +1,16 @@
 -- How the definition reads a text from its front.
 use Rattle.std.proofs.Common.{◌≡◌, ℕ, suc, ◌+◌, ◌<◌, ◌≤◌, Bool, true, false, eqb, List, [], ◌∷◌, ◌++◌, length, Option, Some, None, Result, Ok, Err, append_assoc, inl, inr, refl, sym, ap, ◌∙◌, arith}
-use Rattle.std.specs.Prelude.{option_map, IfSome, unwrap_or, codes, cond}
+use Rattle.std.specs.Prelude.{◌&&◌, option_map, option_and_then, IfSome, unwrap_or, codes, cond}
 use Rattle.std.proofs.lemmas.Bool.{eqb-true, false≢true}
 use Rattle.pps_types.specs.declared.refusal.Refusal.{Refusal}
 use Rattle.pps_types.specs.declared.refusal.Refusal.TheVariants.{BadText, TooLarge}
+use Rattle.pps_types.specs.declared.line.Mark.TheVariants.{Keep}
 use Rattle.pps_types.specs.declared.line.WriteLine.{WriteLine}
+use Rattle.pps_types.specs.declared.line.WriteLine.TheVariants.{Set as WriteSet}
 use Rattle.pps_types.specs.Bytes.{split_at_first, is_empty, after_prefix, pieces, result_map}
-use Rattle.pps_types.specs.Text.{without_empty_end, lines_of, write_line, line_or, write_lines, with_header, text_after, text_of_lines, write_text}
+use Rattle.pps_types.specs.Text.{is_attribute_name, is_encoding, without_empty_end, lines_of, write_line, line_or, write_lines, with_header, text_after, text_of_lines, write_text}
 use Rattle.pps_types.proofs.Cuts.{pieces_of, pieces-split, split_at_first-shorter}
-use Rattle.attr_text.specs.ReadWrite.{first_line_of, IsLinesRefusal, IsTextRefusal}
+use Rattle.attr_text.specs.ReadWrite.{first_line_of, line_alone, single_line, text_of_line, IsSingle, IsLinesRefusal, IsTextRefusal}
 
 -- ---- the first piece, and the pieces behind it
 
@@ -171,6 +173,67 @@ write_lines-bad n lines rest [] behind all so_far first some is = absurd (omega 
 write_lines-bad n lines rest (b ∷ bs) behind all so_far first some is =
     so_far ∙ ap (λ ls. after_lines lines (write_lines n ls)) first
     ∙ ap (λ o. after_lines lines (line_or n o (write_lines (n + 1) (lines_of behind)))) is
+
+-- ---- a text of one line
+
+-- no line that is good begins with `@`
+at-no-line : (bs : List ℕ) → write_line (64 ∷ bs) ≡ None
+at-no-line bs = named (split_at_first 58 bs)
+  where
+    encoded : (name : List ℕ) (o : Option (List ℕ × List ℕ))
+        → option_and_then (λ (parts : List ℕ × List ℕ). cond (is_attribute_name (64 ∷ name) && is_encoding parts.0) (Some (WriteSet (64 ∷ name) parts.0 parts.1 Keep)) None) o ≡ None
+    encoded name None = refl
+    encoded name (Some parts) = refl
+
+    named : (o : Option (List ℕ × List ℕ))
+        → option_and_then
+        (λ (name : List ℕ × List ℕ). option_and_then (λ (parts : List ℕ × List ℕ). cond (is_attribute_name name.0 && is_encoding parts.0) (Some (WriteSet name.0 parts.0 parts.1 Keep)) None) (split_at_first 58 name.1))
+        (option_map (λ (parts : List ℕ × List ℕ). (64 ∷ parts.0, parts.1)) o)
+        ≡ None
+    named None = refl
+    named (Some parts) = encoded parts.0 (split_at_first 58 parts.1)
+
+-- so such a line is no header
+line-no-header : (l : List ℕ) (line : WriteLine) → write_line l ≡ Some line → after_prefix (codes "@") l ≡ None
+line-no-header [] line is = refl
+line-no-header (b ∷ bs) line is = by (eqb 64 b) refl
+  where
+    by : (v : Bool) → eqb 64 b ≡ v → cond v (Some bs) None ≡ None
+    by true same =
+        let begins : 64 ≡ b = eqb-true 64 b same in
+        let none : write_line (b ∷ bs) ≡ None = ap (λ n. write_line (n ∷ bs)) (sym begins) ∙ at-no-line bs in
+        absurd (let bad : Some line ≡ None = sym is ∙ none in cc)
+    by false same = refl
+
+-- a good line alone is the text
+text-of-one : (l : List ℕ) (line : WriteLine) → write_line l ≡ Some line → text_of_lines (l ∷ []) ≡ Ok (text_of_line line)
+text-of-one [] line is = absurd (let bad = is in cc)
+text-of-one (b ∷ bs) line is =
+    ap (λ o. text_after o ((b ∷ bs) ∷ []) []) (line-no-header (b ∷ bs) line is)
+    ∙ ap (λ o. with_header None (line_or 1 o (Ok []))) is
+
+text-alone : (ls : List (List ℕ)) (line : WriteLine) → line_alone ls ≡ Some line → text_of_lines ls ≡ Ok (text_of_line line)
+text-alone [] line is = absurd (let bad = is in cc)
+text-alone (l ∷ []) line is = text-of-one l line is
+text-alone (l ∷ m ∷ ms) line is = absurd (let bad = is in cc)
+
+pub single-text : (bytes : List ℕ) (read : Option WriteLine) → read ≡ single_line bytes → IfSome read (IsSingle bytes)
+single-text bytes None is = tt
+single-text bytes (Some line) is = text-alone (lines_of bytes) line (sym is)
+
+-- the first line, if nothing is after it
+pub single-first : (bytes line rest : List ℕ) → ◌≡◌ {A = List ℕ × List ℕ} (line, rest) (first_line_of bytes) → length rest ≡ 0 → write_line line ≡ single_line bytes
+single-first [] line rest parts none = ap (λ p. write_line p.0) parts
+single-first (b ∷ bs) line [] parts none = sym (ap line_alone (lines_of-parts (b ∷ bs) line [] (omega arith) parts))
+single-first (b ∷ bs) line (c ∷ cs) parts none = absurd (omega arith)
+
+-- none, if something is
+pub single-none : (bytes line rest : List ℕ) → ◌≡◌ {A = List ℕ × List ℕ} (line, rest) (first_line_of bytes) → 0 < length rest → None ≡ single_line bytes
+single-none [] line [] parts some = absurd (omega arith)
+single-none [] line (c ∷ cs) parts some = absurd (let bad : c ∷ cs ≡ [] = ap (λ p. p.1) parts in cc)
+single-none (b ∷ bs) line [] parts some = absurd (omega arith)
+single-none (b ∷ bs) line (c ∷ cs) parts some =
+    sym (ap line_alone (lines_of-parts (b ∷ bs) line (c ∷ cs) (omega arith) parts ∙ ap (λ ls. line ∷ ls) (lines_of-first c cs)))
 
 -- ---- no text is refused for its size
 

@@ -13,6 +13,6 @@ pub use print::{
     client_header_len, header_len, line_len, print_header, print_line, push_client_header,
     push_header, push_line, push_set, set_len,
 };
-pub use read::{WriteText, first_line, read_set, read_write, read_write_line};
+pub use read::{WriteText, first_line, read_set, read_single, read_write, read_write_line};
 pub use show::show_value;
-pub use write::write_set;
+pub use write::{write_client_header, write_header, write_line, write_set};

@@ -9,6 +9,7 @@ use pps_types::{Handle, Line, Refusal};
 use std::alloc::Global;
 
 /// The length of the printing of a line that sets an attribute, where it is a length. It takes no memory.
+#[inline(always)]
 pub fn set_len(name: &[u8], enc: &[u8], value: &[u8], n: bool) -> Option<usize>
     ensures some { IfSome result (λ len. len ≡ length (set_text name.now enc.now value.now n)) }
     ensures none { IfNone result (2 ^ 64 ≤ length (set_text name.now enc.now value.now n)) }
@@ -20,6 +21,7 @@ pub fn set_len(name: &[u8], enc: &[u8], value: &[u8], n: bool) -> Option<usize>
 }
 
 /// The length of the printing of a line, where it is a length. It takes no memory.
+#[inline(always)]
 pub fn line_len(line: &Line) -> Option<usize>
     ensures some { IfSome result (λ len. len ≡ length (text.print_line line.now)) }
     ensures none { IfNone result (2 ^ 64 ≤ length (text.print_line line.now)) }
@@ -36,6 +38,7 @@ pub fn line_len(line: &Line) -> Option<usize>
 }
 
 /// Pushes bytes for which there is room.
+#[inline(always)]
 fn push_bytes(out: &mut Vec<u8>, bytes: &[u8])
     requires { HasRoomFor out.old bytes.now }
     ensures items { out.new.items ≡ out.old.items ++ bytes.now }
@@ -46,6 +49,7 @@ fn push_bytes(out: &mut Vec<u8>, bytes: &[u8])
 }
 
 /// Pushes the bracket of a nonpersistent attribute, for which there is room.
+#[inline(always)]
 fn push_bracket(out: &mut Vec<u8>, n: bool)
     requires { HasRoomFor out.old (if n then codes "[n]" else []) }
     ensures items { out.new.items ≡ out.old.items ++ (if n then codes "[n]" else []) }
@@ -107,6 +111,7 @@ pub fn print_line(alloc: Global, line: &Line) -> Result<Vec<u8>, Refusal>
 }
 
 /// The length of the printing of a header, where it is a length. It takes no memory.
+#[inline(always)]
 pub fn header_len(mark: Option<u8>, name: &[u8]) -> Option<usize>
     ensures some { IfSome result (λ len. len ≡ length (header_text mark name.now)) }
     ensures none { IfNone result (2 ^ 64 ≤ length (header_text mark name.now)) }
@@ -116,6 +121,7 @@ pub fn header_len(mark: Option<u8>, name: &[u8]) -> Option<usize>
 }
 
 /// Pushes the mark of a header, if there is one, and `@`, for which there is room.
+#[inline(always)]
 fn push_mark(out: &mut Vec<u8>, mark: Option<u8>)
     requires { HasRoomFor out.old (option_to_list mark ++ codes "@") }
     ensures items { out.new.items ≡ out.old.items ++ option_to_list mark ++ codes "@" }

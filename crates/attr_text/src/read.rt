@@ -1,9 +1,9 @@
 //! The text of a write.
-ghost use Rattle.std.specs.Prelude.{◌≡◌, ◌↔◌, ◌<◌, ◌≤◌, ◌+◌, ◌^◌, ◌++◌, IfOk, IfErr, IsErrOf, Ok, Err, length, codes};
+ghost use Rattle.std.specs.Prelude.{◌≡◌, ◌↔◌, ◌<◌, ◌≤◌, ◌+◌, ◌^◌, ◌++◌, IfOk, IfErr, IfSome, IsErrOf, Ok, Err, length, codes};
 ghost use Rattle.std.specs.Option.{option_copied};
 ghost use Rattle.pps_types.specs.Bytes as bytes_words;
 ghost use Rattle.pps_types.specs.Text as text;
-ghost use Rattle.attr_text.specs.ReadWrite.{first_line_of, lines_from, IsLinesRefusal, IsTextRefusal};
+ghost use Rattle.attr_text.specs.ReadWrite.{first_line_of, lines_from, single_line, IsSingle, IsLinesRefusal, IsTextRefusal};
 
 use crate::parts::{is_encoding, split_at_colon, split_at_line_feed};
 use pps_types::limits::WRITE_MAX;
@@ -115,6 +115,22 @@ pub fn first_line(bytes: &[u8]) -> (&[u8], &[u8])
         Some(parts) => parts,
         None => (bytes, &bytes[bytes.len()..]),
     }
+}
+
+/// Reads a text of one line that sets or deletes an attribute, with a line feed at its end or without one. `None` says that
+/// the text is no such line: then [`read_write`] says what it is. AllocError comes only if memory lacks.
+///
+/// It is the short way for the commonest write, without memory for a list of lines.
+#[inline]
+pub fn read_single(alloc: Global, bytes: &[u8]) -> Result<Option<WriteLine>, AllocError>
+    ensures line { IfOk result (λ read. read ≡ single_line bytes.now) }
+    ensures text { IfOk result (λ read. IfSome read (IsSingle bytes.now)) }
+{
+    let (line, rest) = first_line(bytes);
+    if !rest.is_empty() {
+        return Ok(None);
+    }
+    read_write_line(alloc, line)
 }
 
 /// Reads the lines of the bytes, the first of which has that number.

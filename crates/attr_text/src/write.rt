@@ -1,7 +1,12 @@
-//! The one printing of lines, written into a place that is there.
-ghost use Rattle.std.specs.Prelude.{◌≡◌, ◌+◌, ◌≤◌, ◌++◌, ◌∷◌, [], length, if◌then◌else◌, codes};
-ghost use Rattle.attr_text.specs.Printed.{set_text};
+//! The one printing of lines and headers, written into a place that is there.
+ghost use Rattle.std.specs.Prelude.{◌≡◌, ◌+◌, ◌≤◌, ◌++◌, ◌∷◌, [], true, length, if◌then◌else◌, codes};
+ghost use Rattle.std.specs.Option.{ForSome, option_to_list};
+ghost use Rattle.pps_types.specs.Text as text;
+ghost use Rattle.attr_text.specs.Printed.{set_text, header_text, client_header_text};
 ghost use Rattle.attr_text.specs.Written.{overwritten};
+
+use itoa::Buffer;
+use pps_types::{Handle, Line};
 
 // Writes a byte from `at` on, and says where it ends.
 #[inline]
@@ -91,4 +96,83 @@ pub fn write_set(out: &mut [u8], at: usize, name: &[u8], enc: &[u8], value: &[u8
     let at = write_name(out, at, name);
     let at = write_ended(out, at, enc, b':');
     write_ended(out, at, value, b'\n')
+}
+
+/// Writes the printing of a line over the bytes from `at` on, and reports where it ends. It takes no memory.
+#[inline]
+pub fn write_line(out: &mut [u8], at: usize, line: &Line) -> usize
+    requires { at + length (text.print_line line.now) ≤ length out.old }
+    ensures text { out.new ≡ overwritten out.old at (text.print_line line.now) }
+    ensures end { result ≡ at + length (text.print_line line.now) }
+{
+    match line {
+        Line::Set {
+            name,
+            enc,
+            value,
+            n,
+        } => write_set(
+            out,
+            at,
+            name.as_slice(),
+            enc.as_slice(),
+            value.as_slice(),
+            *n,
+        ),
+        Line::Del { name } => {
+            let named = write_byte(out, at, b'-');
+            write_ended(out, named, name.as_slice(), b'\n')
+        }
+    }
+}
+
+// Writes the mark of a header, if there is one, and `@`.
+#[inline]
+fn write_mark(out: &mut [u8], at: usize, mark: Option<u8>) -> usize
+    requires { at + length (option_to_list mark ++ codes "@") ≤ length out.old }
+    ensures text { out.new ≡ overwritten out.old at (option_to_list mark ++ codes "@") }
+    ensures end { result ≡ at + length (option_to_list mark ++ codes "@") }
+{
+    match mark {
+        Some(byte) => {
+            let marked = write_byte(out, at, byte);
+            write_byte(out, marked, b'@')
+        }
+        None => write_byte(out, at, b'@'),
+    }
+}
+
+/// Writes the printing of a header over the bytes from `at` on, and reports where it ends: the mark, if there is one, `@`
+/// and the name. It takes no memory.
+#[inline]
+pub fn write_header(out: &mut [u8], at: usize, mark: Option<u8>, name: &[u8]) -> usize
+    requires marked { ForSome mark (λ byte. text.is_header_mark byte ≡ true) }
+    requires room { at + length (header_text mark name.now) ≤ length out.old }
+    ensures text { out.new ≡ overwritten out.old at (header_text mark name.now) }
+    ensures end { result ≡ at + length (header_text mark name.now) }
+{
+    let marked = write_mark(out, at, mark);
+    let named = write_many(out, marked, name);
+    write_byte(out, named, b'\n')
+}
+
+/// Writes the printing of a header of a server's client over the bytes from `at` on, and reports where it ends: the mark,
+/// if there is one, `@`, the object's name, a dot and the client's number. It takes no memory.
+pub fn write_client_header(
+    out: &mut [u8],
+    at: usize,
+    mark: Option<u8>,
+    name: &[u8],
+    client: Handle,
+) -> usize
+    requires marked { ForSome mark (λ byte. text.is_header_mark byte ≡ true) }
+    requires room { at + length (client_header_text mark name.now client) ≤ length out.old }
+    ensures text { out.new ≡ overwritten out.old at (client_header_text mark name.now client) }
+    ensures end { result ≡ at + length (client_header_text mark name.now client) }
+{
+    let mut buffer = Buffer::new();
+    let digits = buffer.format(client.number());
+    let marked = write_mark(out, at, mark);
+    let named = write_ended(out, marked, name, b'.');
+    write_ended(out, named, digits.as_bytes(), b'\n')
 }

@@ -1,13 +1,16 @@
 //! Blocks, before they are printed and as they are printed.
-ghost use Rattle.std.specs.Prelude.{◌≡◌, ◌≤◌, ◌+◌, ◌++◌, ◌^◌, ◌∷◌, [], Some, true, length, vec_len, vec_capacity, OnOk, IfSome, IfNone};
+ghost use Rattle.std.specs.Prelude.{◌≡◌, ◌≤◌, ◌+◌, ◌++◌, ◌^◌, ◌∷◌, [], Some, true, length, take, vec_len, vec_capacity, OnOk, IfSome, IfNone};
 ghost use Rattle.std.specs.Option.{option_to_list, ForSome};
 ghost use Rattle.pps_types.specs.Reading as reading;
 ghost use Rattle.pps_types.specs.Text as text;
 ghost use Rattle.pps_block.specs.Matching.{matching_in};
 ghost use Rattle.pps_block.specs.Printed.{header_for, printed_for};
 
-use crate::lines::{matching_len, push_matching, put_matching};
-use attr_text::{client_header_len, header_len, push_client_header, push_header};
+use crate::lines::{matching_len, push_matching, put_matching, write_matching};
+use attr_text::{
+    client_header_len, header_len, push_client_header, push_header, write_client_header,
+    write_header,
+};
 use pps_filter::Filter;
 use pps_types::{Handle, Line};
 use std::alloc::AllocError;
@@ -89,6 +92,7 @@ impl<'a> Block<'a> {
         }
     }
 
+    #[inline]
     fn header_len(&self, name: &[u8]) -> Option<usize>
         ensures some { IfSome result (λ len. len ≡ length (header_for name.now self.now)) }
         ensures none { IfNone result (2 ^ 64 ≤ length (header_for name.now self.now)) }
@@ -101,6 +105,7 @@ impl<'a> Block<'a> {
 
     /// How long it is, printed for an object of that name, where that is a length. It takes no memory, and asks the
     /// filter about each line at most once.
+    #[inline]
     pub fn print_len(&self, name: &[u8]) -> Option<usize>
         ensures some { IfSome result (λ len. len ≡ length (printed_for name.now self.now)) }
         ensures none { IfNone result (2 ^ 64 ≤ length (printed_for name.now self.now)) }
@@ -110,6 +115,7 @@ impl<'a> Block<'a> {
         header.checked_add(lines)
     }
 
+    #[inline]
     fn push_header(&self, out: &mut Vec<u8>, name: &[u8])
         requires { vec_len out.old + length (header_for name.now self.now) ≤ vec_capacity out.old }
         ensures items { out.new.items ≡ out.old.items ++ header_for name.now self.now }
@@ -123,6 +129,7 @@ impl<'a> Block<'a> {
 
     /// Pushes its printing for an object of that name, for which there is room. It takes no memory, and asks the filter
     /// about each line at most once.
+    #[inline]
     pub fn push(&self, out: &mut Vec<u8>, name: &[u8])
         requires { vec_len out.old + length (printed_for name.now self.now) ≤ vec_capacity out.old }
         ensures items { out.new.items ≡ out.old.items ++ printed_for name.now self.now }
@@ -130,6 +137,31 @@ impl<'a> Block<'a> {
     {
         self.push_header(out, name);
         push_matching(out, self.filter, self.lines);
+    }
+
+    // Writes its header at the start.
+    #[inline]
+    fn write_header(&self, out: &mut [u8], name: &[u8]) -> usize
+        requires { length (header_for name.now self.now) ≤ length out.old }
+        ensures text { take result out.new ≡ header_for name.now self.now }
+        ensures len { result ≡ length (header_for name.now self.now) }
+    {
+        match self.client {
+            None => write_header(out, 0, self.mark, name),
+            Some(client) => write_client_header(out, 0, self.mark, name, client),
+        }
+    }
+
+    /// Writes its printing for an object of that name at the start of bytes that are at least as many, and reports how
+    /// long it is. It takes no memory, and asks the filter about each line at most once.
+    #[inline]
+    pub fn write(&self, out: &mut [u8], name: &[u8]) -> usize
+        requires { length (printed_for name.now self.now) ≤ length out.old }
+        ensures text { take result out.new ≡ printed_for name.now self.now }
+        ensures len { result ≡ length (printed_for name.now self.now) }
+    {
+        let at = self.write_header(out, name);
+        write_matching(out, at, self.filter, self.lines)
     }
 
     // Puts its header.

@@ -1,14 +1,15 @@
 //! The lines of a block: those of a record that match.
-ghost use Rattle.std.specs.Prelude.{◌≡◌, ◌≤◌, ◌+◌, ◌++◌, ◌^◌, is_some, length, vec_len, vec_capacity, OnOk, IfSome, IfNone};
+ghost use Rattle.std.specs.Prelude.{◌≡◌, ◌≤◌, ◌+◌, ◌++◌, ◌^◌, is_some, length, take, vec_len, vec_capacity, OnOk, IfSome, IfNone};
 ghost use Rattle.pps_types.specs.Text as text;
 ghost use Rattle.pps_block.specs.Matching.{some_match, matching_text, HaveSameMatches};
 
-use attr_text::{line_len, push_line};
+use attr_text::{line_len, push_line, write_line};
 use pps_filter::{Filter, matches};
 use pps_types::Line;
 use std::alloc::AllocError;
 
 /// The lines from the first that matches on, where one does. It asks about no line behind that one.
+#[inline]
 pub(crate) fn from_first_match<'a>(filter: Option<&Filter>, lines: &'a [Line]) -> Option<&'a [Line]>
     ensures matches { is_some result ≡ some_match filter.entry lines.now }
     ensures same { IfSome result (λ rest. HaveSameMatches filter.entry rest.now lines.now) }
@@ -24,6 +25,7 @@ pub(crate) fn from_first_match<'a>(filter: Option<&Filter>, lines: &'a [Line]) -
 }
 
 /// How long the lines that match are, printed, where that is a length. It takes no memory.
+#[inline]
 pub(crate) fn matching_len(filter: Option<&Filter>, lines: &[Line]) -> Option<usize>
     ensures some { IfSome result (λ len. len ≡ length (matching_text filter.entry lines.now)) }
     ensures none { IfNone result (2 ^ 64 ≤ length (matching_text filter.entry lines.now)) }
@@ -40,6 +42,7 @@ pub(crate) fn matching_len(filter: Option<&Filter>, lines: &[Line]) -> Option<us
 }
 
 /// Pushes the printing of the lines that match, for which there is room. It takes no memory.
+#[inline]
 pub(crate) fn push_matching(out: &mut Vec<u8>, filter: Option<&Filter>, lines: &[Line])
     requires { vec_len out.old + length (matching_text filter lines.now) ≤ vec_capacity out.old }
     ensures items { out.new.items ≡ out.old.items ++ matching_text filter.entry lines.now }
@@ -51,6 +54,29 @@ pub(crate) fn push_matching(out: &mut Vec<u8>, filter: Option<&Filter>, lines: &
         }
         push_line(out, line);
     }
+}
+
+/// Writes the printing of the lines that match over the bytes from `start` on, and reports where it ends. It takes no
+/// memory.
+#[inline]
+pub(crate) fn write_matching(
+    out: &mut [u8],
+    start: usize,
+    filter: Option<&Filter>,
+    lines: &[Line],
+) -> usize
+    requires { start + length (matching_text filter lines.now) ≤ length out.old }
+    ensures text { take result out.new ≡ take start out.old ++ matching_text filter.entry lines.now }
+    ensures end { result ≡ start + length (matching_text filter.entry lines.now) }
+{
+    let mut at = start;
+    'lines: for line in lines {
+        if !matches(filter, line) {
+            continue;
+        }
+        at = write_line(out, at, line);
+    }
+    at
 }
 
 // Puts a line.

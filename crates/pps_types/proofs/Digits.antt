@@ -1,7 +1,8 @@
 -- Reading digits one at a time.
-use Rattle.std.proofs.Common.{◌≡◌, ℕ, ◌+◌, ◌*◌, ◌-◌, ◌<◌, ◌≤◌, Bool, true, false, ◌&&◌, List, [], ◌∷◌, length, get_or, drop, Option, Some, None, refl, ◌∙◌, arith}
+use Rattle.std.proofs.Common.{◌≡◌, ℕ, ◌+◌, ◌*◌, ◌-◌, ◌^◌, ◌<◌, ◌≤◌, Bool, true, false, ◌&&◌, List, [], ◌∷◌, length, get_or, drop, Option, Some, None, refl, ◌∙◌, lit<, arith}
 use Rattle.std.specs.Prelude.{nat_lt, if◌then◌else◌}
 use Rattle.std.specs.List.{list_all}
+use Rattle.std.proofs.Math.Nat.{pow-le-pow_right}
 use Rattle.std.proofs.lemmas.Bool.Decides.{nat_tests}
 use Rattle.std.proofs.lemmas.List.{at_drop_more}
 use Rattle.pps_types.specs.Bytes.{is_digit, number_from}
@@ -35,3 +36,13 @@ digits-digit bound n i ds within digit = at_drop_more (digits_from bound n) ds i
 pub digits-stop : (bound n i : ℕ) (ds : List ℕ) → i < length ds → is_digit (get_or ds i 0) ≡ true → bound ≤ 10 * n + (get_or ds i 0 - 48) → digits_from bound n (drop i ds) ≡ None
 digits-stop bound n i ds within digit large =
     digits-digit bound n i ds within digit ∙ digits_from-large bound (10 * n + (get_or ds i 0 - 48)) (drop (i + 1) ds) large
+
+-- after few enough digits one more makes no number that needs over 64 bits
+pub one-digit-more : (n i : ℕ) → n < 10 ^ i → i < 19 → 10 * n + 9 < 2 ^ 64
+one-digit-more n i small few =
+    let largest : 10 ^ i ≤ 10 ^ 18 = pow-le-pow_right {n = 10} (lit< tt) {i = i} {j = 18} (omega arith) in
+    omega arith
+
+-- a digit is at most nine
+pub digit-small : (d : ℕ) → is_digit d ≡ true → d - 48 ≤ 9
+digit-small d digit = grind (arith, nat_tests)

@@ -1,5 +1,5 @@
 //! Bytes that one value owns. A contract sees them as a list.
-ghost use Rattle.std.specs.Prelude.{◌≡◌, ◌≤◌, ◌↔◌, IfOk, IfSome, IsSome, IsTrue, [], length, take, nat_eq};
+ghost use Rattle.std.specs.Prelude.{◌≡◌, ◌≤◌, ◌*◌, ◌↔◌, IfOk, IfSome, IsSome, IsTrue, [], length, take, nat_eq};
 ghost use Rattle.std.proofs.Common.{rules};
 ghost use Rattle.std.specs.Cmp.Rules.{comparing};
 ghost use lib.Pointwise.{pointwise};
@@ -40,8 +40,43 @@ impl Model for Short {
     ghost invariant = { λ a. a.len ≤ 23 };
 }
 
+// Copies the first `width` of the bytes and the last `width`, which are all of them. With a width that is known at
+// compile time each copy is a single move.
+#[inline(always)]
+fn copy_ends(out: &mut [u8], content: &[u8], width: usize)
+    requires within { width ≤ length content.now }
+    requires covered { length content.now ≤ 2 * width }
+    requires room { length content.now ≤ length out.old }
+    ensures { take (length content.now) out.new ≡ content.now }
+{
+    let last = content.len() - width;
+    out[..width].copy_from_slice(&content[..width]);
+    out[last..content.len()].copy_from_slice(&content[last..]);
+}
+
+// Copies at most 23 bytes to the start, without a call.
+#[inline(always)]
+fn copy_short(out: &mut [u8], content: &[u8])
+    requires short { length content.now ≤ SHORT_MAX }
+    requires room { length content.now ≤ length out.old }
+    ensures { take (length content.now) out.new ≡ content.now }
+{
+    if content.len() >= 16 {
+        copy_ends(out, content, 16);
+    } else if content.len() >= 8 {
+        copy_ends(out, content, 8);
+    } else if content.len() >= 4 {
+        copy_ends(out, content, 4);
+    } else if content.len() >= 2 {
+        copy_ends(out, content, 2);
+    } else if content.len() == 1 {
+        out[0] = content[0];
+    }
+}
+
 impl Short {
     // A copy of these bytes, if they are few enough.
+    #[inline]
     fn from_slice(content: &[u8]) -> Option<Short>
         ensures few { IsSome result ↔ (length content.now ≤ 23) }
         ensures bytes { IfSome result (λ short. short ≡ content.now) }
@@ -50,7 +85,7 @@ impl Short {
             return None;
         }
         let mut bytes = [0; SHORT_MAX];
-        bytes[..content.len()].copy_from_slice(content);
+        copy_short(&mut bytes, content);
         Some(Short {
             bytes,
             len: content.len() as u8,
@@ -58,12 +93,14 @@ impl Short {
         })
     }
 
+    #[inline]
     fn as_slice(&self) -> &[u8]
         ensures { result.now ≡ self.now }
     {
         &self.bytes[..usize::from(self.len)]
     }
 
+    #[inline]
     fn copy(&self) -> Short
         ensures { result ≡ self.now }
     {
@@ -123,6 +160,7 @@ impl Bytes {
         Ok(Bytes::new(copy))
     }
 
+    #[inline]
     pub fn as_slice(&self) -> &[u8]
         ensures { result.now ≡ self.now }
     {
@@ -133,6 +171,7 @@ impl Bytes {
     }
 
     /// A copy of its own.
+    #[inline(always)]
     pub fn copy(&self) -> Result<Bytes, AllocError>
         ensures { IfOk result (λ bytes. bytes ≡ self.now) }
     {
@@ -143,6 +182,7 @@ impl Bytes {
         Ok(Bytes { content })
     }
 
+    #[inline]
     pub fn len(&self) -> usize
         ensures { result ≡ length self.now }
     {

@@ -1,5 +1,5 @@
 //! Lines of an object as they are printed for all handles that have no filter.
-ghost use Rattle.std.specs.Prelude.{◌≡◌, Some, IfOk};
+ghost use Rattle.std.specs.Prelude.{◌≡◌, ◌≤◌, Some, IfOk, length};
 ghost use Rattle.pps_types.specs.Reading as reading;
 ghost use Rattle.server_queue.specs.Printed.{printed_text};
 
@@ -7,13 +7,29 @@ use pps_block::Block;
 use pps_types::{Bytes, Handle, HandleKind, Kind};
 use std::alloc::{AllocError, Global};
 
-// The printing of a block for an object of that name. The memory for it is taken at once.
+/// The longest printing that takes no memory.
+const SHORT_MAX: usize = 23;
+
+// The printing of a block for an object of that name, where that is short. No memory is asked for.
+fn print_short(alloc: Global, name: &[u8], block: &Block<'_>) -> Result<Bytes, AllocError>
+    requires { length (reading.print_shown name.now (Some block.now)) ≤ SHORT_MAX }
+    ensures { IfOk result (λ text. text ≡ reading.print_shown name.now (Some block.now)) }
+{
+    let mut place = [0; SHORT_MAX];
+    let len = block.write(&mut place, name);
+    Bytes::from_slice(alloc, &place[..len])
+}
+
+// The printing of a block for an object of that name. If it is long, the memory for it is taken at once.
 fn print(alloc: Global, name: &[u8], block: &Block<'_>) -> Result<Bytes, AllocError>
     ensures { IfOk result (λ text. text ≡ reading.print_shown name.now (Some block.now)) }
 {
     let Some(len) = block.print_len(name) else {
         return Err(AllocError);
     };
+    if len <= SHORT_MAX {
+        return print_short(alloc, name, block);
+    }
     let mut text = Vec::new(alloc);
     text.reserve(len)?;
     block.push(&mut text, name);

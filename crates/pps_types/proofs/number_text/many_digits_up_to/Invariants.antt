@@ -1,7 +1,7 @@
 use Rattle.std.proofs.Common.{◌≡◌, ◌+◌, ◌≤◌, drop}
 use Rattle.pps_types.specs.Filter.{digits_below}
 use Rattle.pps_types.proofs.Digits.{digits_from}
-use Rattle.pps_types.proofs.number_text.digits_up_to.Given as goal
+use Rattle.pps_types.proofs.number_text.many_digits_up_to.Given as goal
 
 abbrev pub invariant-loop-byte : goal.invariant-loop-byte
 invariant-loop-byte l = record {

@@ -1,7 +1,7 @@
 use Rattle.std.proofs.Common.{◌≡◌, ◌+◌, ◌∙◌, sym, arith, rules, get_or, true}
 use Rattle.pps_types.specs.Bytes.{is_digit}
 use Rattle.pps_types.proofs.Digits.{digits-stop}
-use Rattle.pps_types.proofs.number_text.digits_up_to.Goals as goal
+use Rattle.pps_types.proofs.number_text.many_digits_up_to.Goals as goal
 
 pub returns-in_err-tens : goal.returns-in_err-tens
 returns-in_err-tens c =
