@@ -1,15 +1,17 @@
 -- What a read gives of what is owed, and what refuses it.
 use Rattle.std.specs.Prelude.{◌≡◌, ◌≢◌, ◌<◌, ◌^◌, ◌⊎◌, ◌∷◌, [], ℕ, List, Bool, true, false, nat_le, if◌then◌else◌, Option, Some, None, is_none, IfSome, length, map, filter, ◌&&◌}
-use Rattle.std.proofs.Common.{refl, sym, ap, inl, inr, arith}
+use Rattle.std.specs.Option.{option_map_or}
+use Rattle.std.proofs.Common.{refl, sym, ◌∙◌, ap, inl, inr, arith}
 use Rattle.std.proofs.lemmas.Bool.Decides.{nat_tests}
 use Rattle.pps_types.specs.declared.refusal.Refusal.{Refusal}
 use Rattle.pps_types.specs.declared.refusal.Refusal.TheVariants.{OutOfMemory}
 use Rattle.pps_types.specs.Reading.{OpenHandle, Needs, fitting, blocks_answer, owed_answer, block, visible}
 use Rattle.pps_types.specs.Rests.{Progress, News, Unread, Over, Owed, answer, news_in}
 use Rattle.pps_types.specs.Owed.{owed_in_seen}
+use Rattle.pps_types.specs.Content.{news}
 use Rattle.server_queue.specs.Given.{needed, refused_for, first_len}
 use Rattle.sub_reader.specs.Blocks.{owed_blocks}
-use Rattle.whole_texts.specs.Answered.{Owes, refusal_in}
+use Rattle.whole_texts.specs.Answered.{Owes, AreFitting, refusal_in}
 use Rattle.server_queue.specs.declared.plan.GivenBlocks.{GivenBlocks}
 use Rattle.handle_requests.specs.Reads.{Refuses, is_given_all}
 use Rattle.service_state.proofs.Memory.{memory_or}
@@ -57,6 +59,25 @@ pub some_owed : (max : ℕ) (g : GivenBlocks) (o : Option (OpenHandle Progress))
     → IfSome o (λ h. h.reads ≡ true → Owes max h h.seen (Some g))
 some_owed max g None e same fit = tt
 some_owed max g (Some h) e same fit = λ reads. some_of max g h reads h.seen e same fit
+
+-- ---- nothing
+
+module _ (max : ℕ) (g : GivenBlocks) (count : g.count ≡ 0) (text : g.text.items ≡ []) where
+  none_fits : AreFitting max [] g
+  none_fits = record { same = λ i. (count i, text i); fits = refl }
+
+  none_of : (h : OpenHandle Progress) → h.reads ≡ true → (s : Progress) → news_in h.reads s ≡ false → Owes max h s (Some g)
+  none_of h reads (News true) e = absurd (let bad = e in cc)
+  none_of h reads (News false) e = none_fits
+  none_of h reads Unread e = absurd (let bad : true ≡ false = sym reads ∙ e in cc)
+  none_of h reads Over e = absurd (let bad = e in cc)
+  none_of h reads (Owed []) e = none_fits
+  none_of h reads (Owed (x ∷ xs)) e = absurd (let bad = e in cc)
+
+  -- a handle without news is owed nothing
+  pub none_owed : (o : Option (OpenHandle Progress)) → option_map_or news o false ≡ false → IfSome o (λ h. h.reads ≡ true → Owes max h h.seen (Some g))
+  none_owed None e = tt
+  none_owed (Some h) e = λ reads. none_of h reads h.seen e
 
 -- ---- refusals
 

@@ -21,6 +21,7 @@ use Rattle.service_laws.proofs.Finds.{all-find}
 use Rattle.service_state.specs.Refused.{Fails, all_request_checks}
 use Rattle.handle_requests.proofs.Owns.{own_is}
 use Rattle.name_table.specs.Standing.{known_of}
+use Rattle.open_handles.specs.Whole.{Whole}
 use Rattle.handle_requests.specs.declared.draft.Draft.{Draft}
 use Rattle.handle_requests.specs.declared.writer.Writer.{Writer}
 use Rattle.handle_requests.specs.Backlogs.{server_in}
@@ -62,7 +63,7 @@ server_owned (DirectoryHandle delta) number s is may = absurd (let bad = is in c
 server_owned NamesHandle number s is may = absurd (let bad = is in cc)
 server_owned ClientHandle number s is may = absurd (let bad = is in cc)
 
-module _ (c : Content) (content : IsContent c) (conn n : ℕ) (bytes : List ℕ) (w : Writer) (h : OpenHandle Progress) (own : own_handle c conn n ≡ Some h) (writer : IsWriter c bytes w h) where
+module _ (c : Content) (whole : Whole) (content : IsContent c) (conn n : ℕ) (bytes : List ℕ) (w : Writer) (h : OpenHandle Progress) (own : own_handle c conn n ≡ Some h) (writer : IsWriter c whole bytes w h) where
   target_is : h.target ≡ w.object.now.object.number
   target_is = ap (λ (a : Author). a.object) (sym writer.author_is)
 
@@ -79,7 +80,7 @@ module _ (c : Content) (content : IsContent c) (conn n : ℕ) (bytes : List ℕ)
   }
 
   -- what its text is refused for refuses the write
-  pub draft_fails : (r : Refusal) → FailsLate (parsed (write_text bytes) (checks_by c (author_of w) w.kind)) r → Fails (all_request_checks c conn (Write n bytes)) r
+  pub draft_fails : (r : Refusal) → FailsLate (parsed (write_text bytes) (checks_by c (author_of whole w) w.kind)) r → Fails (all_request_checks c conn (Write n bytes)) r
   draft_fails r fails =
       text_fails c conn n bytes h own writer.early r
       (subst (λ (checks : WriteText → List Check). FailsLate (parsed (write_text bytes) checks) r) (λ i text. checks_same c h h.kind text i)
@@ -87,7 +88,7 @@ module _ (c : Content) (content : IsContent c) (conn n : ℕ) (bytes : List ℕ)
       (subst (λ (a : Author). FailsLate (parsed (write_text bytes) (checks_by c a w.kind)) r) writer.author_is fails)))
 
   -- and what it comes to is the write's
-  pub is_draft : (d : Draft) → IsDrafted c (author_of w) w.kind bytes d → IsDraft c conn n bytes d
+  pub is_draft : (d : Draft) → IsDrafted c (author_of whole w) w.kind bytes d → IsDraft c conn n bytes d
   is_draft d drafted =
       subst (λ (o : Option (OpenHandle Progress)). IsSomeAnd o (IsDraftOf c bytes d)) (sym own)
       (record {
@@ -96,11 +97,11 @@ module _ (c : Content) (content : IsContent c) (conn n : ℕ) (bytes : List ℕ)
         drafted = subst (λ (k : HandleKind). IsDrafted c (author h) k bytes d) writer.kind (subst (λ (a : Author). IsDrafted c a w.kind bytes d) writer.author_is drafted);
       })
 
-  pub are_drafts : (r : Result Draft Refusal) → IfOk r (λ d. IsDrafted c (author_of w) w.kind bytes d) → IfOk r (λ d. IsDraft c conn n bytes d)
+  pub are_drafts : (r : Result Draft Refusal) → IfOk r (λ d. IsDrafted c (author_of whole w) w.kind bytes d) → IfOk r (λ d. IsDraft c conn n bytes d)
   are_drafts (Ok d) drafted = is_draft d drafted
   are_drafts (Err e) drafted = tt
 
-  pub drafts_fail : (r : Result Draft Refusal) → IfErr r (λ e. FailsLate (parsed (write_text bytes) (checks_by c (author_of w) w.kind)) e) → IfErr r (λ e. Fails (all_request_checks c conn (Write n bytes)) e)
+  pub drafts_fail : (r : Result Draft Refusal) → IfErr r (λ e. FailsLate (parsed (write_text bytes) (checks_by c (author_of whole w) w.kind)) e) → IfErr r (λ e. Fails (all_request_checks c conn (Write n bytes)) e)
   drafts_fail (Ok d) fails = tt
   drafts_fail (Err e) fails = draft_fails e fails
 

@@ -14,3 +14,4 @@ pub mod Refusals
 pub mod Drafts
 pub mod Texts
 pub mod Writers
+pub mod Records

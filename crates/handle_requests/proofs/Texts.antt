@@ -1,20 +1,23 @@
 -- What a text comes to, by the kind of its handle.
-use Rattle.std.proofs.Common.{◌≡◌, ◌∙◌, ne_eqb, arith, ℕ, Bool, false, List, [], ◌∷◌, map, Option, Some, None, Result, Ok, Err, refl, sym, ap, subst, inl, inr}
+use Rattle.std.proofs.Common.{◌≡◌, ◌∙◌, ne_eqb, arith, ℕ, Bool, true, false, List, [], ◌∷◌, map, Option, Some, None, Result, Ok, Err, refl, sym, ap, subst, inl, inr}
 use Rattle.std.specs.Prelude.{◌==◌, length, fold, IfOk, IfErr, OnOk, IsSomeAnd}
 use Rattle.pps_types.specs.declared.handle_kind.HandleKind.{HandleKind}
 use Rattle.pps_types.specs.declared.handle_kind.HandleKind.TheVariants.{Object as ObjectHandle, Directory as DirectoryHandle, Names as NamesHandle, Server as ServerHandle, Client as ClientHandle}
 use Rattle.pps_types.specs.declared.line.Line.{Line}
+use Rattle.pps_types.specs.declared.line.WriteLine.{WriteLine}
 use Rattle.pps_types.specs.declared.record.Kind.{Kind}
 use Rattle.pps_types.specs.declared.record.Kind.TheVariants.{Change, FromClient}
 use Rattle.pps_types.specs.declared.refusal.Refusal.{Refusal}
 use Rattle.pps_types.specs.Bytes.{is_empty}
 use Rattle.pps_types.specs.Text.{WriteText}
-use Rattle.pps_types.specs.History.{Attribute, apply_line, resolve, message_line}
+use Rattle.attr_text.specs.ReadWrite.{text_of_line, IsSingle}
+use Rattle.pps_types.specs.History.{Attribute, apply_line, resolve, resolved, message_line}
 use Rattle.pps_types.specs.Reading.{is_directory_kind}
 use Rattle.pps_types.specs.Content.{Content, attributes_of}
 use Rattle.pps_types.specs.Checks.{Addressee, Everyone, OneClient, Nobody, Check, first_refusal, parsed, own_header, limit_checks, addressee}
 use Rattle.pps_types.specs.Plan.{sent}
-use Rattle.handle_requests.specs.Writes.{Author, server_text_checks, client_text_checks, checks_by, kind_by, late_refusal, FailsLate}
+use Rattle.handle_requests.specs.Writes.{Author, server_text_checks, client_text_checks, checks_by, kind_by, late_refusal, FailsLate, IsDrafted}
+use Rattle.handle_requests.specs.declared.draft.Draft.{Draft}
 use Rattle.handle_requests.proofs.Refusals.{first_none, first_some}
 
 -- a message passes no limits
@@ -107,6 +110,22 @@ module _ (c : Content) (a : Author) (text : WriteText) (attributes : List Attrib
   object_fails NamesHandle plain server client (Err e) fails = absurd (let bad = plain in cc)
   object_fails ServerHandle plain server client (Err e) fails = absurd (server refl)
   object_fails ClientHandle plain server client (Err e) fails = absurd (client refl)
+
+-- ---- a line alone, through an object's handle
+
+module _ (c : Content) (a : Author) (line : WriteLine) (attributes : List Attribute) (are : attributes_of c a.object ≡ attributes) where
+  pub line_drafted : (delta : Bool) (k : HandleKind) → k ≡ ObjectHandle delta → (bytes : List ℕ) → IsSingle bytes line → (d : Draft) → d.object ≡ a.object → d.has_lines ≡ true
+      → d.kind ≡ Change (resolved attributes line ∷ []) → IsDrafted c a k bytes d
+  line_drafted delta k is bytes reads d object lines kind =
+      subst (λ (k : HandleKind). IsDrafted c a k bytes d) (sym is)
+      (record {
+        text = text_of_line line;
+        reads = reads;
+        object = object;
+        lines = lines;
+        kind = object_made c a (text_of_line line) attributes are d.kind kind;
+        late = object_first c a (text_of_line line) attributes are refl delta d.kind kind;
+      })
 
 -- ---- a text that is read
 

@@ -65,14 +65,14 @@ module _ (t : Tabled) (conn n : ℕ) (bytes : List ℕ) (own : Own) (is : IsOwn 
       pub gone_refused : object_numbered (content_in t) (number_of own.found) ≡ None → first_refusal (request_checks (content_in t) conn (Write n bytes)) ≡ Some Gone
       gone_refused none = early_first (content_in t) conn n bytes found.0 found.1.0 Gone (dead_early (content_in t) bytes found.0 (writes_is true mode) (short_test (length bytes) le) (dead_is None none))
 
-      pub writer_is : (w : Writer) → w.handle ≡ n → w.kind ≡ own.opening.now.kind → w.name.now ≡ name_at own.found t.handles → object_numbered (content_in t) (number_of own.found) ≡ Some (known_of w.object.now)
-          → IsSomeAnd (own_handle (content_in t) conn n) (IsWriter (content_in t) bytes w)
-      writer_is w handle kind name known =
+      pub writer_is : (w : Writer) → w.handle ≡ n → w.kind ≡ own.opening.now.kind → w.found ≡ own.found → object_numbered (content_in t) (number_of own.found) ≡ Some (known_of w.object.now)
+          → IsSomeAnd (own_handle (content_in t) conn n) (IsWriter (content_in t) t.handles bytes w)
+      writer_is w handle kind on known =
           let there : object_numbered (content_in t) found.0.target ≡ Some (known_of w.object.now) = ap (object_numbered (content_in t)) target_is ∙ known in
           let number : w.object.now.object.number ≡ found.0.target = eqb-true w.object.now.object.number found.0.target (find-true (λ (o : LiveObject). eqb o.object.number found.0.target) (content_in t).objects (known_of w.object.now) there) in
-          let named : w.name.now ≡ found.0.name = name ∙ sym (ap (λ (x : OpenHandle (Unit {0})). x.name) found.1.1) in
+          let named : name_at w.found t.handles ≡ found.0.name = ap (λ f. name_at f t.handles) on ∙ sym (ap (λ (x : OpenHandle (Unit {0})). x.name) found.1.1) in
           let numbered : w.handle ≡ found.0.number = handle ∙ sym (own_is (content_in t).handles conn n found.0 found.1.0).0 in
-          subst (λ (o : Option (OpenHandle Progress)). IsSomeAnd o (IsWriter (content_in t) bytes w)) (sym found.1.0)
+          subst (λ (o : Option (OpenHandle Progress)). IsSomeAnd o (IsWriter (content_in t) t.handles bytes w)) (sym found.1.0)
           (record {
             early = none_early (content_in t) bytes found.0 (writes_is true mode) (short_test (length bytes) le) (dead_is (Some (known_of w.object.now)) known);
             author_is = λ i. record { handle = numbered i; name = named i; object = number i };

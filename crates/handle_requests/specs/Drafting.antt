@@ -8,8 +8,9 @@ use Rattle.pps_types.specs.declared.refusal.Refusal.TheVariants.{OutOfMemory, Ta
 use Rattle.pps_types.specs.declared.record.Kind.{Kind}
 use Rattle.pps_types.specs.declared.record.Kind.TheVariants.{Change, FromClient}
 use Rattle.pps_types.specs.Text.{WriteText, write_text}
-use Rattle.pps_types.specs.History.{Entry, resolve, message_line}
-use Rattle.pps_types.specs.Content.{own_handle}
+use Rattle.pps_types.specs.declared.line.WriteLine.{WriteLine}
+use Rattle.pps_types.specs.History.{Entry, resolve, resolved, message_line}
+use Rattle.pps_types.specs.Content.{Content, own_handle}
 use Rattle.pps_types.specs.Checks.{Check, first_refusal, parsed, addressee}
 use Rattle.pps_types.specs.Plan.{AppendsRecord, sent}
 use Rattle.name_table.specs.Standing.{Named, Placed, placed_at}
@@ -18,9 +19,11 @@ use Rattle.service_state.specs.Tables.{Tabled, content_in}
 use Rattle.service_state.specs.Beginning.{moves_of}
 use Rattle.service_state.specs.Refused.{all_checks_in, effect_in}
 use Rattle.handle_requests.specs.declared.draft.Draft.{Draft}
+use Rattle.handle_requests.specs.declared.draft.Prepared.{Prepared}
+use Rattle.handle_requests.specs.declared.draft.Prepared.TheVariants.{Record, Nothing}
 use Rattle.handle_requests.specs.declared.writer.Writer.{Writer}
 use Rattle.handle_requests.specs.declared.writing.Written.{Written}
-use Rattle.handle_requests.specs.Writes.{author_of, checks_by, kind_by, server_text_checks, client_text_checks, late_refusal, IsWriter, IsDrafted, HasLinesAt, tells, is_past}
+use Rattle.handle_requests.specs.Writes.{author_of, checks_by, kind_by, server_text_checks, client_text_checks, late_refusal, IsWriter, IsDrafted, IsDraft, HasLinesAt, told_by, tells, is_past}
 
 -- all checks of a write
 abbrev pub write_checks_in : Tabled → ℕ → ℕ → List ℕ → List Check
@@ -34,7 +37,7 @@ IsWriteEffect t conn handle bytes w = effect_in t conn (Write handle bytes) ≡ 
 
 -- it is the connection's own handle of that number, which may write these bytes
 abbrev pub IsWriterOf : Tabled → ℕ → ℕ → List ℕ → Writer → Type 0
-IsWriterOf t conn handle bytes w = IsSomeAnd (own_handle (content_in t) conn handle) (IsWriter (content_in t) bytes w)
+IsWriterOf t conn handle bytes w = IsSomeAnd (own_handle (content_in t) conn handle) (IsWriter (content_in t) t.handles bytes w)
 
 -- the checks of a text that a server of that name writes
 abbrev pub server_checks_by : Tabled → List ℕ → ℕ → WriteText → List Check
@@ -46,11 +49,11 @@ client_checks_by t handle name object text = client_text_checks (content_in t) h
 
 -- the checks of a text of this writer
 abbrev pub writer_checks : Tabled → Writer → WriteText → List Check
-writer_checks t w text = checks_by (content_in t) (author_of w) w.kind text
+writer_checks t w text = checks_by (content_in t) (author_of t.handles w) w.kind text
 
 -- the checks of bytes of this writer, the first that they can be read
 abbrev pub bytes_checks : Tabled → Writer → List ℕ → List Check
-bytes_checks t w bytes = parsed (write_text bytes) (checks_by (content_in t) (author_of w) w.kind)
+bytes_checks t w bytes = parsed (write_text bytes) (checks_by (content_in t) (author_of t.handles w) w.kind)
 
 -- ---- what a text comes to
 
@@ -68,7 +71,7 @@ client_message handle text = FromClient handle (map message_line text.lines)
 
 -- what the record says of a text of this writer
 abbrev pub writer_kind : Tabled → Writer → WriteText → Kind
-writer_kind t w text = kind_by (content_in t) (author_of w) w.kind text
+writer_kind t w text = kind_by (content_in t) (author_of t.handles w) w.kind text
 
 -- of the checks of the text, the object's limits alone are left
 abbrev pub LeavesLimits : Tabled → Writer → WriteText → Kind → Type 0
@@ -76,25 +79,57 @@ LeavesLimits t w text kind = first_refusal (writer_checks t w text) ≡ late_ref
 
 -- it is a draft of these bytes, by this writer
 abbrev pub IsDraftBy : Tabled → Writer → List ℕ → Draft → Type 0
-IsDraftBy t w bytes d = IsDrafted (content_in t) (author_of w) w.kind bytes d
+IsDraftBy t w bytes d = IsDrafted (content_in t) (author_of t.handles w) w.kind bytes d
+
+-- it is the draft of this line alone, which changes the object
+pub record IsLineDraft (x : Placed) (line : WriteLine) (d : Draft) : Type 0 where
+  pub object : d.object ≡ x.object.number
+  pub lines : d.has_lines ≡ true
+  pub kind : d.kind ≡ Change (resolved x.held.attributes line ∷ [])
+
+-- ---- a draft with its record
+
+abbrev pub object_in : Prepared → ℕ
+object_in (Record e) = e.record_of.object
+object_in (Nothing d) = d.object
+
+abbrev pub kind_in : Prepared → Kind
+kind_in (Record e) = e.record_of.kind
+kind_in (Nothing d) = d.kind
+
+abbrev pub entry_in : Prepared → Option Entry
+entry_in (Record e) = Some e
+entry_in (Nothing d) = None
+
+-- it is this draft, with the record that it tells
+pub record IsPreparedOf (c : Content) (handle : ℕ) (d : Draft) (p : Prepared) : Type 0 where
+  pub object : object_in p ≡ d.object
+  pub kind : kind_in p ≡ d.kind
+  pub tells : tells (entry_in p) ≡ told_by c handle d
+
+-- it is a draft of these bytes, with its record
+pub record IsPrepared (t : Tabled) (conn handle : ℕ) (bytes : List ℕ) (p : Prepared) : Type 0 where
+  pub draft : Draft
+  pub drafted : IsDraft (content_in t) conn handle bytes draft
+  pub prepared : IsPreparedOf (content_in t) handle draft p
 
 -- ---- what is ready for a draft
 
--- the limits of its object allow it
-abbrev pub AllowsDraft : Tabled → Draft → Type 0
-AllowsDraft t d = late_refusal (content_in t) d.object d.kind ≡ None
+-- the limits of the object allow a record of that kind
+abbrev pub AllowsKind : Tabled → ℕ → Kind → Type 0
+AllowsKind t object kind = late_refusal (content_in t) object kind ≡ None
 
 -- they refuse it so, or memory lacks
-abbrev pub RefusesDraft : Tabled → Draft → Refusal → Type 0
-RefusesDraft t d r = (late_refusal (content_in t) d.object d.kind ≡ Some r) ⊎ (r ≡ OutOfMemory)
+abbrev pub RefusesKind : Tabled → ℕ → Kind → Refusal → Type 0
+RefusesKind t object kind r = (late_refusal (content_in t) object kind ≡ Some r) ⊎ (r ≡ OutOfMemory)
 
--- its lines are ready in its object
-abbrev pub HasDraftLines : Draft → Named → Type 0
-HasDraftLines d names = IfSome (placed_at d.object names) (HasLinesAt d.kind)
+-- its lines are ready in the object
+abbrev pub HasKindLines : ℕ → Kind → Named → Type 0
+HasKindLines object kind names = IfSome (placed_at object names) (HasLinesAt kind)
 
--- and then those of its record are, where there is one
-abbrev pub KeepsLines : Draft → Option Entry → Named → Type 0
-KeepsLines d entry names = HasDraftLines d names → IfSome entry (λ e. HasLines e names)
+-- the lines of a record are ready in its object, if there is a record
+abbrev pub HasRecordLines : Option Entry → Named → Type 0
+HasRecordLines entry names = IfSome entry (λ e. HasLines e names)
 
 -- ---- the last number
 

@@ -16,6 +16,7 @@ use Rattle.pps_types.specs.Content.{Content, object_numbered, attributes_of, tar
 use Rattle.pps_types.specs.Checks.{Check, Refuse, first_refusal, is_server, addressee, own_header, limit_checks, client_checks, client_backlog, meant, where_lines}
 use Rattle.pps_types.specs.Plan.{Move, AppendsRecord, apply_all_seen, entry_of, sent, passes_last_number}
 use Rattle.name_table.specs.Standing.{Placed, known_of}
+use Rattle.open_handles.specs.Whole.{Whole, name_at}
 use Rattle.handle_requests.specs.declared.draft.Draft.{Draft}
 use Rattle.handle_requests.specs.declared.writer.Writer.{Writer}
 use Rattle.handle_requests.specs.Backlogs.{server_in, server_checks}
@@ -31,8 +32,9 @@ pub record Author : Type 0 where
 abbrev pub author : OpenHandle Progress → Author
 author h = record { handle = h.number; name = h.name; object = h.target }
 
-abbrev pub author_of : Writer → Author
-author_of w = record { handle = w.handle; name = w.name.now; object = w.object.now.object.number }
+-- among these handles
+abbrev pub author_of : Whole → Writer → Author
+author_of whole w = record { handle = w.handle; name = name_at w.found whole; object = w.object.now.object.number }
 
 -- the checks that come before any memory is taken
 abbrev pub early_checks : Content → List ℕ → OpenHandle Progress → List Check
@@ -45,9 +47,9 @@ pub record IsAuthor (c : Content) (w : Writer) : Type 0 where
   pub served : is_server w.kind ≡ true → is_some (server_in c w.object.now.object.number) ≡ true
 
 -- it is that handle, which may write these bytes, and its object is alive
-pub record IsWriter (c : Content) (bytes : List ℕ) (w : Writer) (h : OpenHandle Progress) : Type 0 where
+pub record IsWriter (c : Content) (whole : Whole) (bytes : List ℕ) (w : Writer) (h : OpenHandle Progress) : Type 0 where
   pub early : first_refusal (early_checks c bytes h) ≡ None
-  pub author_is : author_of w ≡ author h
+  pub author_is : author_of whole w ≡ author h
   pub kind : w.kind ≡ h.kind
   pub known : object_numbered c h.target ≡ Some (known_of w.object.now)
   pub plain : is_directory_kind h.kind ≡ false

@@ -5,23 +5,25 @@ ghost use Rattle.pps_types.specs.Checks.{first_refusal, parsed, own_header};
 ghost use Rattle.pps_types.specs.WellFormed.{IsContent};
 ghost use Rattle.service_laws.specs.Bounds.{IsBound};
 ghost use Rattle.service_state.specs.Tables.{content_in};
-ghost use Rattle.service_state.specs.Refused.{AllPass, Fails};
+ghost use Rattle.service_state.specs.Refused.{AllPass, Fails, live_object_in};
 ghost use Rattle.handle_requests.specs.Backlogs.{server_in};
-ghost use Rattle.handle_requests.specs.Writes.{FailsLate, IsAuthor, IsDraft};
-ghost use Rattle.handle_requests.specs.Drafting.{write_checks_in, server_checks_by, client_checks_by, writer_checks, bytes_checks, change_by, server_message, client_message, writer_kind, LeavesLimits, IsDraftBy};
+ghost use Rattle.name_table.specs.Standing.{known_of};
+ghost use Rattle.handle_requests.specs.Writes.{FailsLate, IsAuthor};
+ghost use Rattle.handle_requests.specs.Drafting.{write_checks_in, server_checks_by, client_checks_by, writer_checks, bytes_checks, change_by, server_message, client_message, writer_kind, LeavesLimits, IsDraftBy, IsLineDraft, IsPrepared, IsPreparedOf};
 
 use crate::address::{addressee, is_foreign};
 use crate::backlog::{message_refusal, server_backlog};
 use crate::message::{message_lines, sent};
 use crate::writer::{Writer, writer_of};
-use attr_text::{WriteText, read_write};
+use attr_text::{WriteText, read_single, read_write};
 use name_table::NamedObject;
 use pps_types::limits::WRITE_MAX;
-use pps_types::{Bytes, Conn, Handle, HandleKind, Kind, Lines, ObjId, Refusal};
-use service_state::Tables;
-use std::alloc::Global;
+use pps_types::{Bytes, Conn, Handle, HandleKind, Kind, Lines, ObjId, Refusal, WriteLine};
+use server_queue::Entry;
+use service_state::{Tables, record_of};
+use std::alloc::{AllocError, Global};
 
-/// A write that passes all checks but those of its object's limits.
+/// What a text comes to that passes all checks but those of its object's limits.
 #[derive(Drop)]
 pub(crate) struct Draft {
     pub(crate) object: ObjId,
@@ -29,6 +31,28 @@ pub(crate) struct Draft {
     pub(crate) kind: Kind,
     /// Without lines there is no record.
     pub(crate) has_lines: bool,
+}
+
+/// A draft, with its record if it has lines.
+#[derive(Drop)]
+pub(crate) enum Prepared {
+    Record(Entry),
+    Nothing(Draft),
+}
+
+impl Prepared {
+    ghost use Rattle.handle_requests.specs.Drafting.{entry_in};
+
+    /// The record, if there is one.
+    #[inline(always)]
+    pub(crate) fn into_entry(self) -> Option<Entry>
+        ensures { result ≡ entry_in self }
+    {
+        match self {
+            Prepared::Record(entry) => Some(entry),
+            Prepared::Nothing(_) => None,
+        }
+    }
 }
 
 // What a write through an object's handle comes to.
@@ -126,16 +150,16 @@ fn kind_of(
     ensures err { IfErr result (λ r. FailsLate (writer_checks tables.now writer.now text) r) }
 {
     let object = writer.object.number();
+    let name = tables.handles().name_of(writer.found);
     match writer.kind {
-        HandleKind::Server => server_kind(tables, alloc, writer.name, object, text),
-        HandleKind::Client => {
-            client_kind(tables, alloc, writer.handle, writer.name, object, text)
-        }
-        _ => object_kind(writer.name, writer.object, text),
+        HandleKind::Server => server_kind(tables, alloc, name, object, text),
+        HandleKind::Client => client_kind(tables, alloc, writer.handle, name, object, text),
+        _ => object_kind(name, writer.object, text),
     }
 }
 
 // What a text says that is not too large.
+#[inline(always)]
 fn read(alloc: Global, bytes: &Bytes) -> Result<WriteText, Refusal>
     requires { length bytes.now ≤ WRITE_MAX }
     ensures ok { IfOk result (λ text. write_text bytes.now ≡ Ok text) }
@@ -144,8 +168,8 @@ fn read(alloc: Global, bytes: &Bytes) -> Result<WriteText, Refusal>
     read_write(alloc, bytes.as_slice())
 }
 
-// What bytes come to that are not too large, but for the limits of the object.
-fn draft_of(
+// What bytes come to that are not too large, but for the limits of the object, by their whole text.
+fn text_draft(
     tables: &Tables,
     alloc: Global,
     writer: &Writer<'_>,
@@ -173,22 +197,88 @@ fn draft_of(
     })
 }
 
-/// What a write comes to that no check refuses, but for the limits of its object.
+// What a line alone comes to that is written through an object's handle.
+#[inline(always)]
+fn line_draft(alloc: Global, object: &NamedObject, line: WriteLine) -> Result<Draft, AllocError>
+    ensures { IfOk result (IsLineDraft object.now line) }
+{
+    let mut lines = Vec::with_capacity(alloc, 1)?;
+    lines.push_reserved(object.attributes().resolve_one(line));
+    Ok(Draft {
+        object: object.number(),
+        kind: Kind::Change(Lines::new(lines)),
+        has_lines: true,
+    })
+}
+
+// What bytes come to that are not too large, but for the limits of the object. The commonest write, one line through an
+// object's handle, needs no list of written lines.
+#[inline(always)]
+fn draft_of(
+    tables: &Tables,
+    alloc: Global,
+    writer: &Writer<'_>,
+    bytes: &Bytes,
+) -> Result<Draft, Refusal>
+    requires content { IsContent (content_in tables.now) }
+    requires author { IsAuthor (content_in tables.now) writer.now }
+    requires short { length bytes.now ≤ WRITE_MAX }
+    ensures ok { IfOk result (λ d. IsDraftBy tables.now writer.now bytes.now d) }
+    ensures err { IfErr result (λ r. FailsLate (bytes_checks tables.now writer.now bytes.now) r) }
+{
+    if let HandleKind::Object { .. } = writer.kind {
+        let single = read_single(alloc, bytes.as_slice())?;
+        if let Some(line) = single {
+            let draft = line_draft(alloc, writer.object, line)?;
+            return Ok(draft);
+        }
+    }
+    text_draft(tables, alloc, writer, bytes)
+}
+
+// A draft with its record, through a handle on this object. AllocError comes only if there are lines.
+#[inline(always)]
+fn with_record(
+    tables: &Tables,
+    alloc: Global,
+    object: &NamedObject,
+    handle: Handle,
+    draft: Draft,
+) -> Result<Prepared, AllocError>
+    requires { live_object_in tables.now draft.object ≡ Some (known_of object.now) }
+    ensures { IfOk result (IsPreparedOf (content_in tables.now) handle draft) }
+{
+    if !draft.has_lines {
+        return Ok(Prepared::Nothing(draft));
+    }
+    let entry = record_of(alloc, object, draft.kind, Some(handle))?;
+    Ok(Prepared::Record(entry))
+}
+
+/// What a write comes to that no check refuses, but for the limits of its object, with its record.
+#[inline(always)]
 pub(crate) fn drafted(
     tables: &Tables,
     alloc: Global,
     conn: Conn,
     handle: Handle,
     bytes: &Bytes,
-) -> Result<Draft, Refusal>
+) -> Result<Prepared, Refusal>
     requires content { IsContent (content_in tables.now) }
     requires bound { IsBound (content_in tables.now) }
-    ensures ok { IfOk result (λ d. IsDraft (content_in tables.now) conn handle bytes.now d) }
+    ensures ok { IfOk result (IsPrepared tables.now conn handle bytes.now) }
     ensures err { IfErr result (λ r. Fails (write_checks_in tables.now conn handle bytes.now) r) }
 {
     let writer = match writer_of(tables, conn, handle, bytes) {
         Err(refusal) => return Err(refusal),
         Ok(writer) => writer,
     };
-    draft_of(tables, alloc, &writer, bytes)
+    let draft = match draft_of(tables, alloc, &writer, bytes) {
+        Err(refusal) => return Err(refusal),
+        Ok(draft) => draft,
+    };
+    match with_record(tables, alloc, writer.object, handle, draft) {
+        Err(_) => Err(Refusal::OutOfMemory),
+        Ok(prepared) => Ok(prepared),
+    }
 }

@@ -11,6 +11,7 @@ use std::alloc::Global;
 use sub_reader::Glance;
 
 // Whether a read of a reading handle gives everything.
+#[inline(always)]
 fn is_given_all(glance: &Glance<'_>) -> bool
     ensures { result ≡ (is_none glance.now.owed && glance.now.has_news) }
 {
@@ -22,6 +23,7 @@ fn is_given_all(glance: &Glance<'_>) -> bool
 ///
 /// It is TooSmall, with the size, where the first block does not fit, before any memory is taken; else OutOfMemory is the
 /// only error, where blocks are given.
+#[inline(always)]
 pub(crate) fn owed_to(
     asked: &SeenHandle<'_>,
     alloc: Global,
@@ -36,6 +38,10 @@ pub(crate) fn owed_to(
 {
     if is_given_all(&asked.glance) {
         return Ok(None);
+    }
+    // Without news nothing is owed, so the handle is not looked up again.
+    if !asked.glance.has_news {
+        return Ok(Some(GivenBlocks::nothing(alloc)));
     }
     let given = asked.topic.read_owed(alloc, handle, size)?;
     Ok(Some(given))

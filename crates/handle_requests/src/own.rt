@@ -21,6 +21,7 @@ pub struct Own<'a> {
 
 impl<'a> Own<'a> {
     /// The object or the directory that it is on.
+    #[inline(always)]
     pub fn found(&self) -> Found
         ensures { result ≡ self.now.found }
     {
@@ -28,6 +29,7 @@ impl<'a> Own<'a> {
     }
 
     /// What its open fixed.
+    #[inline(always)]
     pub fn opening(&self) -> &'a Opening
         ensures { result.now ≡ self.now.opening.now }
     {
@@ -35,6 +37,7 @@ impl<'a> Own<'a> {
     }
 
     /// The number of the object or the directory that it is on.
+    #[inline(always)]
     pub fn target(&self) -> u64
         ensures { result ≡ number_of self.now.found }
     {
@@ -42,6 +45,7 @@ impl<'a> Own<'a> {
     }
 
     /// Whether it reads a directory.
+    #[inline(always)]
     pub fn is_on_directory(&self) -> bool
         ensures { result ≡ reading.is_directory_kind self.now.opening.now.kind }
     {
@@ -49,6 +53,7 @@ impl<'a> Own<'a> {
     }
 
     /// Which lines it is given. Without it, all.
+    #[inline(always)]
     pub fn filter(&self) -> Option<&'a Filter>
         ensures { option_copied result ≡ self.now.opening.now.options.filter }
     {
@@ -56,6 +61,7 @@ impl<'a> Own<'a> {
     }
 
     /// What kind of handle it is.
+    #[inline(always)]
     pub fn kind(&self) -> HandleKind
         ensures { result ≡ self.now.opening.now.kind }
     {
@@ -63,6 +69,7 @@ impl<'a> Own<'a> {
     }
 
     /// Whether it is open for reading.
+    #[inline(always)]
     pub fn reads(&self) -> bool
         ensures { result ≡ self.now.opening.now.reads }
     {
@@ -70,6 +77,7 @@ impl<'a> Own<'a> {
     }
 
     /// Whether it is open for writing.
+    #[inline(always)]
     pub fn writes(&self) -> bool
         ensures { result ≡ self.now.opening.now.writes }
     {
@@ -77,6 +85,7 @@ impl<'a> Own<'a> {
     }
 
     /// Whether a read that finds nothing new waits.
+    #[inline(always)]
     pub fn waits(&self) -> bool
         ensures { result ≡ self.now.opening.now.options.wait }
     {
@@ -84,6 +93,7 @@ impl<'a> Own<'a> {
     }
 
     /// How many records it may be owed in delta mode.
+    #[inline(always)]
     pub fn limit(&self) -> u32
         ensures { result ≡ self.now.opening.now.limit }
     {
@@ -92,6 +102,7 @@ impl<'a> Own<'a> {
 }
 
 /// The open handle of that number, where it is the connection's. It takes no memory.
+#[inline(always)]
 pub fn own_handle(tables: &Tables, conn: Conn, handle: Handle) -> Option<Own<'_>>
     ensures { option_map (opened_as tables.now) result ≡ own_opened tables.now conn handle }
 {
@@ -119,6 +130,7 @@ pub(crate) struct SeenHandle<'a> {
 }
 
 /// The open handle of that number, where it is the connection's, with all that is asked of it. It takes no memory.
+#[inline(always)]
 pub(crate) fn own_asked(tables: &Tables, conn: Conn, handle: Handle) -> Option<SeenHandle<'_>>
     ensures own { asked_opened tables.now result ≡ own_opened tables.now conn handle }
     ensures known { IfSome result (IsAsked tables.now conn handle) }

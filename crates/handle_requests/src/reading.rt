@@ -27,6 +27,7 @@ pub struct ReadDone {
     pub effect: Effect,
 }
 
+#[inline(always)]
 fn is_read_size(size: u32) -> bool
     ensures { result ≡ (nat_le 1 size && nat_le size 17000000) }
 {
@@ -34,6 +35,7 @@ fn is_read_size(size: u32) -> bool
 }
 
 // The connection's own handle, where a read of that size may be asked of it.
+#[inline(always)]
 fn check_asked(
     tables: &Tables,
     conn: Conn,
@@ -63,6 +65,7 @@ fn check_asked(
 }
 
 // What a read answers, where no check refuses it but that of a read that waits.
+#[inline(always)]
 fn answer_to(
     tables: &Tables,
     alloc: Global,
@@ -85,6 +88,7 @@ fn answer_to(
 }
 
 // Whether a read waits.
+#[inline(always)]
 fn waits(answer: &Answer) -> bool
     ensures { result ≡ waits (meant answer.now) }
 {
@@ -92,6 +96,7 @@ fn waits(answer: &Answer) -> bool
 }
 
 // The text that an answer gives.
+#[inline(always)]
 fn text_of(alloc: Global, answer: Answer) -> Vec<u8>
     ensures { result.items ≡ text_in (meant answer) }
 {
@@ -103,6 +108,7 @@ fn text_of(alloc: Global, answer: Answer) -> Vec<u8>
 }
 
 // A reply with a text.
+#[inline(always)]
 fn data(alloc: Global, text: Vec<u8>, effect: Effect) -> Result<ReadDone, Refusal>
     ensures reply { IfOk result (λ d. d.reply ≡ Data text.items) }
     ensures effect { IfOk result (λ d. d.effect ≡ effect) }

@@ -6,59 +6,63 @@ ghost use Rattle.service_state.specs.Tables.{content_in};
 ghost use Rattle.service_state.specs.Beginning.{moves_of, AreReady};
 ghost use Rattle.service_state.specs.Lines.{HasLines};
 ghost use Rattle.service_state.specs.Refused.{live_object_in, IsKnownIn};
-ghost use Rattle.handle_requests.specs.Writes.{told_by, tells, is_past};
-ghost use Rattle.handle_requests.specs.Drafting.{AllowsDraft, RefusesDraft, HasDraftLines, KeepsLines, IsLast, RefusesRecord};
+ghost use Rattle.handle_requests.specs.Writes.{tells, is_past};
+ghost use Rattle.handle_requests.specs.Drafting.{object_in, kind_in, entry_in, AllowsKind, RefusesKind, HasKindLines, HasRecordLines, IsLast, RefusesRecord};
 
-use crate::draft::Draft;
-use pps_types::{Handle, Kind, ObjId, Refusal};
+use crate::draft::Prepared;
+use pps_types::{Kind, ObjId, Refusal};
 use server_queue::Entry;
-use service_state::{Beginning, Tables, record_of};
-use std::alloc::{AllocError, Global};
+use service_state::{Beginning, Tables};
+use std::alloc::Global;
 
 // Does nothing. Its contract is the law that an object is found as it stands.
+#[inline(always)]
 fn objects_are_placed(tables: &Tables, object: ObjId)
     ensures { IsKnownIn tables.now object }
 {
-    let _known = tables.names().object(object);
+    tables.names().objects_are_known();
 }
 
-/// Takes the memory for the lines of a write, where it changes its object. What stands stays.
-///
-/// It is TooLarge exactly where the object would pass its limits. Else OutOfMemory is the only error.
-pub(crate) fn lines_ready(tables: &mut Tables, draft: &Draft) -> Result<(), Refusal>
-    requires { is_some (live_object_in tables.old draft.now.object) ≡ true }
+// Takes the memory for the lines of a record of that kind, if it changes its object. What is there stays.
+//
+// It is TooLarge exactly if the object would pass its limits. Else OutOfMemory is the only error.
+#[inline(always)]
+fn kind_ready(tables: &mut Tables, object: ObjId, kind: &Kind) -> Result<(), Refusal>
+    requires { is_some (live_object_in tables.old object) ≡ true }
     ensures content { content_in tables.new ≡ content_in tables.old }
-    ensures passes { OnOk result (AllowsDraft tables.old draft.now) }
-    ensures lines { OnOk result (HasDraftLines draft.now tables.new.names) }
-    ensures err { IfErr result (λ r. RefusesDraft tables.old draft.now r) }
+    ensures passes { OnOk result (AllowsKind tables.old object kind.now) }
+    ensures lines { OnOk result (HasKindLines object kind.now tables.new.names) }
+    ensures err { IfErr result (λ r. RefusesKind tables.old object kind.now r) }
 {
-    objects_are_placed(tables, draft.object);
-    match &draft.kind {
-        Kind::Change(lines) => tables.change_ready(draft.object, lines.as_slice()),
+    objects_are_placed(tables, object);
+    match kind {
+        Kind::Change(lines) => tables.change_ready(object, lines.as_slice()),
         _ => Ok(()),
     }
 }
 
-/// The record of a write through a handle, where it has lines.
+/// Takes the memory for the lines of a write, if it changes its object. What is there stays.
 ///
-/// AllocError comes only where memory is wanting.
-pub(crate) fn record_written(
-    tables: &Tables,
-    alloc: Global,
-    handle: Handle,
-    draft: Draft,
-) -> Result<Option<Entry>, AllocError>
-    ensures tells { IfOk result (λ e. tells e ≡ told_by (content_in tables.now) handle draft) }
-    ensures lines { IfOk result (λ entry. KeepsLines draft entry tables.now.names) }
+/// It is TooLarge exactly if the object would pass its limits. Else OutOfMemory is the only error.
+#[inline(always)]
+pub(crate) fn lines_ready(tables: &mut Tables, prepared: &Prepared) -> Result<(), Refusal>
+    requires { is_some (live_object_in tables.old (object_in prepared.now)) ≡ true }
+    ensures content { content_in tables.new ≡ content_in tables.old }
+    ensures passes { OnOk result
+        (AllowsKind tables.old (object_in prepared.now) (kind_in prepared.now)) }
+    ensures lines { OnOk result (HasRecordLines (entry_in prepared.now) tables.new.names) }
+    ensures err { IfErr result
+        (λ r. RefusesKind tables.old (object_in prepared.now) (kind_in prepared.now) r) }
 {
-    if !draft.has_lines {
-        return Ok(None);
+    match prepared {
+        Prepared::Nothing(draft) => kind_ready(tables, draft.object, &draft.kind),
+        Prepared::Record(entry) => {
+            let record = entry.record();
+            let ready = kind_ready(tables, record.object, &record.kind);
+            objects_are_placed(tables, entry.record().object);
+            ready
+        }
     }
-    let Some(object) = tables.names().object(draft.object) else {
-        return Ok(None);
-    };
-    let entry = record_of(alloc, object, draft.kind, Some(handle))?;
-    Ok(Some(entry))
 }
 
 // Whether a record has the last number, so that no other can come.

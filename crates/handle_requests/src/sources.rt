@@ -17,6 +17,7 @@ use std::alloc::Global;
 use whole_texts::{Answer, Member, Whole, answers_are_read, read_answer};
 
 // An object under a name, alive or deleted.
+#[inline(always)]
 fn member_of<'a>(name: &'a [u8], known: Option<&'a NamedObject>) -> Member<'a>
     ensures name { result.name ≡ name.now }
     ensures lines { result.lines ≡ attribute_lines (option_copied known.entry) }
@@ -28,6 +29,7 @@ fn member_of<'a>(name: &'a [u8], known: Option<&'a NamedObject>) -> Member<'a>
 }
 
 // What a read of a handle answers, by what everything is read from.
+#[inline(always)]
 fn answered(
     tables: &Tables,
     alloc: Global,
@@ -54,6 +56,7 @@ fn answered(
 ///
 /// It is TooSmall, with the size, where not even the first thing to give fits, before any memory is taken, and Gone where
 /// nothing is owed of an object that is deleted; else OutOfMemory is the only error, where there is something to give.
+#[inline(always)]
 pub(crate) fn answer_of_object(
     tables: &Tables,
     alloc: Global,

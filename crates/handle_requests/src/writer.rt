@@ -9,7 +9,7 @@ ghost use Rattle.handle_requests.specs.Drafting.{IsWriterOf};
 use crate::own::own_handle;
 use name_table::NamedObject;
 use pps_types::limits::WRITE_MAX;
-use pps_types::{Bytes, Conn, Handle, HandleKind, ObjId, Refusal};
+use pps_types::{Bytes, Conn, Found, Handle, HandleKind, ObjId, Refusal};
 use service_state::Tables;
 
 /// An open handle that writes, and the alive object that it is on.
@@ -17,12 +17,13 @@ use service_state::Tables;
 pub(crate) struct Writer<'a> {
     pub(crate) handle: Handle,
     pub(crate) kind: HandleKind,
-    /// The name that the handle was opened under.
-    pub(crate) name: &'a [u8],
+    /// What the handle is on.
+    pub(crate) found: Found,
     pub(crate) object: &'a NamedObject,
 }
 
 /// The connection's own handle, where it may write so many bytes, and its object is alive.
+#[inline(always)]
 pub(crate) fn writer_of<'a>(
     tables: &'a Tables,
     conn: Conn,
@@ -49,7 +50,7 @@ pub(crate) fn writer_of<'a>(
     Ok(Writer {
         handle,
         kind: own.kind(),
-        name: tables.handles().name_of(own.found()),
+        found: own.found(),
         object,
     })
 }

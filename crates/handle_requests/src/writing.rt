@@ -9,7 +9,7 @@ ghost use Rattle.service_state.specs.Refused.{AllPass, TakesMemory, Fails};
 ghost use Rattle.handle_requests.specs.Drafting.{write_checks_in, IsWriteEffect};
 
 use crate::draft::drafted;
-use crate::ready::{begun, lines_ready, record_written};
+use crate::ready::{begun, lines_ready};
 use pps_types::{Bytes, Conn, Handle, Outcome, Refusal};
 use service_state::{Beginning, Tables};
 use std::alloc::Global;
@@ -47,10 +47,9 @@ pub fn write(
     ensures ready { IfOk result (λ w. AreReady (option_to_list w.beginning) tables.new) }
     ensures err { IfErr result (λ r. Fails (write_checks_in tables.old conn handle bytes.now) r) }
 {
-    let draft = drafted(tables, alloc, conn, handle, bytes)?;
-    lines_ready(tables, &draft)?;
-    let entry = record_written(tables, alloc, handle, draft)?;
-    let beginning = begun(tables, alloc, entry)?;
+    let prepared = drafted(tables, alloc, conn, handle, bytes)?;
+    lines_ready(tables, &prepared)?;
+    let beginning = begun(tables, alloc, prepared.into_entry())?;
     Ok(Written {
         reply: Outcome::Wrote(bytes.len() as u32),
         beginning,

@@ -1,10 +1,10 @@
 -- What a service says of the same moves.
-use Rattle.std.specs.Prelude.{◌≡◌, ℕ}
+use Rattle.std.specs.Prelude.{◌≡◌, ℕ, option_map}
 use Rattle.pps_types.specs.History.{Entry}
 use Rattle.pps_types.specs.Names.{Path}
 use Rattle.pps_types.specs.Content.{Object, Content, at, object_at}
 use Rattle.pps_types.specs.Plan.{Creates, AppendsRecord, MakesDirectory, RemovesDirectory, apply_seen}
-use Rattle.name_table.specs.Standing.{Standing, standing_in, in_content, content_of, after, happened}
+use Rattle.name_table.specs.Standing.{Standing, Named, standing_in, in_content, content_of, after, happened, known_of, placed_at, live_object}
 
 -- The moves of names are those of a whole service, whatever else stands there, and no part of it is lost.
 pub record MovesAreTold : Type 0 where
@@ -20,3 +20,7 @@ pub record MovesAreTold : Type 0 where
 pub record QuestionsAreTold : Type 0 where
   pub at : (c : Content) → at (content_of (standing_in c)) ≡ at c
   pub object_at : (c : Content) → object_at (content_of (standing_in c)) ≡ object_at c
+
+-- What is found under each number is the alive object of that number.
+abbrev pub ObjectsAreKnown : Named → Type 0
+ObjectsAreKnown n = (number : ℕ) → option_map known_of (placed_at number n) ≡ live_object number n

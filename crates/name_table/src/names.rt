@@ -11,6 +11,7 @@ ghost use Rattle.number_table.specs.Numbered.{LosesEntry, HasClones};
 ghost use Rattle.std.specs.List.{AllByRecursion, filter_map};
 ghost use Rattle.pps_types.specs.Refused.{IsRefusedAs};
 ghost use Rattle.name_table.specs.Agrees.{HasPath};
+ghost use Rattle.name_table.specs.Laws.{ObjectsAreKnown};
 ghost use Rattle.name_table.specs.Listed.{objects_at, members_at, member_numbers, listing_refusal, IsBareIn};
 ghost use Rattle.name_table.specs.Standing.{standing_of, after, first_standing, known_of, named_content, live_object, directory_in, placed_at, lines_ready, change_refusal, AreReadyFor, AreSame, HasChanged, HasHappened, HasMoved, HasReplaced, IsAbove, IsCopy, IsReadyToCreate, IsReadyToMake, LosesReadyNameIf};
 
@@ -123,6 +124,14 @@ impl Names {
         ensures placed { option_copied result ≡ placed_at object self.now }
     {
         self.objects.get(object.number())
+    }
+
+    /// Does nothing. Its contract is the law that under each number the alive object of that number is found.
+    #[inline(always)]
+    pub fn objects_are_known(&self)
+        ensures { ObjectsAreKnown self.now }
+    {
+        let _next = self.objects.next();
     }
 
     /// The directory of a number, if there is one.

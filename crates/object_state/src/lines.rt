@@ -3,10 +3,11 @@ ghost use Rattle.std.specs.Prelude.{◌≡◌, ◌+◌, ◌≤◌, ◌^◌, IfOk
 ghost use Rattle.pps_types.specs.Text as text;
 
 use attr_text::line_len;
-use pps_types::{Bytes, Line};
+use pps_types::Line;
 use std::alloc::{AllocError, Global};
 
-fn copy_of(alloc: Global, line: &Line) -> Result<Line, AllocError>
+#[inline(always)]
+fn copy_of(line: &Line) -> Result<Line, AllocError>
     ensures { IfOk result (λ copy. copy ≡ line.now) }
 {
     match line {
@@ -16,14 +17,12 @@ fn copy_of(alloc: Global, line: &Line) -> Result<Line, AllocError>
             value,
             n,
         } => Ok(Line::Set {
-            name: Bytes::from_slice(alloc, name.as_slice())?,
-            enc: Bytes::from_slice(alloc, enc.as_slice())?,
-            value: Bytes::from_slice(alloc, value.as_slice())?,
+            name: name.copy()?,
+            enc: enc.copy()?,
+            value: value.copy()?,
             n: *n,
         }),
-        Line::Del { name } => Ok(Line::Del {
-            name: Bytes::from_slice(alloc, name.as_slice())?,
-        }),
+        Line::Del { name } => Ok(Line::Del { name: name.copy()? }),
     }
 }
 
@@ -33,7 +32,7 @@ pub(crate) fn copies_of(alloc: Global, lines: &[Line]) -> Result<Vec<Line>, Allo
 {
     let mut copies = Vec::with_capacity(alloc, lines.len())?;
     'lines: for line in lines {
-        copies.push_reserved(copy_of(alloc, line)?);
+        copies.push_reserved(copy_of(line)?);
     }
     Ok(copies)
 }

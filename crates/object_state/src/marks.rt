@@ -29,18 +29,26 @@ struct Marked {
     n: bool,
 }
 
+// What the map says of a name.
+fn marked_in(map: &Attributes, name: Bytes) -> Marked
+    ensures name { result.name ≡ name }
+    ensures mark { result.n ≡ history.is_marked name (attributes_in map.now) }
+{
+    let name = Name::new(name);
+    let n = was_marked(map, &name);
+    Marked {
+        name: name.into_bytes(),
+        n,
+    }
+}
+
 // Tells it by the notes or else by the map. Where there are no notes, they are not asked.
 fn with_mark(noted: &Noted<bool>, map: &Attributes, name: Bytes) -> Marked
     ensures name { result.name ≡ name }
     ensures mark { result.n ≡ is_marked_then noted.now map.now name }
 {
     if noted.is_empty() {
-        let name = Name::new(name);
-        let n = was_marked(map, &name);
-        return Marked {
-            name: name.into_bytes(),
-            n,
-        };
+        return marked_in(map, name);
     }
     let name = OrderedName::new(name);
     let n = match noted.get(&name) {
@@ -98,6 +106,29 @@ fn resolve_line(noted: &Noted<bool>, map: &Attributes, line: WriteLine, is_last:
                 changes,
             }
         }
+    }
+}
+
+/// What a line of a write comes to on its own.
+pub(crate) fn resolve_one(map: &Attributes, line: WriteLine) -> Line
+    ensures { result ≡ history.resolved (attributes_in map.now) line }
+{
+    match line {
+        WriteLine::Set {
+            name,
+            enc,
+            value,
+            mark,
+        } => {
+            let Marked { name, n: before } = marked_in(map, name);
+            Line::Set {
+                name,
+                enc,
+                value,
+                n: mark.applied_to(before),
+            }
+        }
+        WriteLine::Del { name } => Line::Del { name },
     }
 }
 

@@ -2,7 +2,7 @@
 ghost use Rattle.std.specs.Prelude.{◌≡◌, ◌^◌, ◌+◌, ◌≤◌, ◌<◌, ◌++◌, ◌↔◌, IsTrue, IfOk, IfSome, IsSome, OnOk, OnErr, IsOkUnless, None, Some, [], option_map, slice_get, length, vec_len, vec_capacity};
 ghost use Rattle.std.specs.List.{list_any};
 ghost use Rattle.pps_types.specs.Bytes.{same};
-ghost use Rattle.pps_types.specs.History.{text_length, persistent, resolve};
+ghost use Rattle.pps_types.specs.History.{text_length, persistent, resolve, resolved};
 ghost use Rattle.pps_types.specs.Names as names;
 ghost use Rattle.object_state.specs.Held.{matching_text, AppliesLines};
 ghost use Rattle.object_state.specs.Limits.{lines_pass_limits, length_with, IsLimitRefusal};
@@ -12,7 +12,7 @@ use crate::content::Attributes;
 use crate::effect::would_pass_limits;
 use crate::lent::AttributeRef;
 use crate::lines::{copies_of, len_with};
-use crate::marks::resolve;
+use crate::marks::{resolve, resolve_one};
 use crate::print::{matching_len, push_all, push_matching};
 use crate::room::make_room;
 use attr_text::passes_limits;
@@ -176,6 +176,14 @@ impl Object {
     {
         let alloc: Global = *self.map.allocator();
         Ok(resolve(alloc, &self.map, lines)?)
+    }
+
+    /// What a line of a write comes to that has no other line with it, as [`resolve`](Object::resolve) says. It takes no
+    /// memory.
+    pub fn resolve_one(&self, line: WriteLine) -> Line
+        ensures { result ≡ resolved self.now.attributes line }
+    {
+        resolve_one(&self.map, line)
     }
 
     // Whether the attributes would pass a limit with these lines, which with the text are that long. Where they are few

@@ -1,24 +1,18 @@
-use Rattle.std.proofs.Common.{◌∙◌, List, not, ap}
-use Rattle.std.specs.Prelude.{◌==◌, length}
+use Rattle.std.proofs.Common.{[], List, ℕ, Option, ap, subst}
+use Rattle.std.specs.Prelude.{IfSome}
+use Rattle.std.specs.Option.{option_map_or}
 use Rattle.pps_types.specs.declared.line.WriteLine.{WriteLine}
-use Rattle.pps_types.specs.Text.{write_text}
+use Rattle.pps_types.specs.Content.{LiveObject}
+use Rattle.attr_text.specs.ReadWrite.{IsSingle}
 use Rattle.service_state.specs.Tables.{content_in}
-use Rattle.handle_requests.specs.Writes.{author_of, checks_by}
-use Rattle.handle_requests.proofs.Texts.{unread_fails, read_fails, empty_same}
+use Rattle.handle_requests.specs.Writes.{author_of}
+use Rattle.handle_requests.proofs.Texts.{line_drafted}
 use Rattle.handle_requests.proofs.draft.draft_of.Goals as goal
 
-pub returns-in-Err-clause-err : goal.returns-in-Err-clause-err
-returns-in-Err-clause-err c = unread_fails (write_text c.args.bytes.now) (checks_by (content_in c.args.tables.now) (author_of c.args.writer.now) c.args.writer.now.kind) c.in-Err.refusal c.in-Err.ensures.err
-
-pub returns-in-Err-kind_of-clause-err : goal.returns-in-Err-kind_of-clause-err
-returns-in-Err-kind_of-clause-err c = read_fails (write_text c.args.bytes.now) (checks_by (content_in c.args.tables.now) (author_of c.args.writer.now) c.args.writer.now.kind) c.in-Ok.text c.in-Ok.ensures.ok c.in-Err-kind_of.refusal c.in-Err-kind_of.ensures.err
-
-pub returns-clause-ok : goal.returns-clause-ok
-returns-clause-ok c = record {
-  text = c.in-Ok.text;
-  reads = c.in-Ok.ensures.ok;
-  object = c.number.ensures;
-  lines = ap not (c.is_empty-has_lines.ensures ∙ ap (λ (xs : List WriteLine). length xs == 0) c.lines.ensures ∙ empty_same c.in-Ok.text.lines);
-  kind = c.in-Ok-kind_of.ensures.does;
-  late = c.in-Ok-kind_of.ensures.passes;
-}
+pub returns-in-Some-clause-ok : goal.returns-in-Some-clause-ok
+returns-in-Some-clause-ok c =
+    let reads = subst (λ (o : Option WriteLine). IfSome o (IsSingle c.as_slice.result.now)) c.in-Some.is c.in_ok-single.ensures.text in
+    line_drafted (content_in c.args.tables.now) (author_of c.args.tables.now.handles c.args.writer.now) c.in-Some.line c.args.writer.now.object.now.held.attributes
+    (ap (λ o. option_map_or (λ (o : LiveObject). o.attributes) o []) c.requires.author.known) _ c.args.writer.now.kind c.in-Object.is c.args.bytes.now
+    (subst (λ (bytes : List ℕ). IsSingle bytes c.in-Some.line) c.as_slice.ensures reads)
+    c.in_ok-draft.draft c.in_ok-draft.ensures.object c.in_ok-draft.ensures.lines c.in_ok-draft.ensures.kind

@@ -3,7 +3,6 @@ use Rattle.std.specs.Prelude.{option_map}
 use Rattle.std.specs.Option.{option_copied}
 use Rattle.pps_types.specs.Content.{object_numbered}
 use Rattle.name_table.specs.Standing.{Named, known_of, standing_of, content_of}
-use Rattle.open_handles.specs.Whole.{Whole, name_at}
 use Rattle.service_state.specs.Tables.{content_in}
 use Rattle.handle_requests.specs.Own.{opened_as, IsOwn}
 use Rattle.handle_requests.proofs.Writers.{no_own, mode_refused, long_refused, gone_refused, writer_is}
@@ -34,5 +33,5 @@ returns-clause-ok c =
     let is : IsOwn c.args.tables.now c.args.conn c.args.handle c.in-Some.own = ap (option_map (opened_as c.args.tables.now)) (sym c.in-Some.is) ∙ c.own_handle.ensures in
     let le : length c.args.bytes.now ≤ 65536 = omega arith in
     writer_is c.args.tables.now c.args.conn c.args.handle c.args.bytes.now c.in-Some.own is (sym c.writes.ensures ∙ c.if-not-writes.false) le c.requires _ refl c.kind.ensures
-    (c.name_of.ensures ∙ ap (λ f. name_at f c.handles.result.now) c.found.ensures ∙ ap (λ (w : Whole). name_at c.in-Some.own.found w) c.handles.ensures)
+    c.found.ensures
     (sym (ap (λ o. option_map known_of (option_copied o)) (sym c.in-Some-object.is) ∙ c.object.ensures.known ∙ ap (λ (n : Named). object_numbered (content_of (standing_of n)) c.new.result) c.names.ensures ∙ ap (object_numbered (content_in c.args.tables.now)) (c.new.ensures ∙ c.target.ensures)))
