@@ -32,6 +32,7 @@ pub(crate) struct Held<T> {
 
 impl<T> Held<T> {
     /// Its value, to be changed in place.
+    #[inline(always)]
     pub(crate) fn value_mut(&mut self) -> &mut T
         ensures* lends { sem 𝓛 (Lends (the_row T.row) T.row self.entry result
             (with_held_value self.entry.now)) }
@@ -42,6 +43,7 @@ impl<T> Held<T> {
 }
 
 /// The value at a place, until it has left.
+#[inline(always)]
 fn value_at<T>(values: &Slab<Held<T>>, place: Place) -> Option<&T>
     ensures { option_copied result ≡ (slot_at values.now place).value }
 {
@@ -113,6 +115,7 @@ pub(crate) fn are_same<T: PartialEq>(
 }
 
 /// The number at a place of the index.
+#[inline(always)]
 fn number_at(index: &[Place], place: usize) -> u64
     requires { place < length index.now }
     ensures { result ≡ get_or (numbers_in index.now) place 0 }
@@ -121,6 +124,7 @@ fn number_at(index: &[Place], place: usize) -> u64
 }
 
 /// The key at a place of the index.
+#[inline(always)]
 pub(crate) fn key_at(index: &[Place], place: usize) -> usize
     requires { place < length index.now }
     ensures { result ≡ key_at index.now place }
@@ -129,6 +133,7 @@ pub(crate) fn key_at(index: &[Place], place: usize) -> usize
 }
 
 /// The place of a number: those before it are lower, and those from there on are not.
+#[inline(never)]
 fn place_of(index: &[Place], number: u64) -> usize
     requires { (bound : ℕ) × Rises 0 (numbers_in index.now) bound }
     ensures { IsPlace number result (numbers_in index.now) }
@@ -147,6 +152,7 @@ fn place_of(index: &[Place], number: u64) -> usize
 }
 
 /// A hint where a number is if none between it and the first one is missing: else it is before that.
+#[inline(always)]
 fn dense_hint(index: &[Place], number: u64) -> usize {
     if index.is_empty() || number < index[0].number {
         return NO_HINT;
@@ -161,6 +167,7 @@ fn dense_hint(index: &[Place], number: u64) -> usize {
 }
 
 /// Whether a number is at a hint.
+#[inline(always)]
 fn is_at(index: &[Place], number: u64, hint: usize) -> bool
     requires { (bound : ℕ) × Rises 0 (numbers_in index.now) bound }
     ensures { result ≡ true → IsPlace number hint (numbers_in index.now) }
@@ -172,6 +179,7 @@ fn is_at(index: &[Place], number: u64, hint: usize) -> bool
 }
 
 /// The same, at once where the number is at the hint, or where none before it is missing.
+#[inline(always)]
 fn place_near(index: &[Place], number: u64, hint: usize) -> usize
     requires { (bound : ℕ) × Rises 0 (numbers_in index.now) bound }
     ensures { IsPlace number result (numbers_in index.now) }
@@ -187,6 +195,7 @@ fn place_near(index: &[Place], number: u64, hint: usize) -> usize
 }
 
 /// Whether a place has the value of that number.
+#[inline(always)]
 fn is_of<T>(values: &Slab<Held<T>>, place: Place, number: u64) -> bool
     ensures { result ≡ stands number (slot_at values.now place) }
 {
@@ -194,6 +203,7 @@ fn is_of<T>(values: &Slab<Held<T>>, place: Place, number: u64) -> bool
 }
 
 /// The place that has the value of a number, if one does: without a search if it is that of the hint.
+#[inline(always)]
 pub(crate) fn find_place<T>(
     values: &Slab<Held<T>>,
     index: &[Place],
@@ -213,6 +223,7 @@ pub(crate) fn find_place<T>(
 }
 
 /// The value of a number, if there is one: without a search if its place is that of the hint.
+#[inline(always)]
 pub(crate) fn find_value<'a, T>(
     values: &'a Slab<Held<T>>,
     index: &[Place],
@@ -234,6 +245,7 @@ pub(crate) fn find_value<'a, T>(
 }
 
 /// The place that has the value of a number, which one does: without a search if it is that of the hint.
+#[inline(always)]
 pub(crate) fn known_place<T>(
     values: &Slab<Held<T>>,
     index: &[Place],

@@ -128,6 +128,7 @@ impl<T> Table<T> {
     }
 
     /// The value under a number, if there is one, by a binary search.
+    #[inline(always)]
     pub fn get(&self, number: u64) -> Option<&T>
         ensures value { option_copied result ≡ value_at number self.now }
         ensures found { IsFoundByValue number self.now (option_copied result) }
@@ -136,6 +137,7 @@ impl<T> Table<T> {
     }
 
     /// The value under a number, if there is one, without a search where the hint is right.
+    #[inline(always)]
     pub fn get_near(&self, number: u64, hint: usize) -> Option<&T>
         ensures value { option_copied result ≡ value_at number self.now }
         ensures found { IsFoundByValue number self.now (option_copied result) }
@@ -144,6 +146,7 @@ impl<T> Table<T> {
     }
 
     /// At which place of the index the value under a number is, if there is one: a hint for later calls.
+    #[inline(always)]
     pub fn place(&self, number: u64) -> Option<usize>
         ensures { is_some result ≡ is_some (value_at number self.now) }
     {
@@ -155,18 +158,23 @@ impl<T> Table<T> {
     ghost use Rattle.number_table.specs.contracts.table.Table.{the_row};
 
     /// The value under a number, if there is one, to be changed in place. It takes no memory.
+    #[inline(always)]
     pub fn get_mut(&mut self, number: u64) -> Option<&mut T>
         ensures* writes_back { sem 𝓛 (LendsIf (the_row T.row) T.row self.entry result
             (with_value self.old number) self.old) }
         ensures value { option_copied_mut result ≡ value_at number self.old }
     {
-        match self.place(number) {
+        match find_place(&self.values, self.index.as_slice(), number, NO_HINT) {
             None => None,
-            Some(place) => Some(self.value_mut(number, place)),
+            Some(place) => {
+                let key = key_at(self.index.as_slice(), place);
+                Some(self.values[key].value_mut())
+            }
         }
     }
 
     /// The value under a number, which there is, to be changed in place: without a search where the hint is right.
+    #[inline(always)]
     pub fn value_mut(&mut self, number: u64, hint: usize) -> &mut T
         requires { IsSome (value_at number self.old) }
         ensures* writes_back { sem 𝓛 (Lends (the_row T.row) T.row self.entry result

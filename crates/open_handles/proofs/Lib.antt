@@ -7,8 +7,10 @@ pub mod Turns
 pub mod Meets
 pub mod Goes
 pub mod Offers
+pub mod Shares
 pub mod Firsts
 pub mod Reserves
+pub mod Readies
 pub mod Wakes
 pub mod Copied
 pub mod Sames

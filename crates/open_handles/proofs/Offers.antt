@@ -213,3 +213,25 @@ module _ (old mid new : Whole) (whole : IsWhole old) (rows : new.rows ≡ old.ro
       offered_room old mid new whole e rows first_at first_others second_at second_others
       (subst (λ n. (es : List Entry) → HasRoomIn (e ∷ es) (FoundObject n) old → HasRoomIn es (FoundObject n) mid) is_o (subst (λ x. (es : List Entry) → HasRoomIn (x ∷ es) (FoundObject o) old → HasRoomIn es (FoundObject o) mid) is1 room1))
       (subst (λ n. (es : List Entry) → HasRoomIn (e ∷ es) (FoundDirectory n) mid → HasRoomIn es (FoundDirectory n) new) is_d (subst (λ x. (es : List Entry) → HasRoomIn (x ∷ es) (FoundDirectory d) mid → HasRoomIn es (FoundDirectory d) new) is2 room2))
+
+-- ---- where no handle is on its directory
+
+nobody_room : (w : Whole) (f : Found) → handles_at f w ≡ [] → (es : List Entry) → HasRoomIn es f w
+nobody_room w f none es = by (topic_at f w) none
+  where
+    by : (o : Option Topic) → handles_in_place o ≡ [] → IfSome o (HasRoomAt es f)
+    by None none = tt
+    by (Some s) none = λ some told. absurd (let l : length (handles_of s) ≡ 0 = ap length none in omega arith)
+
+module _ (old mid : Whole) (whole : IsWhole old) (rows : mid.rows ≡ old.rows) (e e1 : Entry) (o : ℕ) (is1 : e1 ≡ e) (is_o : o ≡ e.record_of.object) (none : handles_at (FoundDirectory e.directory) old ≡ [])
+    (at1 : handles_at (FoundObject o) mid ≡ map (offer e1) (handles_at (FoundObject o) old)) (no1 : (g : Found) → (g ≡ FoundObject o → ⊥) → topic_at g mid ≡ topic_at g old) where
+  still_none : handles_at (FoundDirectory e.directory) mid ≡ []
+  still_none = ap handles_in_place (no1 (FoundDirectory e.directory) (λ bad. cc)) ∙ none
+
+  pub one_offered : handles_in mid ≡ map (offer e) (handles_in old)
+  one_offered = both_offered old mid mid whole rows e e1 e o e.directory is1 refl is_o refl at1 no1 (still_none ∙ sym (ap (map (offer e)) still_none)) (λ g other. refl)
+
+  pub one_room : ((es : List Entry) → HasRoomIn (e1 ∷ es) (FoundObject o) old → HasRoomIn es (FoundObject o) mid) → (es : List Entry) → HasRoom (e ∷ es) old → HasRoom es mid
+  one_room room1 =
+      both_room old mid mid whole rows e e1 e o e.directory is1 refl is_o refl at1 no1 (still_none ∙ sym (ap (map (offer e)) still_none)) (λ g other. refl) room1
+      (λ es room. nobody_room mid (FoundDirectory e.directory) still_none es)

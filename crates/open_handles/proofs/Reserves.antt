@@ -16,7 +16,7 @@ use Rattle.topics.specs.declared.topic.Topic.{Topic}
 use Rattle.topics.specs.declared.topic.Topic.TheVariants.{Readers, Served}
 use Rattle.topics.specs.HandlesOf.{handles_of, places_of as places_for, IsReady, IsSameTarget, KeepsRoom}
 use Rattle.open_handles.specs.declared.places.Places.{Places}
-use Rattle.open_handles.specs.Whole.{IsRight, Whole, IsWhole, place_at, with_place, topic_at, is_told, HasRoom, IsReadyAt, IsReadyFor, IsReserved, KeepsTable}
+use Rattle.open_handles.specs.Whole.{IsRight, Whole, IsWhole, place_at, with_place, topic_at, is_told, HasRoom, IsReadyIfUsed, IsReadyAt, IsReadyFor, IsReserved, KeepsTable}
 use Rattle.open_handles.proofs.Finds.{found_cases}
 use Rattle.open_handles.proofs.Standing.{with_found, with_other}
 use Rattle.open_handles.proofs.Turns.{whole_of, same_turned, turn_sites, turn_places, turn_records}
@@ -75,10 +75,11 @@ module _ (rows : Numbered Found) (p : Places) (whole : IsWhole (whole_of rows p)
     ready = λ es g ready. by es g ready (found_cases g f);
   }
     where
-      by : (es : List Entry) (g : Found) → IfSome (place_at g p) (IsReady es) → (g ≡ f) ⊎ (g ≡ f → ⊥) → IfSome (place_at g (with_place p f t)) (IsReady es)
-      by es g ready (inl here) = subst (λ g. IfSome (place_at g (with_place p f t)) (IsReady es)) (sym here)
-          (subst (λ o. IfSome o (IsReady es)) (sym (with_found p f s t found)) (room es (if_here (place_at f p) s (IsReady es) found (subst (λ g. IfSome (place_at g p) (IsReady es)) here ready))))
-      by es g ready (inr other) = subst (λ o. IfSome o (IsReady es)) (sym (with_other p g f t other)) ready
+      by : (es : List Entry) (g : Found) → IfSome (place_at g p) (IsReadyIfUsed es) → (g ≡ f) ⊎ (g ≡ f → ⊥) → IfSome (place_at g (with_place p f t)) (IsReadyIfUsed es)
+      by es g ready (inl here) = subst (λ g. IfSome (place_at g (with_place p f t)) (IsReadyIfUsed es)) (sym here)
+          (subst (λ o. IfSome o (IsReadyIfUsed es)) (sym (with_found p f s t found))
+          (λ used. room es (if_here (place_at f p) s (IsReadyIfUsed es) found (subst (λ g. IfSome (place_at g p) (IsReadyIfUsed es)) here ready) (subst (λ hs. 0 < length hs) is used))))
+      by es g ready (inr other) = subst (λ o. IfSome o (IsReadyIfUsed es)) (sym (with_other p g f t other)) ready
 
 pub reserved_same : (w : Whole) → IsReserved w w
 reserved_same w = record {
@@ -116,17 +117,17 @@ all_more P xs i x lt is all p = subst (λ n. AllByRecursion P (take n xs)) (let 
 
 -- ---- in all
 
-told_ready : (es : List Entry) (w : Whole) (f : Found) (s : Topic) → topic_at f w ≡ Some s → (xs : List Entry) → AllByRecursion (IsReadyFor es w) xs → 0 < length (filter (is_told f) xs) → IsReady es s
+told_ready : (es : List Entry) (w : Whole) (f : Found) (s : Topic) → topic_at f w ≡ Some s → (xs : List Entry) → AllByRecursion (IsReadyFor es w) xs → 0 < length (filter (is_told f) xs) → IsReadyIfUsed es s
 told_ready es w f s at [] all some = absurd (omega arith)
 told_ready es w f s at (x ∷ xs) all some = by (is_told f x) refl some (told_ready es w f s at xs all.1)
   where
-    here : (f : Found) → topic_at f w ≡ Some s → is_told f x ≡ true → IsReady es s
-    here (FoundObject n) at told = if_here (topic_at (FoundObject n) w) s (IsReady es) at (subst (λ n. IsReadyAt es (FoundObject n) w) (eqb-true x.record_of.object n told) all.0.object)
-    here (FoundDirectory n) at told = if_here (topic_at (FoundDirectory n) w) s (IsReady es) at (subst (λ n. IsReadyAt es (FoundDirectory n) w) (eqb-true x.directory n told) all.0.directory)
+    here : (f : Found) → topic_at f w ≡ Some s → is_told f x ≡ true → IsReadyIfUsed es s
+    here (FoundObject n) at told = if_here (topic_at (FoundObject n) w) s (IsReadyIfUsed es) at (subst (λ n. IsReadyAt es (FoundObject n) w) (eqb-true x.record_of.object n told) all.0.object)
+    here (FoundDirectory n) at told = if_here (topic_at (FoundDirectory n) w) s (IsReadyIfUsed es) at (subst (λ n. IsReadyAt es (FoundDirectory n) w) (eqb-true x.directory n told) all.0.directory)
 
-    by : (b : Bool) → is_told f x ≡ b → 0 < length (cond b (x ∷ filter (is_told f) xs) (filter (is_told f) xs)) → (0 < length (filter (is_told f) xs) → IsReady es s) → IsReady es s
+    by : (b : Bool) → is_told f x ≡ b → 0 < length (cond b (x ∷ filter (is_told f) xs) (filter (is_told f) xs)) → (0 < length (filter (is_told f) xs) → IsReadyIfUsed es s) → IsReadyIfUsed es s
     by true told some rest = here f at told
     by false told some rest = rest some
 
 pub room_all : (es : List Entry) (w : Whole) → AllByRecursion (IsReadyFor es w) es → HasRoom es w
-room_all es w all f s at some told = ready_fewer (is_told f) es s (told_ready es w f s at es all told)
+room_all es w all f s at some told = ready_fewer (is_told f) es s (told_ready es w f s at es all told some)

@@ -1,5 +1,5 @@
 -- All open handles of a service, under their numbers, by the object or directory that each is on.
-use Rattle.std.specs.Prelude.{◌≡◌, ◌≤◌, ◌<◌, ◌==◌, ℕ, Bool, true, false, List, [], ◌∷◌, Option, Some, None, is_some, IfSome, map, filter, find, length, option_map, option_and_then}
+use Rattle.std.specs.Prelude.{◌≡◌, ◌≤◌, ◌<◌, ◌-◌, ◌==◌, ℕ, Bool, true, false, List, [], ◌∷◌, Option, Some, None, is_some, IfSome, IfNone, map, filter, find, length, option_map, option_and_then}
 use Rattle.std.specs.Option.{option_map_or}
 use Rattle.std.specs.List.{AllByRecursion, filter_map}
 use Rattle.pps_types.specs.declared.found.Found.{Found}
@@ -13,6 +13,7 @@ use Rattle.pps_types.specs.Owed.{longest_rest}
 use Rattle.pps_types.specs.WellFormed.{RiseBetween}
 use Rattle.service_laws.specs.Concerned.{is_on_object, is_on_directory}
 use Rattle.number_table.specs.Numbered.{Entry as Numbering, Numbered, has_number, value_under, value_at, with_value}
+use Rattle.server_queue.specs.Shared.{Shared}
 use Rattle.sub_reader.specs.declared.opening.Opening.{Opening}
 use Rattle.sub_reader.specs.HandleAt.{with_opened}
 use Rattle.sub_reader.specs.Opened.{handle_at, is_directory, number_of, armed_pulse, suits}
@@ -283,12 +284,24 @@ with_changed number change handles = on_numbered number (changed change) handles
 
 -- ---- a record that is told
 
--- The shares of a record are enough: where its object is a server's, one for each handle that is given it.
+-- The shares of a record are enough for one place: where its object is a server's, one for each handle that is given it.
 abbrev pub IsSharedAt : ℕ → Entry → Found → Whole → Type 0
 IsSharedAt count e f w = IfSome (site_at f w) (λ s. s.service ≡ true → length (filter (λ (h : OpenHandle Progress). visible h e) (handles_at f w)) ≤ count)
 
-abbrev pub IsShared : ℕ → Entry → Whole → Type 0
-IsShared count e w = IsSharedAt count e (FoundObject e.record_of.object) w
+-- The shares of a record are enough: one where handles are on its directory, and besides it as many as the place of its object needs.
+pub record IsShared (count : ℕ) (e : Entry) (w : Whole) : Type 0 where
+  pub directory : 0 < length (handles_at (FoundDirectory e.directory) w) → 0 < count
+  pub object : IsSharedAt (count - 1) e (FoundObject e.record_of.object) w
+
+-- how many shares a directory has
+abbrev pub share_count : Option Entry → ℕ
+share_count None = 0
+share_count (Some e) = 1
+
+-- The share of a directory is of the same record as those of an object. Where it has none, the object has none either.
+pub record AreOfOneRecord (shares : Shared) (for_directory : Option Entry) : Type 0 where
+  pub same : IfSome for_directory (λ e. e ≡ shares.entry)
+  pub none : IfNone for_directory (shares.count ≡ 0)
 
 -- there is room for records in one place
 abbrev pub HasRoomIn : List Entry → Found → Whole → Type 0
@@ -300,9 +313,13 @@ UsesRoomIn e f old new = (entries : List Entry) → HasRoomIn (e ∷ entries) f 
 
 -- ---- room for records
 
--- there is room for all of these in one place
+-- there is room for all of these, where there are handles
+abbrev pub IsReadyIfUsed : List Entry → Topic → Type 0
+IsReadyIfUsed entries s = 0 < length (handles_of s) → IsReady entries s
+
+-- the same of one place
 abbrev pub IsReadyAt : List Entry → Found → Whole → Type 0
-IsReadyAt entries f w = IfSome (topic_at f w) (IsReady entries)
+IsReadyAt entries f w = IfSome (topic_at f w) (IsReadyIfUsed entries)
 
 -- and wherever a record is told
 pub record IsReadyFor (entries : List Entry) (w : Whole) (e : Entry) : Type 0 where

@@ -1,14 +1,14 @@
 //! What changes of one handle.
 ghost use Rattle.std.specs.Prelude.{◌≡◌, ◌<◌, ◌≤◌, ◌∷◌, ◌+◌, [], length, map};
-ghost use Rattle.std.specs.Prelude.{OnOk, OnErr};
+ghost use Rattle.std.specs.Prelude.{◌↔◌, IsTrue, IfOk, OnOk, OnErr};
 ghost use Rattle.pps_types.specs.Plan.{offer, without_number};
 ghost use Rattle.sub_reader.specs.HandleAt.{AreBelow};
 ghost use Rattle.topics.specs.HandlesOf.{handles_of, handles_with, places_of, IsSameTarget, IsReady, IsEnough, KeepsRoom, Suits};
-ghost use Rattle.open_handles.specs.Whole.{with_changed, IsRight, UsesRoomAt};
+ghost use Rattle.open_handles.specs.Whole.{with_changed, IsReadyIfUsed, IsRight, UsesRoomAt};
 
 use pps_types::Handle;
 use server_queue::Entry;
-use std::alloc::AllocError;
+use std::alloc::{AllocError, Global};
 use sub_reader::{Opening, Pulse};
 use topics::{Shares, Topic};
 
@@ -26,6 +26,7 @@ pub(crate) enum Change {
 }
 
 /// Changes one handle in its place.
+#[inline(always)]
 pub(crate) fn change_in(topic: &mut Topic, number: Handle, change: Change)
     ensures same { IsSameTarget topic.old topic.new }
     ensures handles { handles_of topic.new ≡ with_changed number change (handles_of topic.old) }
@@ -43,6 +44,7 @@ pub(crate) fn change_in(topic: &mut Topic, number: Handle, change: Change)
 }
 
 /// Closes a handle in its place.
+#[inline(always)]
 pub(crate) fn close_in(topic: &mut Topic, number: Handle)
     ensures same { IsSameTarget topic.old topic.new }
     ensures handles { handles_of topic.new ≡ without_number number (handles_of topic.old) }
@@ -56,6 +58,7 @@ pub(crate) fn close_in(topic: &mut Topic, number: Handle)
 }
 
 /// Makes room for one more handle in a place.
+#[inline(always)]
 pub(crate) fn reserve_in(topic: &mut Topic) -> Result<(), AllocError>
     ensures same { IsSameTarget topic.old topic.new }
     ensures handles { handles_of topic.new ≡ handles_of topic.old }
@@ -72,6 +75,7 @@ pub(crate) fn reserve_in(topic: &mut Topic) -> Result<(), AllocError>
 }
 
 /// Opens a handle in its place.
+#[inline(always)]
 pub(crate) fn open_in(topic: &mut Topic, opening: Opening)
     requires places { 0 < places_of topic.old }
     requires suits { Suits opening.kind topic.old }
@@ -87,6 +91,7 @@ pub(crate) fn open_in(topic: &mut Topic, opening: Opening)
 }
 
 /// Offers a record in a place, where there is room for it if handles are there.
+#[inline(always)]
 pub(crate) fn offer_in(topic: &mut Topic, shares: Shares)
     requires room { 0 < length (handles_of topic.old) → IsReady (shares.entry ∷ []) topic.old }
     requires enough { IsEnough shares.count shares.entry topic.old }
@@ -106,17 +111,45 @@ pub(crate) fn offer_in(topic: &mut Topic, shares: Shares)
     topic.is_exact();
 }
 
-/// Makes room for records in a place.
-pub(crate) fn reserve_records_in(topic: &mut Topic, entries: &[Entry]) -> Result<(), AllocError>
+/// Makes room for records in a place, if handles are there, and reports whether they are.
+#[inline(always)]
+pub(crate) fn reserve_records_in(topic: &mut Topic, entries: &[Entry]) -> Result<bool, AllocError>
     ensures same { IsSameTarget topic.old topic.new }
     ensures handles { handles_of topic.new ≡ handles_of topic.old }
     ensures room { KeepsRoom topic.old topic.new }
     ensures places { places_of topic.new ≡ places_of topic.old }
-    ensures ready { OnOk result (IsReady entries.now topic.new) }
+    ensures ready { OnOk result (IsReadyIfUsed entries.now topic.new) }
+    ensures used { IfOk result (λ used. IsTrue used ↔ (0 < length (handles_of topic.new))) }
     ensures on_topic { IsRight topic.new }
 {
+    if topic.is_empty() {
+        topic.handles_are_on_it();
+        topic.is_exact();
+        return Ok(false);
+    }
     let made = topic.reserve(entries);
     topic.handles_are_on_it();
     topic.is_exact();
-    made
+    made?;
+    Ok(true)
+}
+
+/// Makes room for a record in a place, if handles are there, and shares of it for them.
+#[inline(always)]
+pub(crate) fn shares_in(
+    topic: &mut Topic,
+    alloc: Global,
+    entry: Entry,
+) -> Result<Shares, AllocError>
+    ensures same { IsSameTarget topic.old topic.new }
+    ensures handles { handles_of topic.new ≡ handles_of topic.old }
+    ensures room { KeepsRoom topic.old topic.new }
+    ensures places { places_of topic.new ≡ places_of topic.old }
+    ensures ready { OnOk result (IsReadyIfUsed (entry ∷ []) topic.new) }
+    ensures entry { IfOk result (λ shares. shares.entry ≡ entry) }
+    ensures enough { IfOk result (λ shares. IsEnough shares.count shares.entry topic.new) }
+    ensures on_topic { IsRight topic.new }
+{
+    reserve_records_in(topic, std::slice::from_ref(&entry))?;
+    topic.shares(alloc, entry)
 }

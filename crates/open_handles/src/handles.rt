@@ -15,7 +15,7 @@ ghost use Rattle.open_handles.specs.Lookups.{ShowsOpening, ShowsGlance};
 ghost use Rattle.open_handles.specs.Whole.{Whole, handles_in, handles_at, handle_in_topic, site_at, directory_site, plain_site, name_at, room_at, kept_at, is_on, is_told, with_opened_on, with_changed, HasSite, IfServed, IsObject, IsPlaceOf, IsShared, IsSharedAt, HasRoom, HasRoomIn, HasEachInPlace, HasRisingNumbers, HoldsJustWhatIsOwed, UsesRoom, UsesRoomIn, IsReadyAt, IsReadyFor, IsReserved, AreOfSame, SuitsAt, GoesIfUnused, StaysIfUsed, KeepsOthers, KeepsSites, KeepsPlaces, KeepsRecords, KeepsTable};
 
 use crate::change::{
-    Change, change_in, close_in, offer_in, open_in, reserve_in, reserve_records_in,
+    Change, change_in, close_in, offer_in, open_in, reserve_in, reserve_records_in, shares_in,
 };
 use crate::new_site::NewSite;
 use crate::places::{Places, drop_unused};
@@ -46,6 +46,7 @@ pub struct Looked<'a> {
 }
 
 /// The number of a row for a handle.
+#[inline(always)]
 fn row_number(opening: &Opening) -> u64
     ensures same { result ≡ opening.now.number }
     ensures last { result + 1 < 2 ^ 64 }
@@ -54,6 +55,7 @@ fn row_number(opening: &Opening) -> u64
 }
 
 /// Whether two records are of one object, and so in one directory.
+#[inline(always)]
 fn is_of_same(one: &Entry, other: &Entry) -> bool
     ensures { result ≡ true → AreOfSame one.now other.now }
 {
@@ -61,6 +63,7 @@ fn is_of_same(one: &Entry, other: &Entry) -> bool
 }
 
 /// The row of a handle on an object or a directory.
+#[inline(always)]
 fn row_of(found: &Found) -> Found
     ensures { result ≡ found.now }
 {
@@ -121,6 +124,7 @@ impl Handles {
     }
 
     /// The object or directory that a handle is on, if it is open.
+    #[inline(always)]
     pub fn target_of(&self, handle: Handle) -> Option<Found>
         ensures { result ≡ value_at handle self.now.rows }
     {
@@ -302,6 +306,7 @@ impl Handles {
     }
 
     // Changes a handle, if it is open.
+    #[inline(always)]
     fn change(&mut self, handle: Handle, change: Change)
         ensures handles { handles_in self.new ≡ with_changed handle change (handles_in self.old) }
         ensures sites { KeepsSites self.old self.new }
@@ -358,6 +363,7 @@ impl Handles {
     }
 
     // The handles of the place where a handle is, if it is open.
+    #[inline(always)]
     fn place_of(&self, handle: Handle) -> Option<&Topic>
         ensures { handle_at handle (handles_in self.now) ≡ handle_in_topic handle (option_copied result) }
     {
@@ -388,6 +394,7 @@ impl Handles {
     }
 
     /// The name of an object that handles can be opened on, also of one that is dead. A directory has none.
+    #[inline(always)]
     pub fn name_of(&self, found: Found) -> &[u8]
         ensures { result.now ≡ name_at found self.now }
     {
@@ -443,6 +450,7 @@ impl Handles {
     }
 
     // Whom records wake of the handles on an object or a directory.
+    #[inline(always)]
     fn woken_at(
         &self,
         alloc: Global,
@@ -458,6 +466,7 @@ impl Handles {
     }
 
     // Whom a record wakes.
+    #[inline(always)]
     fn woken_by_one(&self, alloc: Global, entry: &Entry) -> Result<Vec<Handle>, AllocError>
         ensures { IfOk result (λ w. w.items ≡ woken_by (entry.now ∷ []) (handles_in self.now)) }
     {
@@ -567,6 +576,7 @@ impl Handles {
     }
 
     /// What the open of a handle fixed, and what it is on, if it is open.
+    #[inline(always)]
     pub fn opening(&self, handle: Handle) -> Option<Opened<'_>>
         ensures { ShowsOpening handle self.now result }
     {
@@ -586,6 +596,7 @@ impl Handles {
     }
 
     /// What is seen of a handle at one look, if it is open. What a read gives of what it is owed is asked of the handles there.
+    #[inline(always)]
     pub fn look(&self, handle: Handle) -> Option<Looked<'_>>
         ensures glance { ShowsGlance handle self.now result }
         ensures topic { IfSome result (λ o. IsPlaceOf handle self.now o.topic.now) }
@@ -610,31 +621,33 @@ impl Handles {
     /// A record with shares of it for all handles that it is told to.
     ///
     /// AllocError comes only where memory is wanting.
+    #[inline(always)]
     pub fn shares(&self, alloc: Global, entry: Entry) -> Result<SharedRecord, AllocError>
         ensures entry { IfOk result (λ told. told.entry ≡ entry) }
         ensures enough { IfOk result (λ told. IsShared told.count told.entry self.now) }
     {
-        let for_directory = entry.share()?;
+        self.handles_are_placed();
+        let is_used = self.has_handles(Found::Directory(DirId::new(entry.directory())));
         let for_object = self.shares_for(alloc, entry)?;
-        Ok(SharedRecord {
-            for_object,
-            for_directory,
-        })
+        SharedRecord::new(for_object, is_used)
     }
 
     // Shares for the handles on a record's object.
+    #[inline(always)]
     fn shares_for(&self, alloc: Global, entry: Entry) -> Result<Shares, AllocError>
         ensures entry { IfOk result (λ shares. shares.entry ≡ entry) }
-        ensures enough { IfOk result (λ shares. IsShared shares.count shares.entry self.now) }
+        ensures enough { IfOk result (λ shares. IsSharedAt shares.count shares.entry
+            (FoundObject shares.entry.record_of.object) self.now) }
     {
         let object = entry.record().object;
         match self.places.get(Found::Object(object)) {
-            None => Shares::new(alloc, entry, 0),
+            None => Ok(Shares::alone(entry)),
             Some(topic) => topic.shares(alloc, entry),
         }
     }
 
     // Offers a record on an object or a directory.
+    #[inline(always)]
     fn offer_at(&mut self, found: Found, shares: Shares)
         requires told { is_told found shares.entry ≡ true }
         requires room { HasRoomIn (shares.entry ∷ []) found self.old }
@@ -656,6 +669,7 @@ impl Handles {
     /// Offers all handles a record, for which there is room, and of which there are shares enough: each that sees it is owed it
     /// from then on, or has news, or is past its limit. It takes no memory, and looks at each handle on its object and on its
     /// directory once.
+    #[inline(always)]
     pub fn offer(&mut self, told: SharedRecord)
         requires room { HasRoom (told.entry ∷ []) self.old }
         requires enough { IsShared told.count told.entry self.old }
@@ -671,33 +685,41 @@ impl Handles {
             for_directory,
         } = told;
         let object = for_object.entry().record().object;
-        let directory = DirId::new(for_directory.directory());
         self.offer_at(Found::Object(object), for_object);
-        self.offer_at(Found::Directory(directory), Shares::alone(for_directory));
+        let Some(entry) = for_directory else {
+            return;
+        };
+        let directory = DirId::new(entry.directory());
+        self.offer_at(Found::Directory(directory), Shares::alone(entry));
     }
 
-    // Makes room for records in one place.
-    fn reserve_at(&mut self, found: Found, entries: &[Entry]) -> Result<(), AllocError>
+    // Makes room for records in one place, if handles are there, and reports whether they are.
+    #[inline(always)]
+    fn reserve_at(&mut self, found: Found, entries: &[Entry]) -> Result<bool, AllocError>
         ensures reserved { IsReserved self.old self.new }
         ensures ready { OnOk result (IsReadyAt entries.now found self.new) }
+        ensures used { IfOk result (λ used. IsTrue used ↔ (0 < length (handles_at found self.new))) }
     {
         let Some(topic) = self.places.get_mut(found) else {
-            return Ok(());
+            return Ok(false);
         };
         reserve_records_in(topic, entries)
     }
 
     // Makes room for records wherever one of them is told.
+    #[inline(always)]
     fn reserve_for(&mut self, entry: &Entry, entries: &[Entry]) -> Result<(), AllocError>
         ensures reserved { IsReserved self.old self.new }
         ensures ready { OnOk result (IsReadyFor entries.now self.new entry.now) }
     {
         self.reserve_at(Found::Object(entry.record().object), entries)?;
-        self.reserve_at(Found::Directory(DirId::new(entry.directory())), entries)
+        self.reserve_at(Found::Directory(DirId::new(entry.directory())), entries)?;
+        Ok(())
     }
 
     // The same, unless it is made since the record before it is of the same object: so many records of one object cost no
     // more than one pass over its handles.
+    #[inline(always)]
     fn reserve_next(
         &mut self,
         before: Option<&Entry>,
@@ -714,6 +736,45 @@ impl Handles {
             }
         }
         self.reserve_for(entry, entries)
+    }
+
+    // Makes room for a record in the place of its object, and shares of it for the handles there.
+    #[inline(always)]
+    fn shares_ready(&mut self, alloc: Global, entry: Entry) -> Result<Shares, AllocError>
+        ensures reserved { IsReserved self.old self.new }
+        ensures ready { OnOk result
+            (IsReadyAt (entry ∷ []) (FoundObject entry.record_of.object) self.new) }
+        ensures entry { IfOk result (λ shares. shares.entry ≡ entry) }
+        ensures enough { IfOk result (λ shares. IsSharedAt shares.count shares.entry
+            (FoundObject shares.entry.record_of.object) self.new) }
+    {
+        let object = Found::Object(entry.record().object);
+        let Some(topic) = self.places.get_mut(object) else {
+            return Ok(Shares::alone(entry));
+        };
+        shares_in(topic, alloc, entry)
+    }
+
+    /// Makes room for a record, and shares of it for all handles that it is told to. What is there stays, and so does room that
+    /// was made before.
+    ///
+    /// AllocError comes only where memory is wanting, and leaves what is there as it was.
+    pub fn tell_ready(&mut self, alloc: Global, entry: Entry) -> Result<SharedRecord, AllocError>
+        ensures handles { handles_in self.new ≡ handles_in self.old }
+        ensures sites { KeepsSites self.old self.new }
+        ensures rows { self.new.rows ≡ self.old.rows }
+        ensures places { KeepsPlaces self.old self.new }
+        ensures records { KeepsRecords self.old self.new }
+        ensures room { OnOk result (HasRoom (entry ∷ []) self.new) }
+        ensures entry { IfOk result (λ told. told.entry ≡ entry) }
+        ensures enough { IfOk result (λ told. IsShared told.count told.entry self.new) }
+    {
+        let directory = Found::Directory(DirId::new(entry.directory()));
+        let is_used = self.reserve_at(directory, std::slice::from_ref(&entry))?;
+        self.handles_are_placed();
+        let for_object = self.shares_ready(alloc, entry)?;
+        self.handles_are_placed();
+        SharedRecord::new(for_object, is_used)
     }
 
     /// Makes room for records that are told one after the other. What stands stays, and so does room that was made before.

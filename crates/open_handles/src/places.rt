@@ -24,6 +24,7 @@ impl Places {
     ghost use Rattle.topics.specs.contracts.topic.Topic.{the_row as topic_row};
 
     /// The handles on an object or a directory.
+    #[inline(always)]
     pub(crate) fn get(&self, found: Found) -> Option<&Topic>
         ensures { option_copied result ≡ place_at found self.now }
     {
@@ -34,6 +35,7 @@ impl Places {
     }
 
     /// The handles on an object or a directory, to be changed in place.
+    #[inline(always)]
     pub(crate) fn get_mut(&mut self, found: Found) -> Option<&mut Topic>
         ensures* writes_back { sem 𝓛 (LendsIf the_row topic_row self.entry result
             (with_place self.old found) self.old) }
@@ -46,6 +48,7 @@ impl Places {
     }
 
     /// The handles on an object or a directory, which is there, to be changed in place.
+    #[inline(always)]
     pub(crate) fn known_mut(&mut self, found: Found) -> &mut Topic
         requires { IsSome (place_at found self.old) }
         ensures* writes_back { sem 𝓛 (Lends the_row topic_row self.entry result

@@ -53,9 +53,26 @@ fn take_lowest<'a>(one: &'a [Handle], other: &'a [Handle]) -> Option<Lowest<'a>>
     })
 }
 
+// Both lists of handles, each in rising number, as one.
+#[inline(never)]
+fn merged(alloc: Global, one: Vec<Handle>, other: Vec<Handle>) -> Result<Vec<Handle>, AllocError>
+    ensures { IfOk result (λ all. all.items ≡ united one.items other.items) }
+{
+    let mut all = Vec::new(alloc);
+    let mut one_left = one.as_slice();
+    let mut other_left = other.as_slice();
+    'lowest: while let Some(lowest) = take_lowest(one_left, other_left) {
+        all.push(lowest.handle)?;
+        one_left = lowest.one;
+        other_left = lowest.other;
+    }
+    Ok(all)
+}
+
 /// Both lists of handles, each in rising number, as one: in rising number, and what is in both once.
 ///
 /// It takes memory only where neither is empty. AllocError comes only where that is wanting.
+#[inline(always)]
 pub(crate) fn unite(
     alloc: Global,
     one: Vec<Handle>,
@@ -69,13 +86,5 @@ pub(crate) fn unite(
     if other.is_empty() {
         return Ok(one);
     }
-    let mut all = Vec::new(alloc);
-    let mut one_left = one.as_slice();
-    let mut other_left = other.as_slice();
-    'lowest: while let Some(lowest) = take_lowest(one_left, other_left) {
-        all.push(lowest.handle)?;
-        one_left = lowest.one;
-        other_left = lowest.other;
-    }
-    Ok(all)
+    merged(alloc, one, other)
 }

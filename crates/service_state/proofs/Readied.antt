@@ -29,10 +29,13 @@ module _ (old new : Tabled) (same : content_in new ≡ content_in old) (kept : K
   no_more : (e : Entry) (f : Found) → length (filter (λ (h : OpenHandle Progress). visible h e) (handles_at f new.handles)) ≤ length (filter (λ (h : OpenHandle Progress). visible h e) (handles_at f old.handles))
   no_more e f = subst (λ hs. length (filter (λ (h : OpenHandle Progress). visible h e) hs) ≤ length (filter (λ (h : OpenHandle Progress). visible h e) (handles_at f old.handles))) (sym (same_handles f)) (le_refl (length (filter (λ (h : OpenHandle Progress). visible h e) (handles_at f old.handles))))
 
+  no_newcomer : (f : Found) → length (handles_at f new.handles) ≤ length (handles_at f old.handles)
+  no_newcomer f = subst (λ hs. length hs ≤ length (handles_at f old.handles)) (sym (same_handles f)) (le_refl (length (handles_at f old.handles)))
+
   still_shared : (xs : List Beginning) → AllByRecursion (IsSharedBy old.handles) xs → AllByRecursion (IsSharedBy new.handles) xs
   still_shared [] shared = tt
   still_shared (Closes conn handle parked ∷ xs) shared = (tt, still_shared xs shared.1)
-  still_shared (AppendsRecord told ∷ xs) shared = (shared_stays told.count told.entry old.handles new.handles (λ f. inl (kept.sites.sites f)) (no_more told.entry) shared.0, still_shared xs shared.1)
+  still_shared (AppendsRecord told ∷ xs) shared = (shared_stays told.count told.entry old.handles new.handles (λ f. inl (kept.sites.sites f)) no_newcomer (no_more told.entry) shared.0, still_shared xs shared.1)
 
   pub ready_begun : (xs : List Beginning) → CanBeginAll (content_in old) xs → list_all is_plain xs ≡ true → AllByRecursion (IsSharedBy old.handles) xs → HasRoom (entries_in xs) new.handles
       → old.records + length (entries_in xs) < 2 ^ 64 → AreReady xs new

@@ -24,7 +24,7 @@ use Rattle.service_state.specs.declared.beginning.Beginning.{Beginning}
 use Rattle.service_state.specs.declared.beginning.Beginning.TheVariants.{Closes, AppendsRecord}
 use Rattle.service_state.specs.Beginning.{entries_in, CanBeginAll, HaveLines, IsSharedBy, AreReady, is_plain}
 use Rattle.service_state.proofs.Waits.{closed_aside, closed_handles}
-use Rattle.service_state.proofs.Begins.{fewer-without, same-offered, shared_stays}
+use Rattle.service_state.proofs.Begins.{fewer-without, fewer-left, same-offered, same-left, shared_stays}
 
 -- the handles of each place are those of all that are on it
 abbrev pub ArePlaced : Tabled → Type 0
@@ -52,11 +52,12 @@ plain_lines (AppendsRecord told ∷ xs) n plain =
     (has_no_lines told.entry.record_of.kind told.entry.record_of.object n two.0, two.1)
 
 shared_all : (old new : Whole) → KeepsOrDrops old new
+    → ((f : Found) → length (handles_at f new) ≤ length (handles_at f old))
     → ((e : Entry) (f : Found) → length (filter (λ (h : OpenHandle Progress). visible h e) (handles_at f new)) ≤ length (filter (λ (h : OpenHandle Progress). visible h e) (handles_at f old)))
     → (xs : List Beginning) → AllByRecursion (IsSharedBy old) xs → AllByRecursion (IsSharedBy new) xs
-shared_all old new sites fewer [] all = tt
-shared_all old new sites fewer (Closes conn handle parked ∷ xs) all = (tt, shared_all old new sites fewer xs all.1)
-shared_all old new sites fewer (AppendsRecord told ∷ xs) all = (shared_stays told.count told.entry old new sites (fewer told.entry) all.0, shared_all old new sites fewer xs all.1)
+shared_all old new sites fewer seers [] all = tt
+shared_all old new sites fewer seers (Closes conn handle parked ∷ xs) all = (tt, shared_all old new sites fewer seers xs all.1)
+shared_all old new sites fewer seers (AppendsRecord told ∷ xs) all = (shared_stays told.count told.entry old new sites fewer (seers told.entry) all.0, shared_all old new sites fewer seers xs all.1)
 
 -- ---- a step
 
@@ -70,6 +71,8 @@ closed_ready conn n parked xs old new moved room names sites placed placed_new r
       room = room (entries_in xs) ready.room;
       lines = subst (HaveLines xs) (sym names) ready.lines;
       shared = shared_all old.handles new.handles (λ f. inl (sites.sites f))
+          (λ f. subst (λ hs. length hs ≤ length (handles_at f old.handles)) (sym (placed_new f ∙ ap (filter (is_on f)) handles))
+          (subst (λ hs. length (filter (is_on f) (without_number n (handles_in old.handles))) ≤ length hs) (sym (placed f)) (fewer-left (is_on f) (λ h. h.number == n) (handles_in old.handles))))
           (λ e f. subst (λ hs. length (filter (λ (h : OpenHandle Progress). visible h e) hs) ≤ length (filter (λ (h : OpenHandle Progress). visible h e) (handles_at f old.handles))) (sym (placed_new f ∙ ap (filter (is_on f)) handles))
           (subst (λ hs. length (filter (λ (h : OpenHandle Progress). visible h e) (filter (is_on f) (without_number n (handles_in old.handles)))) ≤ length (filter (λ (h : OpenHandle Progress). visible h e) hs)) (sym (placed f))
           (fewer-without (λ (h : OpenHandle Progress). visible h e) (is_on f) (λ h. h.number == n) (handles_in old.handles))))
@@ -89,6 +92,8 @@ happened_ready told xs old new moved room sites placed placed_new ready =
       room = room (entries_in xs) ready.room;
       lines = plain_lines xs new.names ready.lines.1;
       shared = shared_all old.handles new.handles sites
+          (λ f. subst (λ n. n ≤ length (handles_at f old.handles)) (sym (ap length (placed_new f ∙ ap (filter (is_on f)) handles) ∙ same-left told.entry f (handles_in old.handles)))
+          (subst (λ hs. length (filter (is_on f) (handles_in old.handles)) ≤ length hs) (sym (placed f)) (le_refl (length (filter (is_on f) (handles_in old.handles))))))
           (λ e f. subst (λ n. n ≤ length (filter (λ (h : OpenHandle Progress). visible h e) (handles_at f old.handles)))
           (sym (ap (λ hs. length (filter (λ (h : OpenHandle Progress). visible h e) hs)) (placed_new f ∙ ap (filter (is_on f)) handles) ∙ same-offered e told.entry f (handles_in old.handles)))
           (subst (λ hs. length (filter (λ (h : OpenHandle Progress). visible h e) (filter (is_on f) (handles_in old.handles))) ≤ length (filter (λ (h : OpenHandle Progress). visible h e) hs)) (sym (placed f)) (le_refl (length (filter (λ (h : OpenHandle Progress). visible h e) (filter (is_on f) (handles_in old.handles)))))))

@@ -36,6 +36,9 @@ impl Tables {
         requires { CanFollowAll (content_in self.old) following.items }
         ensures { Moves (flat_map moves_of following.items) self.old self.new }
     {
+        if following.is_empty() {
+            return;
+        }
         'following: for each in following {
             self.follow(each);
         }

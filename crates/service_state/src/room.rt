@@ -83,6 +83,7 @@ impl Tables {
     }
 
     /// Takes the memory for records that are told one after the other. OutOfMemory is the only error.
+    #[inline(always)]
     pub fn records_ready(&mut self, entries: &[Entry]) -> Result<(), Refusal>
         ensures content { content_in self.new ≡ content_in self.old }
         ensures names { self.new.names ≡ self.old.names }
@@ -98,6 +99,7 @@ impl Tables {
     }
 
     /// Takes the memory for a record that is to be told. OutOfMemory is the only error.
+    #[inline(always)]
     pub fn tell_ready(&mut self, alloc: Global, entry: Entry) -> Result<SharedRecord, Refusal>
         ensures content { content_in self.new ≡ content_in self.old }
         ensures names { self.new.names ≡ self.old.names }
@@ -108,14 +110,15 @@ impl Tables {
         ensures shared { IfOk result (λ told. IsShared told.count entry self.new.handles) }
         ensures err { IfErr result (λ r. r ≡ OutOfMemory) }
     {
-        self.records_ready(std::slice::from_ref(&entry))?;
-        Ok(self.handles.shares(alloc, entry)?)
+        connections_are_found();
+        Ok(self.handles.tell_ready(alloc, entry)?)
     }
 
     /// Takes the memory for lines that change an object.
     ///
     /// It is TooLarge exactly where the object would pass a limit of objects after all of these lines. Else OutOfMemory is
     /// the only error. Where there is no such object, nothing is wanted.
+    #[inline(always)]
     pub fn change_ready(&mut self, object: ObjId, lines: &[Line]) -> Result<(), Refusal>
         ensures content { content_in self.new ≡ content_in self.old }
         ensures handles { self.new.handles ≡ self.old.handles }

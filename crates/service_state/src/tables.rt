@@ -55,6 +55,7 @@ impl Tables {
     }
 
     /// The limit of handles that name none.
+    #[inline(always)]
     pub fn default_limit(&self) -> u32
         ensures { result ≡ self.now.default_limit }
     {
@@ -62,6 +63,7 @@ impl Tables {
     }
 
     /// How many records there were so far.
+    #[inline(always)]
     pub fn records(&self) -> u64
         ensures { result ≡ self.now.records }
     {
@@ -69,6 +71,7 @@ impl Tables {
     }
 
     /// The names, with objects and directories.
+    #[inline(always)]
     pub fn names(&self) -> &Names
         ensures { result.now ≡ self.now.names }
     {
@@ -76,6 +79,7 @@ impl Tables {
     }
 
     /// The open handles.
+    #[inline(always)]
     pub fn handles(&self) -> &Handles
         ensures { result.now ≡ self.now.handles }
     {
@@ -83,6 +87,7 @@ impl Tables {
     }
 
     /// The attached connections.
+    #[inline(always)]
     pub fn connections(&self) -> &Connections
         ensures { result.now ≡ self.now.connections }
     {
@@ -90,6 +95,7 @@ impl Tables {
     }
 
     /// Does nothing. Its contract is the law that names, handles and connections agree.
+    #[inline(always)]
     pub fn are_tied(&self)
         ensures { AreTied self.now }
     {
@@ -97,6 +103,7 @@ impl Tables {
     }
 
     /// Whether a connection is attached.
+    #[inline(always)]
     pub fn is_attached(&self, conn: Conn) -> bool
         ensures { result ≡ content.is_attached (content_in self.now) conn }
     {

@@ -123,15 +123,17 @@ fn offer_at(
     }
 }
 
-/// Offers each handle a record, which was pushed at a position.
+/// Offers each handle a record of that audience, which was pushed at a position.
 pub(crate) fn offer_each(
     target: u64,
+    audience: &Audience,
     rows: &mut HandleRows<Place>,
     counts: &mut VecDeque<usize>,
     start: u64,
     position: u64,
     entry: &Entry,
 )
+    requires audience { IsAudience target entry.now audience.now }
     requires from_start { start ≤ position }
     requires before_end { position < start + length counts.old.items }
     requires within { AreWithin start (length counts.old.items) (rows_of rows.old) }
@@ -142,11 +144,10 @@ pub(crate) fn offer_each(
     ensures capacity { deque_capacity counts.new ≡ deque_capacity counts.old }
     ensures places { rows.new.places ≡ rows.old.places }
 {
-    let audience = Audience::of(target, entry);
     let end = rows.slots().len();
     'offers: for place in 0..end {
         offer_at(
-            target, &audience, rows, place, counts, start, position, entry,
+            target, audience, rows, place, counts, start, position, entry,
         );
     }
 }

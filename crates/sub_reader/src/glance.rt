@@ -22,6 +22,7 @@ pub struct Glance<'a> {
 }
 
 // The same count.
+#[inline(always)]
 fn widened(count: Option<u32>) -> Option<usize>
     ensures { result ≡ count }
 {
@@ -32,6 +33,7 @@ fn widened(count: Option<u32>) -> Option<usize>
 }
 
 /// What is seen of a handle at its place.
+#[inline(always)]
 pub(crate) fn glance_at(reader: &HandleRow<Place>) -> Glance<'_>
     ensures { IsGlanceOf reader.now result }
 {

@@ -9,6 +9,7 @@ use pps_types::{Found, HandleKind, Kind};
 use server_queue::Entry;
 
 /// Whether the handle is of a directory: all of it, or its names alone.
+#[inline(always)]
 pub fn is_directory_kind(kind: HandleKind) -> bool
     ensures { result ≡ reading.is_directory_kind kind }
 {
@@ -16,6 +17,7 @@ pub fn is_directory_kind(kind: HandleKind) -> bool
 }
 
 /// Whether the handle is of a plain object.
+#[inline(always)]
 pub(crate) fn is_object_kind(kind: HandleKind) -> bool
     ensures { result ≡ reading.is_object_kind kind }
 {
@@ -23,6 +25,7 @@ pub(crate) fn is_object_kind(kind: HandleKind) -> bool
 }
 
 /// Whether a handle of that kind reads in full mode.
+#[inline(always)]
 pub fn is_full(kind: HandleKind) -> bool
     ensures { result ≡ reading.is_full_style (reading.style kind) }
 {
@@ -33,6 +36,7 @@ pub fn is_full(kind: HandleKind) -> bool
 }
 
 // Whether records of that kind are kept for those who read an object.
+#[inline(always)]
 fn is_kept(kind: &Kind) -> bool
     ensures { result ≡ reading.is_chained (ObjectHandle true) kind.now }
 {
@@ -46,6 +50,7 @@ fn is_kept(kind: &Kind) -> bool
 }
 
 // Whether records of that kind are kept for those who read a directory.
+#[inline(always)]
 fn is_kept_above(kind: &Kind) -> bool
     ensures { result ≡ reading.is_chained NamesHandle kind.now }
 {
@@ -56,6 +61,7 @@ fn is_kept_above(kind: &Kind) -> bool
 }
 
 /// Whether a record is one of those that are kept for the handles of an object or a directory.
+#[inline(always)]
 pub(crate) fn is_in_chain(of: Found, entry: &Entry) -> bool
     ensures { result ≡ owing.in_chain (is_directory of) (number_of of) entry.now }
 {
@@ -69,6 +75,7 @@ pub(crate) fn is_in_chain(of: Found, entry: &Entry) -> bool
 }
 
 /// The number of an object or a directory.
+#[inline(always)]
 pub fn number_of(of: Found) -> u64
     ensures { result ≡ number_of of }
 {

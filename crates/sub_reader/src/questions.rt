@@ -7,6 +7,7 @@ use crate::place::Place;
 use crate::row::HandleRow;
 
 /// Whether a read of it would give something new.
+#[inline(always)]
 pub(crate) fn has_news(reader: &HandleRow<Place>) -> bool
     ensures at { result ≡ news_at reader.now.opening.reads reader.now.progress }
     ensures news { IsNewsOf reader.now result }
@@ -21,6 +22,7 @@ pub(crate) fn has_news(reader: &HandleRow<Place>) -> bool
 }
 
 /// How many records it is owed: none is told in full mode, before the first read and past the limit.
+#[inline(always)]
 pub(crate) fn owed_count(reader: &HandleRow<Place>) -> Option<u32>
     ensures { IsOwedCountOf reader.now result }
 {
@@ -32,6 +34,7 @@ pub(crate) fn owed_count(reader: &HandleRow<Place>) -> Option<u32>
 }
 
 /// Whether it is owed more than its limit.
+#[inline(always)]
 pub(crate) fn is_over(reader: &HandleRow<Place>) -> bool
     ensures { IsOverflowOf reader.now.progress result }
 {

@@ -82,6 +82,7 @@ impl<P> HandleRows<P> {
     }
 
     /// Whether there are no handles.
+    #[inline(always)]
     pub fn is_empty(&self) -> bool
         ensures { IsTrue result ↔ (rows_of self.now ≡ []) }
     {
@@ -89,6 +90,7 @@ impl<P> HandleRows<P> {
     }
 
     /// The slots in rising number: the handles, and the gaps between them.
+    #[inline(always)]
     pub fn slots(&self) -> &[Slot<P>]
         ensures { result.now ≡ self.now.slots }
     {
@@ -120,6 +122,7 @@ impl<P> HandleRows<P> {
     }
 
     /// The place of a handle, if it is open.
+    #[inline(always)]
     pub fn find(&self, number: Handle) -> Option<usize>
         ensures found { IfSome result (IsRowOf number self.now) }
         ensures row { IfSome result (λ i. HasRowAt i self.now) }
@@ -130,6 +133,7 @@ impl<P> HandleRows<P> {
     }
 
     /// A handle, if it is open.
+    #[inline(always)]
     pub fn get(&self, number: Handle) -> Option<&HandleRow<P>>
         ensures { option_copied result ≡ find (λ r. number_in r == number) (rows_of self.now) }
     {
@@ -141,6 +145,7 @@ impl<P> HandleRows<P> {
     }
 
     /// The handle at a place, if there is one.
+    #[inline(always)]
     pub fn at(&self, place: usize) -> Option<&HandleRow<P>>
         requires { place < length self.now.slots }
         ensures row { option_copied result ≡ row_at place self.now.slots }
@@ -151,6 +156,7 @@ impl<P> HandleRows<P> {
     }
 
     /// The handle at a place, which has one.
+    #[inline(always)]
     pub fn row(&self, place: usize) -> &HandleRow<P>
         requires { HasRowAt place self.now }
         ensures row { IsRowAt place self.now result.now }
@@ -161,6 +167,7 @@ impl<P> HandleRows<P> {
     }
 
     /// What the open of a handle fixed, if it is open.
+    #[inline(always)]
     pub fn opening(&self, number: Handle) -> Option<&Opening>
         ensures { option_copied result ≡ opening_of number self.now }
     {
@@ -234,6 +241,7 @@ impl<P> HandleRows<P> {
 
 impl<P: Drop> HandleRows<P> {
     /// The handle at a place has read so far. It takes no memory.
+    #[inline(always)]
     pub fn set_progress(&mut self, place: usize, progress: P)
         requires { HasRowAt place self.old }
         ensures rows { IsChangedAt place (with_progress progress) self.old self.new }

@@ -14,6 +14,7 @@ use std::mem::replace;
 const SPARE_GAPS: usize = 16;
 
 // The number of the handle of a slot, also of one that has closed.
+#[inline(always)]
 fn number_at<P>(slot: &Slot<P>) -> u32
     ensures { result ≡ number_at slot.now }
 {
@@ -24,6 +25,7 @@ fn number_at<P>(slot: &Slot<P>) -> u32
 }
 
 // Whether there is a handle in a slot.
+#[inline(always)]
 fn is_row<P>(slot: &Slot<P>) -> bool
     ensures { result ≡ is_row slot.now }
 {
@@ -31,6 +33,7 @@ fn is_row<P>(slot: &Slot<P>) -> bool
 }
 
 // The place of a number if the handles up to it were opened one right after the other.
+#[inline(always)]
 fn dense_place<P>(slots: &[Slot<P>], number: u32) -> usize {
     match slots.first() {
         None => 0,
@@ -39,6 +42,7 @@ fn dense_place<P>(slots: &[Slot<P>], number: u32) -> usize {
 }
 
 // Whether a number is at a place.
+#[inline(always)]
 fn is_at<P>(slots: &[Slot<P>], number: u32, place: usize) -> bool
     requires { IsRising number_at slots.now }
     ensures found { result ≡ true → IsPlaceOf number_at slots.now number place }
@@ -51,8 +55,19 @@ fn is_at<P>(slots: &[Slot<P>], number: u32, place: usize) -> bool
     number_at(slot) == number
 }
 
-// The place of a number, or else where it would go: at once if the handles up to it were opened one right after the other,
-// and else by a binary search.
+// The place of a number, or else where it would go, by a binary search.
+#[inline(never)]
+fn search_by_order<P>(slots: &[Slot<P>], number: u32) -> Result<usize, usize>
+    requires { IsRising number_at slots.now }
+    ensures found { IfOk result (IsPlaceOf number_at slots.now number) }
+    ensures absent { IfErr result (IsGapFor number_at slots.now number) }
+    ensures place { IfOk result (λ i. i < length slots.now) }
+{
+    slots.binary_search_by_key(&number, |slot| number_at(slot))
+}
+
+// The same: at once if the handles up to it were opened one right after the other, and else by a binary search.
+#[inline(always)]
 fn search<P>(slots: &[Slot<P>], number: u32) -> Result<usize, usize>
     requires { IsRising number_at slots.now }
     ensures found { IfOk result (IsPlaceOf number_at slots.now number) }
@@ -63,10 +78,11 @@ fn search<P>(slots: &[Slot<P>], number: u32) -> Result<usize, usize>
     if is_at(slots, number, dense) {
         return Ok(dense);
     }
-    slots.binary_search_by_key(&number, |slot| number_at(slot))
+    search_by_order(slots, number)
 }
 
 /// The place of a handle, if it is open.
+#[inline(always)]
 pub(crate) fn find_row<P>(slots: &[Slot<P>], number: u32) -> Option<usize>
     requires { IsRising number_at slots.now }
     ensures found { IfSome result (IsPlaceOf number_at slots.now number) }
@@ -81,6 +97,7 @@ pub(crate) fn find_row<P>(slots: &[Slot<P>], number: u32) -> Option<usize>
 }
 
 /// The handle of a slot, if there is one.
+#[inline(always)]
 pub(crate) fn row_of<P>(slot: &Slot<P>) -> Option<&HandleRow<P>>
     ensures { option_copied result ≡ row_of slot.now }
 {
@@ -91,6 +108,7 @@ pub(crate) fn row_of<P>(slot: &Slot<P>) -> Option<&HandleRow<P>>
 }
 
 /// The handle of a slot that has one.
+#[inline(always)]
 pub(crate) fn known_row<P>(slot: &Slot<P>) -> &HandleRow<P>
     requires { IsSome (row_of slot.now) }
     ensures { Some result.now ≡ row_of slot.now }
@@ -115,6 +133,7 @@ pub(crate) fn take_row<P>(slot: &mut Slot<P>) -> HandleRow<P>
 }
 
 /// The handle of a slot, if there is one, has read so far.
+#[inline(always)]
 pub(crate) fn progress_in<P: Drop>(slot: &mut Slot<P>, progress: P)
     ensures { slot.new ≡ on_row (with_progress progress) slot.old }
 {

@@ -13,6 +13,7 @@ ghost use Rattle.sub_reader.specs.HandleAt.{with_offered, with_caught_up, with_p
 ghost use Rattle.sub_reader.specs.Standing.{handles_with, AreSame};
 ghost use Rattle.sub_reader.specs.Woken.{woken_by};
 
+use crate::audience::Audience;
 use crate::copies::{copy_records, same_records};
 use crate::counts::{leave, offer_each, put};
 use crate::cut::cut;
@@ -110,6 +111,7 @@ impl Subscribers {
     }
 
     /// The object or directory that it is.
+    #[inline(always)]
     pub fn of(&self) -> Found
         ensures { result ≡ self.now.of }
     {
@@ -117,6 +119,7 @@ impl Subscribers {
     }
 
     /// Whether it has no handle.
+    #[inline(always)]
     pub fn is_empty(&self) -> bool
         ensures { IsTrue result ↔ (self.now.handles ≡ []) }
     {
@@ -154,11 +157,13 @@ impl Subscribers {
             return;
         }
         let target = number_of(self.of);
+        let audience = Audience::of(self.of, &entry);
         let position = self.records.end();
         let start = self.records.start();
         self.counts.push_back_reserved(0);
         offer_each(
             target,
+            &audience,
             &mut self.rows,
             &mut self.counts,
             start,
@@ -283,6 +288,7 @@ impl Subscribers {
     }
 
     /// What the open of a handle fixed, where it is here.
+    #[inline(always)]
     pub fn opening(&self, number: Handle) -> Option<&Opening>
         ensures { IsOpeningAt number (number_of self.now.of) self.now.name self.now.handles result }
     {
@@ -290,6 +296,7 @@ impl Subscribers {
     }
 
     /// What is seen of a handle, where it is here.
+    #[inline(always)]
     pub fn glance(&self, number: Handle) -> Option<Glance<'_>>
         ensures { IsGlanceAt number (number_of self.now.of) self.now.name self.now.handles result }
     {
@@ -300,6 +307,7 @@ impl Subscribers {
     }
 
     /// The size of the read that waits on a handle, if one does.
+    #[inline(always)]
     pub fn parked(&self, number: Handle) -> Option<u32>
         ensures { result ≡ parked_at number self.now.handles }
     {
@@ -307,6 +315,7 @@ impl Subscribers {
     }
 
     /// The pulse that is armed on a handle, if one is.
+    #[inline(always)]
     pub fn armed(&self, number: Handle) -> Option<Pulse>
         ensures { armed_pulse result ≡ armed_at number self.now.handles }
     {
@@ -314,6 +323,7 @@ impl Subscribers {
     }
 
     /// The name of the object, and none of a directory.
+    #[inline(always)]
     pub fn name(&self) -> &[u8]
         ensures { result.now ≡ self.now.name }
     {
@@ -321,6 +331,7 @@ impl Subscribers {
     }
 
     /// Whether a handle is here that a read would give something new.
+    #[inline(always)]
     pub fn has_news(&self, number: Handle) -> bool
         ensures { result ≡ has_news_at number self.now.handles }
     {
@@ -331,6 +342,7 @@ impl Subscribers {
     }
 
     /// Whether a handle is here that is owed more records than its limit, so that it is given everything anew.
+    #[inline(always)]
     pub fn is_over(&self, number: Handle) -> bool
         ensures { result ≡ is_over_at number self.now.handles }
     {
@@ -344,6 +356,7 @@ impl Subscribers {
     /// one of them, which it sees. It looks at each handle once, and changes nothing.
     ///
     /// AllocError comes only where memory is wanting.
+    #[inline(always)]
     pub fn woken_by(&self, alloc: Global, entries: &[Entry]) -> Result<Vec<Handle>, AllocError>
         ensures { IfOk result (λ woken. woken.items ≡ woken_by entries.now self.now.handles) }
     {
@@ -352,6 +365,7 @@ impl Subscribers {
 
     /// How many records a handle is owed: none is told where it is not here, in full mode, before the first read and past
     /// the limit.
+    #[inline(always)]
     pub fn owed(&self, number: Handle) -> Option<u32>
         ensures { result ≡ owed_at number self.now.handles }
     {
@@ -366,6 +380,7 @@ impl Subscribers {
     ///
     /// It is TooSmall, with the size, where the first block does not fit, before any memory is taken; else OutOfMemory is
     /// the only error, where something is owed.
+    #[inline(always)]
     pub fn read_owed(&self, alloc: Global, number: Handle, max: u32) -> Result<GivenBlocks, Refusal>
         ensures ok { GivesFitting max (owed_blocks_at number self.now.handles) result }
         ensures refusal { RefusesTooSmall max (owed_blocks_at number self.now.handles) result }
@@ -379,6 +394,7 @@ impl Subscribers {
     }
 
     /// How many records are held.
+    #[inline(always)]
     pub fn kept(&self) -> u64
         ensures { result ≡ length self.now.kept }
     {
@@ -387,6 +403,7 @@ impl Subscribers {
 
     /// Does nothing. Its contract is the law that its handles are on it, are owed no more than their limits, and stand in
     /// rising number.
+    #[inline(always)]
     pub fn handles_are_on_it(&self)
         ensures { AreOnFound self.now.of self.now.handles }
     {
@@ -394,6 +411,7 @@ impl Subscribers {
     }
 
     /// Does nothing. Its contract is the law that its handles read in full or delta mode, and have its name.
+    #[inline(always)]
     pub fn handles_are_readers(&self)
         ensures readers { AreReaders self.now.handles }
         ensures named { HaveName self.now.name self.now.handles }
@@ -403,6 +421,7 @@ impl Subscribers {
 
     /// Just those records are held that have to be kept: the longest rest that a handle is owed. Does nothing. Its contract
     /// is the law that says so.
+    #[inline(always)]
     pub fn is_exact(&self)
         ensures { self.now.kept ≡ longest_rest_on self.now.of self.now.handles }
     {

@@ -1,5 +1,5 @@
 //! Shares of one record, until they are taken.
-ghost use Rattle.std.specs.Prelude.{◌≡◌, ◌<◌, ◌+◌, Some, length, IfOk};
+ghost use Rattle.std.specs.Prelude.{◌≡◌, ◌↔◌, ◌<◌, ◌+◌, Some, length, IfOk, IsTrue};
 ghost use Rattle.std.specs.List.{AllByRecursion};
 ghost use Rattle.pps_types.specs.History.{Entry as Told};
 ghost use Rattle.topics.specs.Made.{shares_in, AreOf};
@@ -30,6 +30,7 @@ fn make_list(alloc: Global, entry: &Entry, count: usize) -> Result<Vec<Entry>, A
 
 impl Made {
     /// So many shares of a record.
+    #[inline(always)]
     pub(crate) fn new(alloc: Global, entry: &Entry, count: usize) -> Result<Made, AllocError>
         ensures same { IfOk result (AreOf entry.now) }
         ensures count { IfOk result (λ made. length (shares_in made) ≡ count) }
@@ -38,6 +39,18 @@ impl Made {
             0 => Ok(Made::Nothing),
             1 => Ok(Made::One(entry.share()?)),
             _ => Ok(Made::Many(Box::new(alloc, make_list(alloc, entry, count)?)?)),
+        }
+    }
+
+    /// Whether there are no shares.
+    #[inline(always)]
+    pub(crate) fn is_empty(&self) -> bool
+        ensures { IsTrue result ↔ (length (shares_in self.now) ≡ 0) }
+    {
+        match self {
+            Made::Nothing => true,
+            Made::One(_) => false,
+            Made::Many(list) => list.is_empty(),
         }
     }
 

@@ -1,5 +1,5 @@
 //! Shares of one record, made ahead.
-ghost use Rattle.std.specs.Prelude.{◌≡◌, ◌+◌, ◌<◌, Some, IfOk};
+ghost use Rattle.std.specs.Prelude.{◌≡◌, ◌↔◌, ◌+◌, ◌<◌, Some, IfOk, IsTrue};
 
 use crate::made::Made;
 use server_queue::Entry;
@@ -29,6 +29,7 @@ impl Shares {
     /// A record, with so many shares of it.
     ///
     /// AllocError comes only where memory is wanting.
+    #[inline(always)]
     pub fn new(alloc: Global, entry: Entry, count: usize) -> Result<Shares, AllocError>
         ensures { IfOk result (λ shares. shares ≡ record { entry = entry; count = count }) }
     {
@@ -37,6 +38,7 @@ impl Shares {
     }
 
     /// A record, and no share of it. It takes no memory.
+    #[inline(always)]
     pub fn alone(entry: Entry) -> Shares
         ensures { result ≡ record { entry = entry; count = 0 } }
     {
@@ -46,7 +48,16 @@ impl Shares {
         }
     }
 
+    /// Whether no shares of the record were made, or all are taken.
+    #[inline(always)]
+    pub fn is_alone(&self) -> bool
+        ensures { IsTrue result ↔ (self.now.count ≡ 0) }
+    {
+        self.made.is_empty()
+    }
+
     /// The record.
+    #[inline(always)]
     pub fn entry(&self) -> &Entry
         ensures { result.now ≡ self.now.entry }
     {
@@ -54,6 +65,7 @@ impl Shares {
     }
 
     /// The record alone, without the shares of it.
+    #[inline(always)]
     pub fn into_entry(self) -> Entry
         ensures { result ≡ self.entry }
     {

@@ -66,6 +66,7 @@ impl Topic {
 
     /// Does nothing. Its contract is the law that its handles are on it, are owed no more than their limits, and stand in
     /// rising number.
+    #[inline(always)]
     pub fn handles_are_on_it(&self)
         ensures { AreOnFound (target_of self.now) (handles_of self.now) }
     {
@@ -76,6 +77,7 @@ impl Topic {
     }
 
     /// Does nothing. Its contract is the law that its handles suit it, and have its name.
+    #[inline(always)]
     pub fn handles_suit(&self)
         ensures suit { AreQueuedJustIf (is_service self.now) (handles_of self.now) }
         ensures named { HaveName (name_of self.now) (handles_of self.now) }
@@ -88,6 +90,7 @@ impl Topic {
 
     /// Just those records are held for readers that have to be kept: the longest rest that a handle is owed. Does nothing.
     /// Its contract is the law that says so.
+    #[inline(always)]
     pub fn is_exact(&self)
         ensures { kept_of self.now ≡ longest_rest_on (target_of self.now) (handles_of self.now) }
     {
@@ -98,6 +101,7 @@ impl Topic {
     }
 
     /// How many records are held for readers. Of a server object none are: its handles have queues.
+    #[inline(always)]
     pub fn kept(&self) -> usize
         ensures { result ≡ length (kept_of self.now) }
     {
@@ -108,6 +112,7 @@ impl Topic {
     }
 
     /// Whether they are a server object's.
+    #[inline(always)]
     pub fn is_service(&self) -> bool
         ensures { result ≡ is_service self.now }
     {
@@ -115,6 +120,7 @@ impl Topic {
     }
 
     /// Whether it has no handle.
+    #[inline(always)]
     pub fn is_empty(&self) -> bool
         ensures { IsTrue result ↔ (handles_of self.now ≡ []) }
     {
@@ -125,6 +131,7 @@ impl Topic {
     }
 
     /// Makes room for one more handle. AllocError comes only where there was none. What stands stays.
+    #[inline(always)]
     pub fn reserve_handle(&mut self) -> Result<(), AllocError>
         ensures same { IsSameTarget self.old self.new }
         ensures handles { handles_of self.new ≡ handles_of self.old }
@@ -142,6 +149,7 @@ impl Topic {
 
     /// Opens a handle, for which there is room, and which suits. Its number is above those of all others. It takes no
     /// memory.
+    #[inline(always)]
     pub fn open_reserved(&mut self, opening: Opening)
         requires places { 0 < places_of self.old }
         requires suits { Suits opening.kind self.old }
@@ -160,6 +168,7 @@ impl Topic {
     /// Makes room for a few records of this target. What stands stays, and so does room that was made before.
     ///
     /// AllocError comes only where there was not as much room.
+    #[inline(always)]
     pub fn reserve(&mut self, entries: &[Entry]) -> Result<(), AllocError>
         ensures same { IsSameTarget self.old self.new }
         ensures handles { handles_of self.new ≡ handles_of self.old }
@@ -178,18 +187,20 @@ impl Topic {
     /// Shares of a record, one for each handle of a server object that is given it. Readers share one.
     ///
     /// AllocError comes only where memory is wanting.
+    #[inline(always)]
     pub fn shares(&self, alloc: Global, entry: Entry) -> Result<Shares, AllocError>
         ensures entry { IfOk result (λ shares. shares.entry ≡ entry) }
         ensures enough { IfOk result (λ shares. IsEnough shares.count shares.entry self.now) }
     {
         match self {
-            Topic::Readers(_) => Shares::new(alloc, entry, 0),
+            Topic::Readers(_) => Ok(Shares::alone(entry)),
             Topic::Served(service) => service.shares(alloc, entry),
         }
     }
 
     /// Offers the handles a record, of which there are enough shares and for which there is room: each that sees it is owed
     /// it from then on, or has news, or is past its limit. It takes no memory, and looks at each handle once.
+    #[inline(always)]
     pub fn offer(&mut self, shares: Shares)
         requires room { IsReady (shares.entry ∷ []) self.old }
         requires enough { IsEnough shares.count shares.entry self.old }
@@ -205,6 +216,7 @@ impl Topic {
     }
 
     /// A handle has read everything. It takes no memory.
+    #[inline(always)]
     pub fn catch_up(&mut self, number: Handle)
         ensures same { IsSameTarget self.old self.new }
         ensures handles { handles_of self.new ≡ with_caught_up number (handles_of self.old) }
@@ -217,6 +229,7 @@ impl Topic {
     }
 
     /// A handle was given so many of the records that it is owed. It takes no memory.
+    #[inline(always)]
     pub fn pass(&mut self, number: Handle, count: usize)
         ensures same { IsSameTarget self.old self.new }
         ensures handles { handles_of self.new ≡ with_passed number count (handles_of self.old) }
@@ -229,6 +242,7 @@ impl Topic {
     }
 
     /// A read of that size waits on a handle, or none any more. It takes no memory.
+    #[inline(always)]
     pub fn park(&mut self, number: Handle, size: Option<u32>)
         ensures same { IsSameTarget self.old self.new }
         ensures handles { handles_of self.new ≡ with_parked number size (handles_of self.old) }
@@ -241,6 +255,7 @@ impl Topic {
     }
 
     /// A pulse waits on a handle, or none any more. It takes no memory.
+    #[inline(always)]
     pub fn arm(&mut self, number: Handle, pulse: Option<Pulse>)
         ensures same { IsSameTarget self.old self.new }
         ensures handles { handles_of self.new ≡ with_armed number pulse (handles_of self.old) }
@@ -253,6 +268,7 @@ impl Topic {
     }
 
     /// Closes a handle. It takes no memory, and room for records stays.
+    #[inline(always)]
     pub fn close(&mut self, number: Handle)
         ensures same { IsSameTarget self.old self.new }
         ensures handles { handles_of self.new ≡ without_number number (handles_of self.old) }
@@ -266,6 +282,7 @@ impl Topic {
     }
 
     /// What the open of a handle fixed, where it is here.
+    #[inline(always)]
     pub fn opening(&self, number: Handle) -> Option<&Opening>
         ensures { HasOpening self.now number result }
     {
@@ -276,6 +293,7 @@ impl Topic {
     }
 
     /// What is seen of a handle at one look, where it is here.
+    #[inline(always)]
     pub fn glance(&self, number: Handle) -> Option<Glance<'_>>
         ensures { HasGlance self.now number result }
     {
@@ -286,6 +304,7 @@ impl Topic {
     }
 
     /// The size of the read that waits on a handle, if one does.
+    #[inline(always)]
     pub fn parked(&self, number: Handle) -> Option<u32>
         ensures { result ≡ parked_at number (handles_of self.now) }
     {
@@ -296,6 +315,7 @@ impl Topic {
     }
 
     /// The pulse that is armed on a handle, if one is.
+    #[inline(always)]
     pub fn armed(&self, number: Handle) -> Option<Pulse>
         ensures { armed_pulse result ≡ armed_at number (handles_of self.now) }
     {
@@ -306,6 +326,7 @@ impl Topic {
     }
 
     /// Whether a handle is here that a read would give something new.
+    #[inline(always)]
     pub fn has_news(&self, number: Handle) -> bool
         ensures { result ≡ has_news_at number (handles_of self.now) }
     {
@@ -316,6 +337,7 @@ impl Topic {
     }
 
     /// The name of the object, and none of a directory.
+    #[inline(always)]
     pub fn name(&self) -> &[u8]
         ensures { result.now ≡ name_of self.now }
     {
@@ -327,6 +349,7 @@ impl Topic {
 
     /// How many records a handle is owed: none is told where it is not here, in full mode, before the first read and past
     /// the limit.
+    #[inline(always)]
     pub fn owed(&self, number: Handle) -> Option<usize>
         ensures { result ≡ owed_at number (handles_of self.now) }
     {
@@ -343,6 +366,7 @@ impl Topic {
     /// one of them, which it sees. It looks at each handle once, and changes nothing.
     ///
     /// AllocError comes only where memory is wanting.
+    #[inline(always)]
     pub fn woken_by(&self, alloc: Global, entries: &[Entry]) -> Result<Vec<Handle>, AllocError>
         ensures { IfOk result (λ woken. woken.items ≡ woken_by entries.now (handles_of self.now)) }
     {
@@ -357,6 +381,7 @@ impl Topic {
     ///
     /// It is TooSmall, with the size, where the first block does not fit, before any memory is taken; else OutOfMemory is
     /// the only error, where something is owed.
+    #[inline(always)]
     pub fn read_owed(&self, alloc: Global, number: Handle, max: u32) -> Result<GivenBlocks, Refusal>
         ensures ok { GivesFitting max (owed_blocks_at number (handles_of self.now)) result }
         ensures refusal { RefusesTooSmall max (owed_blocks_at number (handles_of self.now)) result }
@@ -371,6 +396,7 @@ impl Topic {
 
     /// Whether the server's handle, if it is here, is owed as many messages of a client as its limit. It is asked of a server
     /// object.
+    #[inline(always)]
     pub fn is_server_full(&self, server: Handle, client: Handle) -> bool
         ensures { is_service self.now ≡ true
             → result ≡ is_server_full_at server client (handles_of self.now) }
@@ -383,6 +409,7 @@ impl Topic {
 
     /// Whether a client's handle, if it is here, is owed as many messages of its server as its limit. It is asked of a server
     /// object.
+    #[inline(always)]
     pub fn is_client_full(&self, client: Handle) -> bool
         ensures { is_service self.now ≡ true
             → result ≡ is_client_full_at client (handles_of self.now) }
@@ -395,6 +422,7 @@ impl Topic {
 
     /// The first client, in rising number, that is owed as many messages of its server as its limit. It is asked of a server
     /// object, and looks at its handles alone.
+    #[inline(always)]
     pub fn full_client(&self) -> Option<Handle>
         ensures { is_service self.now ≡ true → result ≡ full_client_in (handles_of self.now) }
     {
@@ -449,6 +477,7 @@ impl Topic {
     }
 
     /// The object or directory that they are on.
+    #[inline(always)]
     pub fn target(&self) -> Found
         ensures { result ≡ target_of self.now }
     {

@@ -1,5 +1,4 @@
-use Rattle.std.proofs.Common.{◌∷◌, ◌++◌, [], append_assoc, eqb, sym, ap, ◌∙◌}
-use Rattle.pps_types.proofs.Lists.{append-nil}
+use Rattle.std.proofs.Common.{eqb, sym, ap, ◌∙◌}
 use Rattle.open_handles.specs.United.{united}
 use Rattle.open_handles.proofs.Wakes.{united_none, nothing}
 use Rattle.open_handles.proofs.woken.unite.Goals as goal
@@ -9,13 +8,3 @@ returns-then-is_empty c = ap (λ xs. united xs c.args.other.items) (sym (nothing
 
 pub returns-then-is_empty-2 : goal.returns-then-is_empty-2
 returns-then-is_empty-2 c = sym (united_none c.args.one.items) ∙ ap (united c.args.one.items) (sym (nothing c.args.other.items (ap (λ n. eqb n 0) (sym c.args.other.ok.0) ∙ sym c.is_empty-2.ensures ∙ c.if-is_empty-2.true)))
-
-pub lowest-preserved : goal.lowest-preserved
-lowest-preserved c =
-    ap (λ xs. xs ++ united c.in-Some.lowest.one.now c.in-Some.lowest.other.now) c.in_ok-push.ensures.items
-    ∙ append_assoc c.lowest.all.items (c.in-Some.lowest.handle ∷ []) (united c.in-Some.lowest.one.now c.in-Some.lowest.other.now)
-    ∙ ap (λ xs. c.lowest.all.items ++ xs) (sym c.in-Some.ensures.some)
-    ∙ c.lowest.invariant
-
-pub returns : goal.returns
-returns c = sym (append-nil c.lowest.all.items) ∙ ap (λ xs. c.lowest.all.items ++ xs) (sym c.in_default.ensures.none) ∙ c.lowest.invariant

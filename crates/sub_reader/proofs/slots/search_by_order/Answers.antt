@@ -2,7 +2,7 @@ use Rattle.std.proofs.Common.{rules}
 use Rattle.std.proofs.lemmas.List.Sorted.{answers_always}
 use Rattle.pps_types.proofs.RisingPlaces.{searched}
 use Rattle.sub_reader.specs.Rows.{number_at}
-use Rattle.sub_reader.proofs.slots.search.Goals as goal
+use Rattle.sub_reader.proofs.slots.search_by_order.Goals as goal
 
 -- the closure gives a slot's number
 pub returns : goal.returns

@@ -1,6 +1,6 @@
 use Rattle.std.proofs.Common.{◌≡◌, ◌++◌, length, ◌+◌}
 use Rattle.open_handles.specs.United.{united}
-use Rattle.open_handles.proofs.woken.unite.Given as goal
+use Rattle.open_handles.proofs.woken.merged.Given as goal
 
 abbrev pub invariant-lowest : goal.invariant-lowest
 invariant-lowest l = l.all.items ++ united l.one_left l.other_left ≡ united l.fn.one.items l.fn.other.items
