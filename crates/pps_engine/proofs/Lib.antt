@@ -16,6 +16,7 @@ pub mod Apart
 pub mod Saved
 pub mod Marks
 pub mod Plans
+pub mod AtOnce
 pub mod Lists
 pub mod Restored
 pub mod Runs

@@ -10,3 +10,4 @@ pub mod Serving
 pub mod Standing
 pub mod Restored
 pub mod Private
+pub mod AtOnce

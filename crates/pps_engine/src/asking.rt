@@ -68,6 +68,7 @@ fn ask(tables: &mut Tables, alloc: Global, conn: Conn, request: &Request) -> Res
 }
 
 // Whether a connection is to attach.
+#[inline(always)]
 fn is_attach(request: &Request) -> bool
     ensures { result ≡ is_attach request.now }
 {
@@ -75,6 +76,7 @@ fn is_attach(request: &Request) -> bool
 }
 
 /// What an event answers and does, for which the memory is taken, or why it is refused. What stands stays.
+#[inline(always)]
 pub(crate) fn answer(tables: &mut Tables, alloc: Global, event: &Event) -> Result<Done, Refusal>
     requires content { IsContent (content_in tables.old) }
     requires bound { IsBound (content_in tables.old) }

@@ -61,6 +61,7 @@ pub(crate) enum Doing {
 }
 
 // A handle has read.
+#[inline(always)]
 fn leave_read(tables: &mut Tables, conn: Conn, handle: Handle, effect: Effect)
     requires { CanRead conn handle effect tables.old }
     ensures { Moves (reads.moves_of handle effect) tables.old tables.new }
@@ -94,6 +95,7 @@ fn begin_and_leave(tables: &mut Tables, beginning: Vec<Beginning>, conn: Conn)
 }
 
 /// Carries out what an event does, for which all memory was taken. It takes none and cannot fail.
+#[inline(always)]
 pub(crate) fn carry_out(tables: &mut Tables, doing: Doing)
     requires { CanDo doing tables.old }
     ensures { Moves (moves_in doing tables.old) tables.old tables.new }

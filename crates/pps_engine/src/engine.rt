@@ -9,6 +9,7 @@ ghost use Rattle.pps_engine.specs.Serving.{IsLatest, IsPlanOf, MarksBytes, Answe
 ghost use Rattle.service_state.specs.Tables.{content_in};
 ghost use Rattle.pps_engine.specs.Standing.{coming, HoldsJust, IsSound};
 
+use crate::at_once::take_step;
 use crate::planned::{Pending, Planned, carry_out, plan};
 use name_table::questions_are_told;
 use pps_types::limits::DEFAULT_LIMIT;
@@ -35,6 +36,7 @@ pub(crate) struct Ready {
 }
 
 /// Nothing is pending any more.
+#[inline(always)]
 pub(crate) fn forget(pending: &mut Option<Ready>)
     ensures { pending.new ≡ None }
 {
@@ -48,19 +50,6 @@ fn keep(pending: &mut Option<Ready>, ready: Ready)
     ensures { pending.new ≡ Some ready }
 {
     *pending = Some(ready);
-}
-
-// One event, planned and carried out at once.
-fn take_step(tables: &mut Tables, alloc: Global, event: &Event) -> Result<Outcome, Refusal>
-    requires { IsSound (content_in tables.old) }
-    ensures seen { StepsSeen (content_in tables.old) event.now result (content_in tables.new) }
-    ensures sound { IsSound (content_in tables.new) }
-    ensures kept { OnErr result (content_in tables.new ≡ content_in tables.old) }
-    ensures sends { IsSendable result }
-{
-    let Planned { reply, pending } = plan(tables, alloc, event)?;
-    carry_out(tables, pending);
-    Ok(reply)
 }
 
 /// What an event will answer. What it will change is held by the engine that has planned it.

@@ -3,6 +3,7 @@
 #![tactic(auto)]
 
 mod asking;
+mod at_once;
 mod doing;
 mod done;
 mod engine;

@@ -32,6 +32,7 @@ pub struct Planned {
 /// What an event answers, and all that it does, for which the memory is taken; or why it is refused. What stands stays.
 ///
 /// It is refused by the first check that fails, and it is OutOfMemory only where memory is wanting that the event may want.
+#[inline(always)]
 pub fn plan(tables: &mut Tables, alloc: Global, event: &Event) -> Result<Planned, Refusal>
     requires content { IsContent (content_in tables.old) }
     requires bound { IsBound (content_in tables.old) }
@@ -49,6 +50,7 @@ pub fn plan(tables: &mut Tables, alloc: Global, event: &Event) -> Result<Planned
 }
 
 /// Carries out an event that is planned. It takes no memory and cannot fail.
+#[inline(always)]
 pub fn carry_out(tables: &mut Tables, pending: Pending)
     requires { CanCarry pending tables.old }
     ensures { Moves (moves_pending pending tables.old) tables.old tables.new }

@@ -91,6 +91,7 @@ pub(crate) fn open(
 }
 
 /// A handle is read.
+#[inline(always)]
 pub(crate) fn read(
     tables: &mut Tables,
     alloc: Global,
@@ -118,6 +119,7 @@ pub(crate) fn read(
 }
 
 /// A handle is written to.
+#[inline(always)]
 pub(crate) fn write(
     tables: &mut Tables,
     alloc: Global,

@@ -71,6 +71,7 @@ fn settled_opens(
 /// What follows from what an event does. Where no record is told nothing follows.
 ///
 /// AllocError comes only where memory is wanting, and only where records are told.
+#[inline(always)]
 pub(crate) fn settled(
     tables: &Tables,
     alloc: Global,

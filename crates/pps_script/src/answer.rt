@@ -7,6 +7,7 @@ use itoa::Buffer;
 use pps_types::{Conn, Item, Outcome, Refusal, SharedBytes};
 use std::alloc::AllocError;
 
+#[inline(always)]
 fn push_number(out: &mut Vec<u8>, number: u64) -> Result<(), AllocError>
     ensures { OnOk result (out.new.items ≡ out.old.items ++ decimal number) }
 {
@@ -19,6 +20,7 @@ fn push_number(out: &mut Vec<u8>, number: u64) -> Result<(), AllocError>
 }
 
 /// Pushes how many bytes there are, and the bytes, if there are any.
+#[inline(always)]
 #[tactic(auto, using(crate::proofs::Regroup::regroup))]
 pub(crate) fn push_counted(out: &mut Vec<u8>, bytes: &[u8]) -> Result<(), AllocError>
     ensures { OnOk result (out.new.items ≡ out.old.items ++ counted_words bytes.now) }
@@ -32,6 +34,7 @@ pub(crate) fn push_counted(out: &mut Vec<u8>, bytes: &[u8]) -> Result<(), AllocE
 }
 
 // Pushes a space, and bytes that were read.
+#[inline(always)]
 #[tactic(auto, using(crate::proofs::Regroup::regroup))]
 fn push_data(out: &mut Vec<u8>, bytes: &[u8]) -> Result<(), AllocError>
     ensures { OnOk result (out.new.items ≡ out.old.items ++ space ++ data_words bytes.now) }
@@ -106,6 +109,7 @@ fn push_item(out: &mut Vec<u8>, item: &Item) -> Result<(), AllocError>
 }
 
 // Pushes a space, and what was done.
+#[inline(always)]
 #[tactic(auto, using(crate::proofs::Regroup::regroup))]
 fn push_outcome(out: &mut Vec<u8>, outcome: &Outcome) -> Result<(), AllocError>
     ensures { OnOk result (out.new.items ≡ out.old.items ++ space ++ outcome_words outcome.now) }
@@ -130,6 +134,7 @@ fn push_outcome(out: &mut Vec<u8>, outcome: &Outcome) -> Result<(), AllocError>
 }
 
 // Pushes a space, and an answer.
+#[inline(always)]
 fn push_answer(out: &mut Vec<u8>, answer: &Result<Outcome, Refusal>) -> Result<(), AllocError>
     ensures { OnOk result (out.new.items ≡ out.old.items ++ space ++ answer_words answer.now) }
 {

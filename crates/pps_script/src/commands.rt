@@ -20,6 +20,7 @@ pub(crate) enum Word {
     Notify,
 }
 
+#[inline(always)]
 fn read_word(word: &[u8]) -> Option<Word>
     ensures { result ≡ script.word_of word.now }
 {
@@ -63,6 +64,7 @@ fn read_open(alloc: Global, text: &[u8]) -> Result<Option<Request>, AllocError>
 }
 
 // A handle and a size.
+#[inline(always)]
 fn read_read(text: &[u8]) -> Option<Request>
     ensures { result ≡ script.read_request text.now }
 {
@@ -73,6 +75,7 @@ fn read_read(text: &[u8]) -> Option<Request>
 }
 
 // What stands before the first space, and what stands behind it, if there is one.
+#[inline(always)]
 fn word_and_rest(text: &[u8]) -> (&[u8], &[u8])
     ensures { (result.0.now, result.1.now) ≡ script.word_and_rest text.now }
 {
@@ -83,6 +86,7 @@ fn word_and_rest(text: &[u8]) -> (&[u8], &[u8])
 }
 
 // A handle, and bytes, if there are any.
+#[inline(always)]
 fn read_write(alloc: Global, text: &[u8]) -> Result<Option<Request>, AllocError>
     ensures { IfOk result (λ read. read ≡ script.write_request text.now) }
 {
@@ -123,6 +127,7 @@ fn read_notify(text: &[u8]) -> Option<Request>
 }
 
 // A command, and what stands behind its space.
+#[inline(always)]
 fn read_with(alloc: Global, word: Word, text: &[u8]) -> Result<Option<Request>, AllocError>
     ensures { IfOk result (λ read. read ≡ script.request_with word text.now) }
 {
@@ -148,6 +153,7 @@ fn read_with(alloc: Global, word: Word, text: &[u8]) -> Result<Option<Request>, 
 }
 
 /// What is asked for behind the connection. `None` says that it is no command.
+#[inline(always)]
 pub(crate) fn read_request(alloc: Global, text: &[u8]) -> Result<Option<Request>, AllocError>
     ensures { IfOk result (λ read. read ≡ script.request_of text.now) }
 {

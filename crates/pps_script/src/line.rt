@@ -46,6 +46,7 @@ fn push_shown(
 }
 
 // Prints what is printed for an event that is answered so.
+#[inline(always)]
 fn print_served(
     alloc: Global,
     out: &mut Vec<u8>,
@@ -64,6 +65,7 @@ fn print_served(
 
 /// Serves a line of a script, without its line feed. The text is then what is to be printed for it, in place of what it
 /// was.
+#[inline(always)]
 pub(crate) fn serve_line(
     alloc: Global,
     engine: &mut Engine,

@@ -16,6 +16,7 @@ pub enum ScriptLine {
     Command(Event),
 }
 
+#[inline(always)]
 fn says_nothing(line: &[u8]) -> bool
     ensures { result ≡ (is_empty line.now || starts_with 35 line.now) }
 {
@@ -26,6 +27,7 @@ fn says_nothing(line: &[u8]) -> bool
 }
 
 // A connection, a space and what is asked for.
+#[inline(always)]
 fn read_command(alloc: Global, line: &[u8]) -> Result<Option<Event>, AllocError>
     ensures { IfOk result (λ read. read ≡ script.command line.now) }
 {
@@ -45,6 +47,7 @@ fn read_command(alloc: Global, line: &[u8]) -> Result<Option<Event>, AllocError>
 ///
 /// A line that is empty, or whose first byte is `#`, says nothing. Any other is `N command ..`, its words separated by
 /// exactly one space; N is the connection, 0 to 65535. Numbers have no leading zeros.
+#[inline(always)]
 pub fn read_line(alloc: Global, line: &[u8]) -> Result<Option<ScriptLine>, AllocError>
     ensures { IfOk result (λ read. read ≡ script.line_of line.now) }
 {

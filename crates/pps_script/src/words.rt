@@ -8,6 +8,7 @@ use pps_types::{Action, Conn, Handle, Mode, number_up_to, split_at_first};
 const DIGITS_MAX: usize = 10;
 
 /// What stands before the first space, and what stands behind it.
+#[inline(always)]
 pub(crate) fn first_word(text: &[u8]) -> Option<(&[u8], &[u8])>
     ensures { option_map (λ parts. (parts.0.now, parts.1.now)) result ≡ script.first_word text.now }
 {
@@ -15,6 +16,7 @@ pub(crate) fn first_word(text: &[u8]) -> Option<(&[u8], &[u8])>
 }
 
 // A number up to that size in decimal, without leading zeros.
+#[inline(always)]
 fn read_number(most: u32, word: &[u8]) -> Option<u32>
     ensures value { result ≡ script.number_to most word.now }
     ensures small { IfSome result (λ number. number ≤ most) }
@@ -26,6 +28,7 @@ fn read_number(most: u32, word: &[u8]) -> Option<u32>
 }
 
 /// The number of a connection.
+#[inline(always)]
 pub(crate) fn read_conn(word: &[u8]) -> Option<Conn>
     ensures { result ≡ script.conn_of word.now }
 {
@@ -34,12 +37,14 @@ pub(crate) fn read_conn(word: &[u8]) -> Option<Conn>
 }
 
 /// A size or a value.
+#[inline(always)]
 pub(crate) fn read_field(word: &[u8]) -> Option<u32>
     ensures { result ≡ script.field_of word.now }
 {
     read_number(u32::MAX, word)
 }
 
+#[inline(always)]
 pub(crate) fn read_handle(word: &[u8]) -> Option<Handle>
     ensures { result ≡ script.field_of word.now }
 {

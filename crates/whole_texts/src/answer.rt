@@ -32,6 +32,7 @@ pub enum Effect {
 
 impl Answer {
     /// What a read of that size leaves of its handle, once it is answered so. It takes no memory.
+    #[inline(always)]
     pub fn effect(&self, size: u32) -> Effect
         ensures { (h : OpenHandle Progress) → moves_of h.number result ≡ read_moves h size (meant self.now) }
     {

@@ -59,6 +59,7 @@ pub(crate) fn member_len(
 }
 
 /// Whether it is an object's, which is not alive.
+#[inline(always)]
 pub(crate) fn is_dead(kind: HandleKind, alive: bool) -> bool
     ensures { result ≡ (not (reading.is_directory_kind kind) && not alive) }
 {

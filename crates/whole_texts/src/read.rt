@@ -12,6 +12,7 @@ use server_queue::GivenBlocks;
 use std::alloc::Global;
 
 // Where nothing is owed.
+#[inline(always)]
 fn idle(dead: bool, wait: bool) -> Result<Answer, Refusal>
     ensures ok { IfOk result (λ a. meant a ≡ reading.idle_answer dead wait) }
     ensures refusal { refusal_of result ≡ refusal_in (reading.idle_answer dead wait) }
@@ -26,6 +27,7 @@ fn idle(dead: bool, wait: bool) -> Result<Answer, Refusal>
 }
 
 // Where the blocks that fit are known.
+#[inline(always)]
 fn fitted(owed: GivenBlocks, dead: bool, wait: bool) -> Result<Answer, Refusal>
     ensures ok { IfOk result (λ a. meant a ≡ answer_giving dead wait owed) }
     ensures refusal { refusal_of result ≡ refusal_in (answer_giving dead wait owed) }
@@ -43,6 +45,7 @@ fn fitted(owed: GivenBlocks, dead: bool, wait: bool) -> Result<Answer, Refusal>
 /// It is TooSmall, with the size, where everything does not fit, before any memory is taken, and Gone where nothing is
 /// owed of an object that is deleted; else OutOfMemory is the only error, and comes only where everything is to be given
 /// or needs a size that is no number of 32 bits.
+#[inline(always)]
 pub fn read_answer(
     alloc: Global,
     whole: &Whole<'_>,

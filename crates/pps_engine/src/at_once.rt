@@ -1,0 +1,107 @@
+//! An event, planned and carried out at once: nothing of it is kept in between.
+ghost use Rattle.std.specs.Prelude.{◌≡◌, IfOk, IfErr};
+ghost use Rattle.pps_types.specs.declared.event.Request.TheVariants.{Read, Write};
+ghost use Rattle.service_state.specs.Tables.{content_in};
+ghost use Rattle.pps_engine.specs.Events.{IsDone, IsRefused};
+ghost use Rattle.pps_engine.specs.Standing.{IsSound};
+ghost use Rattle.pps_engine.specs.AtOnce.{TakesStep};
+
+use crate::asking::answer;
+use crate::done::Done;
+use crate::settled::settled;
+use crate::{doing, requests};
+use pps_types::{Bytes, Event, Handle, Outcome, Refusal, Request};
+use service_state::Tables;
+use std::alloc::Global;
+
+// What was asked is carried out, with what follows from it, or is refused. It is inline, so that each of its callers has
+// its own, which knows what is done.
+#[inline(always)]
+fn finish(
+    tables: &mut Tables,
+    alloc: Global,
+    event: &Event,
+    asked: Result<Done, Refusal>,
+) -> Result<Outcome, Refusal>
+    requires sound { IsSound (content_in tables.old) }
+    requires done { IfOk asked (λ d. IsDone (content_in tables.old) event.now tables.old d) }
+    requires refused { IfErr asked (λ r. IsRefused (content_in tables.old) event.now r) }
+    ensures { TakesStep (content_in tables.old) event.now result (content_in tables.new) }
+{
+    let _event = event;
+    let Done { reply, doing } = match asked {
+        Err(refusal) => return Err(refusal),
+        Ok(done) => done,
+    };
+    let following = match settled(tables, alloc, &doing) {
+        Err(_) => return Err(Refusal::OutOfMemory),
+        Ok(following) => following,
+    };
+    doing::carry_out(tables, doing);
+    tables.follow_all(following);
+    Ok(reply)
+}
+
+// A handle is read.
+fn take_read(
+    tables: &mut Tables,
+    alloc: Global,
+    event: &Event,
+    handle: Handle,
+    size: u32,
+) -> Result<Outcome, Refusal>
+    requires sound { IsSound (content_in tables.old) }
+    requires request { event.now.request ≡ Read handle size }
+    ensures { TakesStep (content_in tables.old) event.now result (content_in tables.new) }
+{
+    if !tables.is_attached(event.conn) {
+        return Err(Refusal::NotAttached);
+    }
+    let asked = requests::read(tables, alloc, event.conn, handle, size);
+    finish(tables, alloc, event, asked)
+}
+
+// A handle is written to.
+fn take_write(
+    tables: &mut Tables,
+    alloc: Global,
+    event: &Event,
+    handle: Handle,
+    bytes: &Bytes,
+) -> Result<Outcome, Refusal>
+    requires sound { IsSound (content_in tables.old) }
+    requires request { event.now.request ≡ Write handle bytes.now }
+    ensures { TakesStep (content_in tables.old) event.now result (content_in tables.new) }
+{
+    if !tables.is_attached(event.conn) {
+        return Err(Refusal::NotAttached);
+    }
+    let asked = requests::write(tables, alloc, event.conn, handle, bytes);
+    finish(tables, alloc, event, asked)
+}
+
+// Any event.
+fn take_any(tables: &mut Tables, alloc: Global, event: &Event) -> Result<Outcome, Refusal>
+    requires { IsSound (content_in tables.old) }
+    ensures { TakesStep (content_in tables.old) event.now result (content_in tables.new) }
+{
+    let asked = answer(tables, alloc, event);
+    finish(tables, alloc, event, asked)
+}
+
+/// One event, planned and carried out at once. Reads and writes, which most events are, have ways of their own.
+#[inline(always)]
+pub(crate) fn take_step(
+    tables: &mut Tables,
+    alloc: Global,
+    event: &Event,
+) -> Result<Outcome, Refusal>
+    requires { IsSound (content_in tables.old) }
+    ensures { TakesStep (content_in tables.old) event.now result (content_in tables.new) }
+{
+    match &event.request {
+        Request::Read { handle, size } => take_read(tables, alloc, event, *handle, *size),
+        Request::Write { handle, bytes } => take_write(tables, alloc, event, *handle, bytes),
+        _ => take_any(tables, alloc, event),
+    }
+}
