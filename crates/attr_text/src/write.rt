@@ -87,6 +87,7 @@ fn write_bracket(out: &mut [u8], at: usize, n: bool) -> usize
 /// takes no memory.
 ///
 /// Where many lines are printed this is quicker than [`push_set`](crate::push_set), since nothing asks for room.
+#[inline(always)]
 pub fn write_set(out: &mut [u8], at: usize, name: &[u8], enc: &[u8], value: &[u8], n: bool) -> usize
     requires { at + length (set_text name.now enc.now value.now n) ≤ length out.old }
     ensures text { out.new ≡ overwritten out.old at (set_text name.now enc.now value.now n) }

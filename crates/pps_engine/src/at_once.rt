@@ -43,6 +43,7 @@ fn finish(
 }
 
 // A handle is read.
+#[inline(never)]
 fn take_read(
     tables: &mut Tables,
     alloc: Global,
@@ -62,6 +63,7 @@ fn take_read(
 }
 
 // A handle is written to.
+#[inline(never)]
 fn take_write(
     tables: &mut Tables,
     alloc: Global,
@@ -81,6 +83,7 @@ fn take_write(
 }
 
 // Any event.
+#[inline(never)]
 fn take_any(tables: &mut Tables, alloc: Global, event: &Event) -> Result<Outcome, Refusal>
     requires { IsSound (content_in tables.old) }
     ensures { TakesStep (content_in tables.old) event.now result (content_in tables.new) }
