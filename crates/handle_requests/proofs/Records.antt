@@ -1,14 +1,14 @@
 -- The record of a draft, and the lines that are ready for it.
-use Rattle.std.proofs.Common.{◌≡◌, ◌∙◌, ℕ, true, false, cond, [], ◌∷◌, Option, Some, None, refl, sym, ap, eqb, eqb-true}
-use Rattle.std.specs.Prelude.{is_some, option_map, IfSome}
-use Rattle.std.specs.Option.{option_and_then, option_map_or}
+use Rattle.std.proofs.Common.{◌≡◌, ◌∙◌, ℕ, true, false, cond, [], ◌∷◌, Option, Some, None, refl, sym, ap, subst, eqb, eqb-true}
+use Rattle.std.specs.Prelude.{is_some, option_map, IfSome, IsSomeAnd}
+use Rattle.std.specs.Option.{option_map_or}
 use Rattle.pps_types.specs.declared.record.Kind.{Kind}
 use Rattle.pps_types.specs.declared.record.Kind.TheVariants.{Created, Change, Truncated, Dropped, Deleted, Opened, Closed, FromClient, ToClient, ToAll}
 use Rattle.pps_types.specs.History.{Entry}
 use Rattle.pps_types.specs.Content.{Content, LiveObject, object_numbered}
 use Rattle.pps_types.specs.Plan.{AppendsRecord, entry_of}
 use Rattle.service_laws.proofs.Finds.{find-true}
-use Rattle.name_table.specs.Standing.{Named, Placed, known_of, placed_at}
+use Rattle.name_table.specs.Standing.{Named, Placed, known_of, placed_at, AreReadyAt}
 use Rattle.service_state.specs.Lines.{HasLines, HasLinesFor}
 use Rattle.handle_requests.specs.declared.draft.Draft.{Draft}
 use Rattle.handle_requests.specs.declared.draft.Prepared.TheVariants.{Record, Nothing}
@@ -18,7 +18,7 @@ use Rattle.handle_requests.specs.Drafting.{HasKindLines, IsPreparedOf}
 -- ---- the lines of a record
 
 lines_there : (n : Named) (object : ℕ) (x : Placed) → placed_at object n ≡ Some x → (kind : Kind) → HasLinesAt kind x → HasLinesFor kind object n
-lines_there n object x placed (Change lines) ready = ap (option_and_then (λ (x : Placed). x.held.ready)) placed ∙ ready
+lines_there n object x placed (Change lines) ready = subst (λ o. IsSomeAnd o (AreReadyAt lines)) (sym placed) ready
 lines_there n object x placed Created ready = tt
 lines_there n object x placed Truncated ready = tt
 lines_there n object x placed Dropped ready = tt

@@ -1,7 +1,8 @@
 -- A write over the tables: who writes, what its text comes to, and what it begins with.
-use Rattle.std.specs.Prelude.{◌≡◌, ◌⊎◌, ℕ, List, [], ◌∷◌, Bool, true, Option, Some, None, IfSome, IsSomeAnd, map}
+use Rattle.std.specs.Prelude.{◌≡◌, ◌⊎◌, ℕ, List, [], ◌∷◌, Bool, true, Option, Some, None, IfSome, IsSomeAnd, map, length}
 use Rattle.std.specs.List.{flat_map}
 use Rattle.std.specs.Option.{option_to_list}
+use Rattle.pps_types.specs.declared.outcome.Outcome.TheVariants.{Wrote}
 use Rattle.pps_types.specs.declared.event.Request.TheVariants.{Write}
 use Rattle.pps_types.specs.declared.refusal.Refusal.{Refusal}
 use Rattle.pps_types.specs.declared.refusal.Refusal.TheVariants.{OutOfMemory, TableFull}
@@ -16,22 +17,23 @@ use Rattle.pps_types.specs.Plan.{AppendsRecord, sent}
 use Rattle.name_table.specs.Standing.{Named, Placed, placed_at}
 use Rattle.service_state.specs.Lines.{HasLines}
 use Rattle.service_state.specs.Tables.{Tabled, content_in}
+use Rattle.service_state.specs.declared.beginning.Beginning.{Beginning}
 use Rattle.service_state.specs.Beginning.{moves_of}
 use Rattle.service_state.specs.Refused.{all_checks_in, effect_in}
 use Rattle.handle_requests.specs.declared.draft.Draft.{Draft}
 use Rattle.handle_requests.specs.declared.draft.Prepared.{Prepared}
 use Rattle.handle_requests.specs.declared.draft.Prepared.TheVariants.{Record, Nothing}
 use Rattle.handle_requests.specs.declared.writer.Writer.{Writer}
-use Rattle.handle_requests.specs.declared.writing.Written.{Written}
 use Rattle.handle_requests.specs.Writes.{author_of, checks_by, kind_by, server_text_checks, client_text_checks, late_refusal, IsWriter, IsDrafted, IsDraft, HasLinesAt, told_by, tells, is_past}
 
 -- all checks of a write
 abbrev pub write_checks_in : Tabled → ℕ → ℕ → List ℕ → List Check
 write_checks_in t conn handle bytes = all_checks_in t conn (Write handle bytes)
 
--- this is what a write answers and begins with, where no check refuses it
-abbrev pub IsWriteEffect : Tabled → ℕ → ℕ → List ℕ → Written → Type 0
-IsWriteEffect t conn handle bytes w = effect_in t conn (Write handle bytes) ≡ (w.reply, flat_map moves_of (option_to_list w.beginning))
+-- a write answers how many bytes there are, and begins with this, where no check refuses it
+abbrev pub IsWriteEffect : Tabled → ℕ → ℕ → List ℕ → Option Beginning → Type 0
+IsWriteEffect t conn handle bytes beginning =
+    effect_in t conn (Write handle bytes) ≡ (Wrote (length bytes), flat_map moves_of (option_to_list beginning))
 
 -- ---- who writes
 

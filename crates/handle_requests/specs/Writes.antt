@@ -15,7 +15,7 @@ use Rattle.pps_types.specs.Rests.{Progress}
 use Rattle.pps_types.specs.Content.{Content, object_numbered, attributes_of, target_is_dead, own_handle}
 use Rattle.pps_types.specs.Checks.{Check, Refuse, first_refusal, is_server, addressee, own_header, limit_checks, client_checks, client_backlog, meant, where_lines}
 use Rattle.pps_types.specs.Plan.{Move, AppendsRecord, apply_all_seen, entry_of, sent, passes_last_number}
-use Rattle.name_table.specs.Standing.{Placed, known_of}
+use Rattle.name_table.specs.Standing.{Placed, known_of, AreReadyAt}
 use Rattle.open_handles.specs.Whole.{Whole, name_at}
 use Rattle.handle_requests.specs.declared.draft.Draft.{Draft}
 use Rattle.handle_requests.specs.declared.writer.Writer.{Writer}
@@ -122,5 +122,5 @@ is_past c ms = passes_last_number (apply_all_seen ms c)
 
 -- the lines of a record that changes the object are ready in it
 abbrev pub HasLinesAt : Kind → Placed → Type 0
-HasLinesAt (Change lines) x = x.held.ready ≡ Some lines
+HasLinesAt (Change lines) x = AreReadyAt lines x
 HasLinesAt _ x = Unit {0}

@@ -24,4 +24,4 @@ pub use attaching::{attach, receive};
 pub use closing::{Closing, close, detach};
 pub use notifying::{Notified, notify};
 pub use reading::{ReadDone, read};
-pub use writing::{Written, write};
+pub use writing::write;

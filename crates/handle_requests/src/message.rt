@@ -8,33 +8,13 @@ use crate::address::Recipient;
 use pps_types::{Handle, Kind, Line, Lines, WriteLine};
 use std::alloc::{AllocError, Global};
 
-// A line of a message, which is no attribute's.
-fn message_line(line: WriteLine) -> Line
-    ensures { result ≡ history.message_line line }
-{
-    match line {
-        WriteLine::Set {
-            name,
-            enc,
-            value,
-            mark,
-        } => Line::Set {
-            name,
-            enc,
-            value,
-            n: mark.applied_to(false),
-        },
-        WriteLine::Del { name } => Line::Del { name },
-    }
-}
-
 /// The lines of a message.
 pub(crate) fn message_lines(alloc: Global, lines: Vec<WriteLine>) -> Result<Vec<Line>, AllocError>
     ensures { IfOk result (λ told. told.items ≡ map history.message_line lines.items) }
 {
     let mut told = Vec::with_capacity(alloc, lines.len())?;
     'lines: for line in lines {
-        told.push(message_line(line))?;
+        told.push(line.into_line())?;
     }
     Ok(told)
 }

@@ -1,5 +1,5 @@
 //! Writes: their checks in their order, what they answer, and what they begin with.
-ghost use Rattle.std.specs.Prelude.{◌≡◌, IfOk, IfErr, OnOk};
+ghost use Rattle.std.specs.Prelude.{◌≡◌, ◌≤◌, IfOk, IfErr, OnOk, length};
 ghost use Rattle.std.specs.Option.{option_to_list};
 ghost use Rattle.pps_types.specs.WellFormed.{IsContent};
 ghost use Rattle.service_laws.specs.Bounds.{IsBound};
@@ -10,20 +10,13 @@ ghost use Rattle.handle_requests.specs.Drafting.{write_checks_in, IsWriteEffect}
 
 use crate::draft::drafted;
 use crate::ready::{begun, lines_ready};
-use pps_types::{Bytes, Conn, Handle, Outcome, Refusal};
+use pps_types::limits::WRITE_MAX;
+use pps_types::{Bytes, Conn, Handle, Refusal};
 use service_state::{Beginning, Tables};
 use std::alloc::Global;
 
-/// What a write answers, and what it begins with.
-#[derive(Drop)]
-pub struct Written {
-    pub reply: Outcome,
-    /// The record of its lines, where it has some.
-    pub beginning: Option<Beginning>,
-}
-
-/// What a write of these bytes through a handle answers, and what it begins with, for which the memory is taken. What stands
-/// stays.
+/// What a write of these bytes through a handle begins with, for which the memory is taken: the record of its lines, if it
+/// has some. Its answer is how many bytes they are. What stands stays.
 ///
 /// It is BadHandle where the connection has no such handle, BadMode where the handle isn't open for writing, TooLarge where
 /// the bytes are more than 65,536, and Gone where the object is deleted, before any memory is taken. It is BadText, with the
@@ -37,21 +30,19 @@ pub fn write(
     conn: Conn,
     handle: Handle,
     bytes: &Bytes,
-) -> Result<Written, Refusal>
+) -> Result<Option<Beginning>, Refusal>
     requires content { IsContent (content_in tables.old) }
     requires bound { IsBound (content_in tables.old) }
     ensures content { content_in tables.new ≡ content_in tables.old }
     ensures passes { OnOk result (AllPass (write_checks_in tables.old conn handle bytes.now)) }
     ensures wants { OnOk result (TakesMemory (write_checks_in tables.old conn handle bytes.now)) }
-    ensures does { IfOk result (λ w. IsWriteEffect tables.old conn handle bytes.now w) }
-    ensures ready { IfOk result (λ w. AreReady (option_to_list w.beginning) tables.new) }
+    ensures short { OnOk result (length bytes.now ≤ WRITE_MAX) }
+    ensures does { IfOk result (λ b. IsWriteEffect tables.old conn handle bytes.now b) }
+    ensures ready { IfOk result (λ b. AreReady (option_to_list b) tables.new) }
     ensures err { IfErr result (λ r. Fails (write_checks_in tables.old conn handle bytes.now) r) }
 {
     let prepared = drafted(tables, alloc, conn, handle, bytes)?;
     lines_ready(tables, &prepared)?;
     let beginning = begun(tables, alloc, prepared.into_entry())?;
-    Ok(Written {
-        reply: Outcome::Wrote(bytes.len() as u32),
-        beginning,
-    })
+    Ok(beginning)
 }

@@ -1,11 +1,9 @@
 -- Objects whose attributes change by lines.
-use Rattle.std.proofs.Common.{◌≡◌, ℕ, Bool, true, false, cond, eqb, List, [], ◌∷◌, find, fold, Option, Some, None, IfSome, IsSome, OnOk, Result, Ok, Err, refl, ap, sym, subst, ◌∙◌}
-use Rattle.std.specs.Option.{unwrap_or, option_map, option_and_then}
+use Rattle.std.proofs.Common.{◌≡◌, ℕ, Bool, true, false, cond, eqb, List, [], ◌∷◌, find, Option, Some, None, IfSome, IsSomeAnd, OnOk, Result, Ok, Err, refl, ap, sym, subst, ◌∙◌}
+use Rattle.std.specs.Option.{option_map}
 use Rattle.std.specs.List.{filter_map, cons_option}
-use Rattle.pps_types.specs.declared.line.Line.{Line}
 use Rattle.pps_types.specs.declared.record.Kind.TheVariants.{Opened}
 use Rattle.pps_types.specs.declared.refusal.Refusal.{Refusal}
-use Rattle.pps_types.specs.History.{Attribute, apply_line}
 use Rattle.pps_types.specs.Content.{LiveObject}
 use Rattle.pps_types.specs.Plan.{touched, still_known}
 use Rattle.number_table.specs.Numbered.{Entry, has_number, on_first, value_under}
@@ -31,29 +29,22 @@ found_set n w x (e ∷ es) found = by (eqb e.number n) refl (λ h. found_set n w
     by true is rest found = ap (λ b. option_map (λ (e : Entry Placed). e.value) (cond b (Some (record { number = e.number; value = w })) (find (has_number n) es))) is
     by false is rest found = ap (λ b. option_map (λ (e : Entry Placed). e.value) (cond b (Some e) (find (has_number n) (on_first (has_number n) (λ e. record e { value = w }) es)))) is ∙ rest found
 
-pub committed : (r : Option (List Line)) (a b : List Attribute) → IsSome r → IfSome r (λ lines. b ≡ fold apply_line a lines) → b ≡ fold apply_line a (unwrap_or r [])
-committed None a b some is = absurd (let no = some in cc)
-committed (Some lines) a b some is = is
+some_is : {X : Type 0} (x y : X) → Some x ≡ Some y → x ≡ y
+some_is x y h = cc
 
--- where there is no such object, nothing is said of it
-pub if_absent : {X : Type 0} (see : Placed → Option X) (o : Option Placed) (P : X → Type 0) → o ≡ None → IfSome (option_and_then see o) P
-if_absent see None P none = tt
-if_absent see (Some x) P none = absurd (let no = none in cc)
+-- the object that is there has what is said of it
+pub sure : (o : Option Placed) (x : Placed) (P : Placed → Type 0) → o ≡ Some x → IsSomeAnd o P → P x
+sure None x P found p = absurd p
+sure (Some y) x P found p = subst P (some_is y x found) p
+
+-- where something is said of an object, there is one
+pub nobody : (o : Option Placed) (P : Placed → Type 0) → o ≡ None → IsSomeAnd o P → ⊥
+nobody None P none p = p
+nobody (Some x) P none p = absurd (let no = none in cc)
 
 pub none_said : (o : Option Placed) (P : Placed → Type 0) → o ≡ None → IfSome o P
 none_said None P none = tt
 none_said (Some x) P none = absurd (let no = none in cc)
-
-some_is : {X : Type 0} (x y : X) → Some x ≡ Some y → x ≡ y
-some_is x y h = cc
-
-if_some : (r : Option (List Line)) (P : List Line → Type 0) → P (unwrap_or r []) → IfSome r P
-if_some None P p = tt
-if_some (Some lines) P p = p
-
-pub if_there : (o : Option Placed) (x : Placed) (P : List Line → Type 0) → o ≡ Some x → P (unwrap_or x.held.ready []) → IfSome (option_and_then (λ (x : Placed). x.held.ready) o) P
-if_there None x P found p = tt
-if_there (Some y) x P found p = if_some y.held.ready P (subst (λ (z : Placed). P (unwrap_or z.held.ready [])) (sym (some_is y x found)) p)
 
 pub said : (o : Option Placed) (x : Placed) (P : Placed → Type 0) → o ≡ Some x → P x → IfSome o P
 said None x P found p = tt

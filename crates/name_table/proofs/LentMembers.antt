@@ -1,6 +1,6 @@
 -- The objects of a directory, as they are lent.
-use Rattle.std.proofs.Common.{◌≡◌, ℕ, Bool, List, [], ◌∷◌, map, Option, Some, None, cond, refl, ap, sym, ◌∙◌, eqb}
-use Rattle.std.specs.Prelude.{option_and_then, option_map, slice_get, filter, Result, Ok, Err}
+use Rattle.std.proofs.Common.{◌≡◌, ℕ, List, [], ◌∷◌, map, Option, Some, None, cond, refl, ap, sym, ◌∙◌, eqb}
+use Rattle.std.specs.Prelude.{option_and_then, option_map, slice_get, filter, Ok, Err}
 use Rattle.std.specs.Option.{option_or}
 use Rattle.std.proofs.lemmas.Option.{slice_get-map}
 use Rattle.std.specs.List.{AllByRecursion, filter_map, cons_option}
@@ -10,8 +10,7 @@ use Rattle.pps_types.specs.declared.refusal.Refusal.{Refusal}
 use Rattle.pps_types.specs.Bytes.{◌>>=◌}
 use Rattle.pps_types.specs.Names.{Map, Name, name_cmp, find_at, is_object, refusal_of, list_refusal}
 use Rattle.pps_types.specs.Content.{Directory, LiveObject, Content, at, object_at, object_numbered, directory_at, members}
-use Rattle.pps_types.specs.WellFormed.{directory_numbered}
-use Rattle.service_laws.proofs.Fits.{Order, Tree, order-in, tree-in}
+use Rattle.service_laws.proofs.Fits.{Order, order-in, tree-in}
 use Rattle.service_laws.proofs.Finds.{all-filter, all-find}
 use Rattle.number_table.specs.Numbered.{Entry, value_under}
 use Rattle.number_table.proofs.Told.{find_told}
@@ -20,7 +19,7 @@ use Rattle.name_table.specs.Standing.{Placed, standing_by, content_of}
 use Rattle.name_table.specs.Agrees.{IsNamed}
 use Rattle.name_table.specs.Listed.{object_number}
 use Rattle.name_table.proofs.Deleted.{find_found, at_closed}
-use Rattle.name_table.proofs.Numbers.{none_of, numbers_of}
+use Rattle.name_table.proofs.Numbers.{none_of}
 use Rattle.name_table.proofs.Sorting.{all_sorted}
 
 module _ {A B : Type 0} (f : A → Option B) where

@@ -1,19 +1,18 @@
 -- What stands of objects and directories, and the memory that was taken for more.
-use Rattle.std.specs.Prelude.{◌≡◌, ◌<◌, ℕ, Bool, List, [], ◌∷◌, Option, None, Some, Ok, IfSome, is_some, map, fold, if◌then◌else◌}
-use Rattle.std.specs.Option.{option_and_then}
+use Rattle.std.specs.Prelude.{◌≡◌, ◌<◌, ℕ, Bool, List, [], ◌∷◌, Option, None, Ok, IfSome, IsSomeAnd, is_some, map, fold, if◌then◌else◌}
 use Rattle.std.specs.Coded.{Coded}
 use Rattle.pps_types.specs.Names.{Path, find_at, parent}
 use Rattle.pps_types.specs.declared.found.Found.TheVariants.{Directory as FoundDirectory}
 use Rattle.pps_types.specs.declared.refusal.Refusal.{Refusal}
 use Rattle.pps_types.specs.declared.record.Kind.{Kind}
-use Rattle.pps_types.specs.declared.record.Kind.TheVariants.{Change, Deleted}
+use Rattle.pps_types.specs.declared.record.Kind.TheVariants.{Deleted}
 use Rattle.pps_types.specs.declared.line.Line.{Line}
 use Rattle.pps_types.specs.Content.{Object, Directory, LiveObject, Content, at, object_numbered}
 use Rattle.pps_types.specs.Checks.{first_refusal, limit_checks}
 use Rattle.pps_types.specs.History.{Entry, apply_line}
 use Rattle.pps_types.specs.WellFormed.{directory_numbered}
 use Rattle.pps_types.specs.Plan.{Move, Creates, AppendsRecord, apply_seen}
-use Rattle.object_state.specs.Held.{Held}
+use Rattle.object_state.specs.Held.{Held, IsReadyFor}
 use Rattle.alloc_tree.specs.Held.{Held as Tree, IsReady, coded_held}
 use Rattle.alloc_tree.specs.declared.kind.NodeKind.TheVariants.{Object as AnObject, Directory as ADirectory}
 use Rattle.number_table.specs.Numbered.{Entry as Numbering, Numbered, value_at}
@@ -123,17 +122,17 @@ first_standing = record { objects = []; next_object = 0; directories = record { 
 abbrev pub placed_at : ℕ → Named → Option Placed
 placed_at number n = value_at number n.objects
 
--- the lines that were made ready for an object
-abbrev pub lines_ready : ℕ → Named → Option (List Line)
-lines_ready number n = option_and_then (λ x. x.held.ready) (placed_at number n)
+-- the memory for these lines is ready in an object
+abbrev pub AreReadyAt : List Line → Placed → Type 0
+AreReadyAt lines x = IsReadyFor lines x.held
 
--- those lines are ready for an object, if it is alive
+-- the same, if it is alive
 abbrev pub AreReadyFor : ℕ → List Line → Named → Type 0
-AreReadyFor number lines n = IfSome (placed_at number n) (λ x. x.held.ready ≡ Some lines)
+AreReadyFor number lines n = IfSome (placed_at number n) (AreReadyAt lines)
 
--- the lines that were ready for an object have changed it
-abbrev pub HasChanged : ℕ → Named → Named → Type 0
-HasChanged number old new = IfSome (lines_ready number old) (λ lines. HasHappened number (Change lines) old new)
+-- it is alive, and the memory for these lines is ready in it
+abbrev pub AreReadyIn : ℕ → List Line → Named → Type 0
+AreReadyIn number lines n = IsSomeAnd (placed_at number n) (AreReadyAt lines)
 
 -- why an object is not changed by these lines: after all of them it would pass a limit
 abbrev pub change_refusal : List Line → Placed → Option Refusal
@@ -170,11 +169,11 @@ pub record IsReadyToMake (n : Named) (path : Path) : Type 0 where
   pub tree : IsReady n.tree ADirectory path
   pub room : 0 < n.directories.room
 
--- the same object stands at the same path, and nothing is ready for it
+-- the same object stands at the same path, and no copies of lines are held for it
 pub record IsCopy (old copy : Placed) : Type 0 where
   pub known : known_of copy ≡ known_of old
   pub path : copy.path ≡ old.path
-  pub bare : copy.held.ready ≡ None
+  pub bare : copy.held.copies ≡ None
 
 -- the tree's code, for what is seen as names among other parts
 abbrev pub coded_tree : Coded Tree

@@ -47,7 +47,7 @@ impl NamedObject {
         } }
         ensures path { result.path ≡ self.path }
         ensures attributes { result.held.attributes ≡ [] }
-        ensures ready { result.held.ready ≡ None }
+        ensures copies { result.held.copies ≡ None }
     {
         let NamedObject {
             path,

@@ -5,7 +5,7 @@ ghost use Rattle.pps_types.specs.Names as paths;
 ghost use Rattle.pps_types.specs.Names.{refusal_of, add_refusal, mkdir_refusal};
 ghost use Rattle.pps_types.specs.Content.{at, members, subdirectories};
 ghost use Rattle.pps_types.specs.Plan.{Creates, MakesDirectory, RemovesDirectory};
-ghost use Rattle.pps_types.specs.declared.record.Kind.TheVariants.{Truncated, Dropped, Deleted};
+ghost use Rattle.pps_types.specs.declared.record.Kind.TheVariants.{Change, Truncated, Dropped, Deleted};
 ghost use Rattle.pps_types.specs.declared.refusal.Refusal.TheVariants.{OutOfMemory};
 ghost use Rattle.number_table.specs.Numbered.{LosesEntry, HasClones};
 ghost use Rattle.std.specs.List.{AllByRecursion, filter_map};
@@ -13,7 +13,7 @@ ghost use Rattle.pps_types.specs.Refused.{IsRefusedAs};
 ghost use Rattle.name_table.specs.Agrees.{HasPath};
 ghost use Rattle.name_table.specs.Laws.{ObjectsAreKnown};
 ghost use Rattle.name_table.specs.Listed.{objects_at, members_at, member_numbers, listing_refusal, IsBareIn};
-ghost use Rattle.name_table.specs.Standing.{standing_of, after, first_standing, known_of, named_content, live_object, directory_in, placed_at, lines_ready, change_refusal, AreReadyFor, AreSame, HasChanged, HasHappened, HasMoved, HasReplaced, IsAbove, IsCopy, IsReadyToCreate, IsReadyToMake, LosesReadyNameIf};
+ghost use Rattle.name_table.specs.Standing.{standing_of, after, first_standing, known_of, named_content, live_object, directory_in, placed_at, change_refusal, AreReadyFor, AreReadyIn, AreSame, HasHappened, HasMoved, HasReplaced, IsAbove, IsCopy, IsReadyToCreate, IsReadyToMake, LosesReadyNameIf};
 
 use crate::compared::{same_directories, same_objects};
 use crate::members::{Objects, object_numbers};
@@ -248,8 +248,8 @@ impl Names {
         known.attributes.drop_nonpersistent();
     }
 
-    /// Takes all memory that lines can want which change an object, and changes nothing else. Whatever was ready for it
-    /// before is not any more.
+    /// Takes all memory that lines can want which change an object, and changes nothing else. Copies that it held of other
+    /// lines are given back.
     ///
     /// It is TooLarge exactly where the object would pass a limit of objects after all of these lines. Else OutOfMemory
     /// is the only error. Where there is no such object, nothing is wanted.
@@ -265,15 +265,15 @@ impl Names {
         known.attributes.apply_ready(lines)
     }
 
-    /// Changes an object by the lines that were made ready for it. It takes no memory.
-    pub fn change(&mut self, object: ObjId)
-        requires { IsSome (lines_ready object self.old) }
-        ensures standing { HasChanged object self.old self.new }
+    /// Changes an object by these lines, which were made ready for it. It takes no memory.
+    pub fn change(&mut self, object: ObjId, lines: &[Line])
+        requires { AreReadyIn object lines.now self.old }
+        ensures standing { HasHappened object (Change lines.now) self.old self.new }
     {
         let Some(known) = self.objects.get_mut(object.number()) else {
             return;
         };
-        known.attributes.apply_commit();
+        known.attributes.apply_commit(lines);
     }
 
     /// Deletes an object with its name and its attributes, if it is alive. It takes no memory.

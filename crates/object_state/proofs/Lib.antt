@@ -6,3 +6,4 @@ pub mod Foretold
 pub mod Dropping
 pub mod Having
 pub mod ByOrder
+pub mod Unmarked

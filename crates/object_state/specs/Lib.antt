@@ -8,3 +8,5 @@ pub mod Limits
 pub mod Notes
 pub mod Printed
 pub mod HeldView
+pub mod Short
+pub mod Marks

@@ -1,12 +1,12 @@
 -- The limits of an object.
-use Rattle.std.specs.Prelude.{ℕ, Bool, ◌||◌, nat_lt, ◌≡◌, ◌≢◌, ◌+◌, ◌≤◌, ◌<◌, ◌^◌, List, Option, Some, fold, length}
-use Rattle.std.specs.Option.{ForSome}
+use Rattle.std.specs.Prelude.{ℕ, Bool, true, false, ◌||◌, nat_lt, ◌≡◌, ◌≢◌, ◌+◌, ◌≤◌, ◌<◌, ◌^◌, List, Option, Some, fold, length}
 use Rattle.pps_types.specs.declared.line.Line.{Line}
 use Rattle.pps_types.specs.declared.refusal.Refusal.{Refusal}
 use Rattle.pps_types.specs.declared.refusal.Refusal.TheVariants.{OutOfMemory}
 use Rattle.pps_types.specs.Checks.{first_refusal, limit_checks}
 use Rattle.pps_types.specs.History.{Attribute, text_length, apply_line}
 use Rattle.pps_types.specs.Text.{print_lines}
+use Rattle.object_state.specs.Marks.{are_unmarked}
 
 -- as many attributes, and as many bytes of printed attributes, as an object may have
 pub record IsWithinLimits (attributes : List Attribute) : Type 0 where
@@ -18,16 +18,16 @@ abbrev pub is_past_limits : List Attribute → Bool
 is_past_limits attributes = nat_lt 1024 (length attributes) || nat_lt 65536 (text_length attributes)
 
 -- lines that can be applied to these attributes where there is room for that many more
-pub record IsReady (attributes : List Attribute) (room : ℕ) (lines : List Line) : Type 0 where
+pub record CanTake (attributes : List Attribute) (room : ℕ) (lines : List Line) : Type 0 where
   pub fits : length lines ≤ room
   pub is_length : text_length attributes + length (print_lines lines) < 2 ^ 64
   pub within : IsWithinLimits (fold apply_line attributes lines)
 
--- attributes within the limits, of a text of that length, with room for the lines that were made ready
-pub record IsHeld (attributes : List Attribute) (text_len room : ℕ) (ready : Option (List Line)) : Type 0 where
+-- attributes within the limits, of a text of that length; without marks none of them is nonpersistent
+pub record IsHeld (attributes : List Attribute) (text_len : ℕ) (has_marks : Bool) : Type 0 where
   pub kept : text_len ≡ text_length attributes
   pub within : IsWithinLimits attributes
-  pub readied : ForSome ready (IsReady attributes room)
+  pub marked : has_marks ≡ false → are_unmarked attributes ≡ true
 
 -- ---- by lines that take effect, one after the other
 

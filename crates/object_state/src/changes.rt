@@ -1,5 +1,5 @@
 //! Changes of attributes. They take no memory, and tell how long the printed lines are then.
-ghost use Rattle.std.specs.Prelude.{◌≡◌, ◌+◌, ◌≤◌, ◌<◌, ◌^◌, IfSome, length};
+ghost use Rattle.std.specs.Prelude.{◌≡◌, ◌+◌, ◌≤◌, ◌<◌, ◌^◌, true, IfSome, length};
 ghost use Rattle.std.specs.List.{swap};
 ghost use Rattle.indexmap.specs.IndexMap.{spare};
 ghost use Rattle.pps_types.specs.History as history;
@@ -7,6 +7,7 @@ ghost use Rattle.pps_types.specs.Text as text;
 ghost use Rattle.object_state.specs.Effect.{printed_length};
 ghost use Rattle.object_state.specs.Entries.{attribute_of, attributes_in, persistent_length, with_named, without_named};
 ghost use Rattle.object_state.specs.Limits.{after_lines};
+ghost use Rattle.object_state.specs.Short.{is_short_line, are_short, AreCopiesFor};
 
 use crate::content::{Attributes, Content};
 use pps_filter::Name;
@@ -64,8 +65,8 @@ fn apply_line(map: &mut Attributes, text_len: usize, line: Line) -> usize
     }
 }
 
-/// Each line takes effect, one after the other.
-pub(crate) fn apply_lines(map: &mut Attributes, text_len: usize, lines: Vec<Line>) -> usize
+// Each line takes effect, one after the other.
+fn apply_lines(map: &mut Attributes, text_len: usize, lines: Vec<Line>) -> usize
     requires room { length lines.items ≤ spare map.old }
     requires kept { text_len ≡ history.text_length (attributes_in map.old) }
     requires fits { text_len + length (text.print_lines lines.items) < 2 ^ 64 }
@@ -77,6 +78,71 @@ pub(crate) fn apply_lines(map: &mut Attributes, text_len: usize, lines: Vec<Line
         text_len = apply_line(map, text_len, line);
     }
     text_len
+}
+
+// A line takes effect. Its texts are short, and are copied.
+#[inline(always)]
+fn apply_copy(map: &mut Attributes, text_len: usize, line: &Line) -> usize
+    requires short { is_short_line line.now ≡ true }
+    requires room { 0 < spare map.old }
+    requires kept { text_len ≡ history.text_length (attributes_in map.old) }
+    requires fits { text_len + length (text.print_line line.now) < 2 ^ 64 }
+    ensures attributes { attributes_in map.new ≡ history.apply_line (attributes_in map.old) line.now }
+    ensures kept { result ≡ history.text_length (attributes_in map.new) }
+    ensures room { spare map.old ≤ spare map.new + 1 }
+{
+    match line {
+        Line::Set {
+            name,
+            enc,
+            value,
+            n,
+        } => {
+            let content = Content {
+                enc: enc.short_copy(),
+                value: value.short_copy(),
+                n: *n,
+            };
+            set(map, text_len, Name::new(name.short_copy()), content)
+        }
+        Line::Del { name } => delete(map, text_len, &Name::new(name.short_copy())),
+    }
+}
+
+// Each line takes effect, one after the other. Their texts are short, and are copied.
+fn apply_short(map: &mut Attributes, text_len: usize, lines: &[Line]) -> usize
+    requires short { are_short lines.now ≡ true }
+    requires room { length lines.now ≤ spare map.old }
+    requires kept { text_len ≡ history.text_length (attributes_in map.old) }
+    requires fits { text_len + length (text.print_lines lines.now) < 2 ^ 64 }
+    ensures attributes { attributes_in map.new ≡ after_lines (attributes_in map.old) lines.now }
+    ensures kept { result ≡ history.text_length (attributes_in map.new) }
+{
+    let mut text_len = text_len;
+    'lines: for line in lines {
+        text_len = apply_copy(map, text_len, line);
+    }
+    text_len
+}
+
+/// Each of these lines takes effect, one after the other, with the copies that are held of them. It takes no memory.
+pub(crate) fn apply_ready(
+    map: &mut Attributes,
+    text_len: usize,
+    copies: Option<Vec<Line>>,
+    lines: &[Line],
+) -> usize
+    requires copies { AreCopiesFor lines.now copies }
+    requires room { length lines.now ≤ spare map.old }
+    requires kept { text_len ≡ history.text_length (attributes_in map.old) }
+    requires fits { text_len + length (text.print_lines lines.now) < 2 ^ 64 }
+    ensures attributes { attributes_in map.new ≡ after_lines (attributes_in map.old) lines.now }
+    ensures kept { result ≡ history.text_length (attributes_in map.new) }
+{
+    match copies {
+        None => apply_short(map, text_len, lines),
+        Some(copies) => apply_lines(map, text_len, copies),
+    }
 }
 
 // How long the printed line of the attribute in that place is, where that is persistent.

@@ -1,17 +1,18 @@
 //! One object's attributes.
-ghost use Rattle.std.specs.Prelude.{◌≡◌, ◌^◌, ◌+◌, ◌≤◌, ◌<◌, ◌++◌, ◌↔◌, IsTrue, IfOk, IfSome, IsSome, OnOk, OnErr, IsOkUnless, None, Some, [], option_map, slice_get, length, vec_len, vec_capacity};
+ghost use Rattle.std.specs.Prelude.{◌≡◌, ◌^◌, ◌+◌, ◌≤◌, ◌<◌, ◌++◌, ◌↔◌, IsTrue, IfOk, OnOk, OnErr, IsOkUnless, None, [], option_map, slice_get, length, vec_len, vec_capacity};
 ghost use Rattle.std.specs.List.{list_any};
 ghost use Rattle.pps_types.specs.Bytes.{same};
 ghost use Rattle.pps_types.specs.History.{text_length, persistent, resolve, resolved};
 ghost use Rattle.pps_types.specs.Names as names;
-ghost use Rattle.object_state.specs.Held.{matching_text, AppliesLines};
+ghost use Rattle.object_state.specs.Held.{matching_text, AppliesLines, IsReadyFor};
 ghost use Rattle.object_state.specs.Limits.{lines_pass_limits, length_with, IsLimitRefusal};
+ghost use Rattle.object_state.specs.Short.{AreCopiesFor};
 
-use crate::changes::{apply_lines, drop_nonpersistent};
+use crate::changes::{apply_ready, drop_nonpersistent};
 use crate::content::Attributes;
 use crate::effect::would_pass_limits;
 use crate::lent::AttributeRef;
-use crate::lines::{copies_of, len_with};
+use crate::lines::{copies_for, len_with, set_marks};
 use crate::marks::{resolve, resolve_one};
 use crate::print::{matching_len, push_all, push_matching};
 use crate::room::make_room;
@@ -36,7 +37,10 @@ fn are_same(map: &Attributes, other: &Attributes) -> bool
 pub struct Object {
     map: Attributes,
     text_len: usize,
-    ready: Option<Vec<Line>>,
+    // Whether an attribute may be nonpersistent. If not, no mark needs to be looked up.
+    has_marks: bool,
+    // Of the lines that were made ready, if some of their texts are too long to be copied without memory.
+    copies: Option<Vec<Line>>,
 }
 
 impl Model for Object {
@@ -57,12 +61,13 @@ impl Object {
     /// An object without attributes. It takes no memory.
     pub fn new(alloc: Global) -> Object
         ensures attributes { result.attributes ≡ [] }
-        ensures ready { result.ready ≡ None }
+        ensures copies { result.copies ≡ None }
     {
         Object {
             map: IndexMap::new(alloc),
             text_len: 0,
-            ready: None,
+            has_marks: false,
+            copies: None,
         }
     }
 
@@ -150,20 +155,22 @@ impl Object {
     /// Deletes all attributes. It takes no memory.
     pub fn truncate(&mut self)
         ensures attributes { self.new.attributes ≡ [] }
-        ensures ready { self.new.ready ≡ None }
+        ensures copies { self.new.copies ≡ None }
     {
-        self.ready = None;
+        self.copies = None;
         self.map.clear();
         self.text_len = 0;
+        self.has_marks = false;
     }
 
     /// Deletes the nonpersistent attributes. The others keep their order. It takes no memory.
     pub fn drop_nonpersistent(&mut self)
         ensures attributes { self.new.attributes ≡ persistent self.old.attributes }
-        ensures ready { self.new.ready ≡ None }
+        ensures copies { self.new.copies ≡ None }
     {
-        self.ready = None;
+        self.copies = None;
         self.text_len = drop_nonpersistent(&mut self.map);
+        self.has_marks = false;
     }
 
     /// What the lines of a write come to: each with its mark resolved where those before it took effect.
@@ -179,10 +186,14 @@ impl Object {
     }
 
     /// What a line of a write comes to that has no other line with it, as [`resolve`](Object::resolve) says. It takes no
-    /// memory.
+    /// memory. Its mark is looked up only if there may be nonpersistent attributes.
+    #[inline]
     pub fn resolve_one(&self, line: WriteLine) -> Line
         ensures { result ≡ resolved self.now.attributes line }
     {
+        if !self.has_marks {
+            return line.into_line();
+        }
         resolve_one(&self.map, line)
     }
 
@@ -199,10 +210,10 @@ impl Object {
         would_pass_limits(alloc, &self.map, self.text_len, lines)
     }
 
-    // Copies of lines that do not pass a limit.
-    fn checked_copies(&self, lines: &[Line]) -> Result<Vec<Line>, Refusal>
+    // The copies that are held of lines that do not pass a limit.
+    fn checked_copies(&self, lines: &[Line]) -> Result<Option<Vec<Line>>, Refusal>
         ensures refusal { IsLimitRefusal (names.refusal_of result) self.now.attributes lines.now }
-        ensures ok { IfOk result (λ copies. copies.items ≡ lines.now) }
+        ensures ok { IfOk result (AreCopiesFor lines.now) }
         ensures len { OnOk result (length_with self.now.attributes lines.now < 2 ^ 64) }
     {
         let Some(whole_len) = len_with(self.text_len, lines) else {
@@ -212,25 +223,25 @@ impl Object {
             return Err(Refusal::TooLarge);
         }
         let alloc: Global = *self.map.allocator();
-        let copies = copies_of(alloc, lines)?;
+        let copies = copies_for(alloc, lines)?;
         Ok(copies)
     }
 
-    /// Takes all memory that applying these lines can want, and applies nothing. Whatever was ready before is not any
-    /// more.
+    /// Takes all memory that applying these lines can want, and applies nothing. Copies that were held of other lines are
+    /// given back.
     ///
     /// It is TooLarge exactly where the object would have more than 1,024 attributes, or more than 65,536 bytes of
     /// printed lines, after all of these lines. Else OutOfMemory is the only error.
     pub fn apply_ready(&mut self, lines: &[Line]) -> Result<(), Refusal>
         ensures refusal { IsLimitRefusal (names.refusal_of result) self.old.attributes lines.now }
-        ensures ok { OnOk result (self.new.ready ≡ Some lines.now) }
+        ensures ok { OnOk result (IsReadyFor lines.now self.new) }
         ensures same { self.new.attributes ≡ self.old.attributes }
-        ensures err { OnErr result (self.new.ready ≡ None) }
+        ensures err { OnErr result (self.new.copies ≡ None) }
     {
-        self.ready = None;
+        self.copies = None;
         let copies = self.checked_copies(lines)?;
-        make_room(&mut self.map, copies.len())?;
-        self.ready = Some(copies);
+        make_room(&mut self.map, lines.len())?;
+        self.copies = copies;
         Ok(())
     }
 
@@ -238,44 +249,46 @@ impl Object {
     ///
     /// A line that sets an absent attribute makes it the last, one that sets an attribute that is there changes it in
     /// its place, and a deletion leaves the others in their order (QNX PPS guide, on changing attributes). It is refused
-    /// as [`apply_ready`](Object::apply_ready) is. Whatever was ready before is not any more.
+    /// as [`apply_ready`](Object::apply_ready) is.
     pub fn apply(&mut self, lines: &[Line]) -> Result<(), Refusal>
         ensures refusal { IsLimitRefusal (names.refusal_of result) self.old.attributes lines.now }
         ensures attributes { OnOk result (AppliesLines lines.now self.old self.new) }
         ensures err { OnErr result (self.new.attributes ≡ self.old.attributes) }
-        ensures ready { self.new.ready ≡ None }
+        ensures copies { self.new.copies ≡ None }
     {
         self.apply_ready(lines)?;
-        self.apply_commit();
+        self.apply_commit(lines);
         Ok(())
     }
 
-    /// Applies the lines that were made ready. It takes no memory.
-    pub fn apply_commit(&mut self)
-        requires { IsSome self.old.ready }
-        ensures attributes { IfSome self.old.ready (λ lines. AppliesLines lines self.old self.new) }
-        ensures ready { self.new.ready ≡ None }
+    /// Applies these lines, which were made ready. It takes no memory: short lines are copied as they are applied, and of
+    /// others the copies are there.
+    pub fn apply_commit(&mut self, lines: &[Line])
+        requires { IsReadyFor lines.now self.old }
+        ensures attributes { AppliesLines lines.now self.old self.new }
+        ensures copies { self.new.copies ≡ None }
     {
-        if let Some(lines) = self.ready.take() {
-            self.text_len = apply_lines(&mut self.map, self.text_len, lines);
-        }
+        self.has_marks |= set_marks(lines);
+        let copies = self.copies.take();
+        self.text_len = apply_ready(&mut self.map, self.text_len, copies, lines);
     }
 
-    /// Another object with the same attributes. Nothing is ready in it. OutOfMemory is the only error.
+    /// Another object with the same attributes. No copies of lines are in it. OutOfMemory is the only error.
     pub fn copy(&self) -> Result<Object, Refusal>
         ensures attributes { IfOk result (λ copy. copy.attributes ≡ self.now.attributes) }
-        ensures ready { IfOk result (λ copy. copy.ready ≡ None) }
+        ensures copies { IfOk result (λ copy. copy.copies ≡ None) }
         ensures err { IsOkUnless result Refusal.OutOfMemory }
     {
         let map = self.map.clone()?;
         Ok(Object {
             map,
             text_len: self.text_len,
-            ready: None,
+            has_marks: self.has_marks,
+            copies: None,
         })
     }
 
-    /// Whether both have the same attributes in the same order. What is ready does not count. It takes no memory.
+    /// Whether both have the same attributes in the same order. It takes no memory.
     pub fn same(&self, other: &Object) -> bool
         ensures { IsTrue result ↔ (self.now.attributes ≡ other.now.attributes) }
     {

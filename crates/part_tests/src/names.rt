@@ -140,7 +140,7 @@ fn set_two(names: &mut Names, alloc: Global, object: ObjId) -> Result<(), Refusa
     let lines = [line(alloc, b"x", true)?, line(alloc, b"y", false)?];
     names.change_ready(object, &lines)?;
     if names.object(object).is_some() {
-        names.change(object);
+        names.change(object, &lines);
     }
     Ok(())
 }

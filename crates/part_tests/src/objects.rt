@@ -1,7 +1,7 @@
 //! The attributes of one object.
 
 use crate::samples::{assert_met, deletion, set_line};
-use attr_text::read_write;
+use attr_text::{read_single, read_write};
 use object_state::{AttributeRef, Object};
 use pps_filter::{Name, read_filter};
 use pps_types::{Bytes, Line, Refusal};
@@ -77,7 +77,18 @@ fn commit(alloc: Global, object: &mut Object, text: &[u8]) -> Result<(), Refusal
     let (_, lines) = read_write(alloc, text)?.into_parts();
     let lines = object.resolve(lines)?;
     object.apply_ready(lines.as_slice())?;
-    object.apply_commit();
+    object.apply_commit(lines.as_slice());
+    Ok(())
+}
+
+/// The same of a text of one line, which is resolved alone.
+fn commit_alone(alloc: Global, object: &mut Object, text: &[u8]) -> Result<(), Refusal> {
+    let Some(line) = read_single(alloc, text)? else {
+        return Err(Refusal::BadText { line: 1 });
+    };
+    let lines = [object.resolve_one(line)];
+    object.apply_ready(&lines)?;
+    object.apply_commit(&lines);
     Ok(())
 }
 
@@ -167,6 +178,8 @@ enum Step {
     MakeReady(&'static [u8]),
     /// They are made ready, and applied then.
     Commit(&'static [u8]),
+    /// The same, of a line alone.
+    CommitAlone(&'static [u8]),
     DropNonpersistent,
     Truncate,
     /// Lines that set the attributes of the numbers below the end are applied, and then these.
@@ -209,6 +222,7 @@ fn is_carried_out(alloc: Global, pair: &mut Pair, step: Step) -> Result<bool, Re
         Step::Write(text) => write(alloc, object, text)?,
         Step::MakeReady(text) => make_ready(alloc, object, text)?,
         Step::Commit(text) => commit(alloc, object, text)?,
+        Step::CommitAlone(text) => commit_alone(alloc, object, text)?,
         Step::DropNonpersistent => object.drop_nonpersistent(),
         Step::Truncate => object.truncate(),
         Step::Apply(end, changes) => apply(alloc, object, end, changes)?,
@@ -282,6 +296,42 @@ const OF_TEXTS: &[Steps] = &[
             Step::Prints(b"[n]b::4\n"),
             Step::Written(b"[n]b::1\n", b"[-n]b::2\nb::3\n"),
             Step::Prints(b"b::3\n"),
+        ],
+    },
+    Steps {
+        name: "long_texts_are_applied_as_short_ones_are",
+        list: &[
+            Step::Commit(b"a::34567890123456789012345\nb::4567890123456789012345678\n"),
+            Step::Prints(b"a::34567890123456789012345\nb::4567890123456789012345678\n"),
+            Step::Commit(b"a::1\nb:a_long_encoding_of_27_bytes:2\n"),
+            Step::Commit(b"[n]an_attribute_of_25_letters::1\nb::2\n"),
+            Step::Prints(b"a::1\nb::2\n[n]an_attribute_of_25_letters::1\n"),
+            Step::MakeReady(b"a_name_that_is_not_applied::1\n"),
+            Step::Commit(b"a::3\n"),
+            Step::Commit(b"-an_attribute_of_25_letters\nb::3\n"),
+            Step::Prints(b"a::3\nb::3\n"),
+        ],
+    },
+    Steps {
+        name: "the_mark_of_a_line_alone_is_that_of_its_attribute",
+        list: &[
+            Step::Commit(b"a::1\n"),
+            Step::CommitAlone(b"a::2\n"),
+            Step::Prints(b"a::2\n"),
+            Step::CommitAlone(b"[n]b::1\n"),
+            Step::CommitAlone(b"b::2\n"),
+            Step::CommitAlone(b"a::3\n"),
+            Step::Prints(b"a::3\n[n]b::2\n"),
+            Step::Copy,
+            Step::DropNonpersistent,
+            Step::CommitAlone(b"b::3\n"),
+            Step::Prints(b"a::3\nb::3\n"),
+            Step::Swap,
+            Step::CommitAlone(b"b::3\n"),
+            Step::Prints(b"a::3\n[n]b::3\n"),
+            Step::CommitAlone(b"[-n]b::4\n"),
+            Step::CommitAlone(b"-a\n"),
+            Step::Prints(b"b::4\n"),
         ],
     },
     Steps {

@@ -121,13 +121,14 @@ pub fn restore_line(
     if has_attribute(tables, object, &name) {
         return Err(Refusal::Exists);
     }
-    lines_ready(tables, object, from_ref(&line))?;
+    let change = from_ref(&line);
+    lines_ready(tables, object, change)?;
     if tables.passes_last_number(1, 0, 0) {
         return Err(Refusal::TableFull);
     }
     if tables.handles().len() == 0 {
         objects_are_placed(tables, object);
-        tables.change_unheard(object);
+        tables.change_unheard(object, change);
         return Ok(());
     }
     let mut lines = Vec::with_capacity(alloc, 1)?;

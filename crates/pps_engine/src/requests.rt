@@ -10,7 +10,7 @@ ghost use Rattle.pps_engine.specs.EventTold.{number_opened};
 
 use crate::doing::Doing;
 use crate::done::{Done, boxed};
-use handle_requests::{Closing, Written};
+use handle_requests::Closing;
 use path_requests::{Opens, Unlinked};
 use pps_types::{Action, Bytes, Conn, Handle, Mode, Outcome, Refusal};
 use service_laws::events_are_settled;
@@ -133,12 +133,15 @@ pub(crate) fn write(
     ensures ok { IfOk result (Serves tables.old conn (Write handle bytes.now) tables.new) }
     ensures err { IfErr result (IsRefusedIn tables.old conn (Write handle bytes.now)) }
 {
-    let Written { reply, beginning } = handle_requests::write(tables, alloc, conn, handle, bytes)?;
+    let beginning = handle_requests::write(tables, alloc, conn, handle, bytes)?;
     let doing = match beginning {
         None => Doing::Nothing,
         Some(beginning) => Doing::BeginsWith(beginning),
     };
-    Ok(Done { reply, doing })
+    Ok(Done {
+        reply: Outcome::Wrote(bytes.len() as u32),
+        doing,
+    })
 }
 
 /// What a path names is deleted.

@@ -5,7 +5,7 @@ ghost use Rattle.pps_script.specs.Lines.{ServesBytes, FailsBytes};
 ghost use Rattle.pps_script.specs.declared.line.LineFault.TheVariants.{OutOfMemory};
 
 use crate::answer::print_answer;
-use crate::script_line::{ScriptLine, read_line};
+use crate::script_line::{read_command, says_nothing};
 use crate::shown::print_shown;
 use pps_engine::Engine;
 use pps_types::{Event, Outcome, Refusal, Request};
@@ -77,13 +77,13 @@ pub(crate) fn serve_line(
     ensures fault { IfErr result (λ fault. FailsBytes engine.old engine.new line.now fault) }
 {
     text.clear();
-    match read_line(alloc, line)? {
-        None => Err(LineFault::BadLine),
-        Some(ScriptLine::Nothing) => Ok(()),
-        Some(ScriptLine::Command(event)) => {
-            let answer = engine.step(&event);
-            print_served(alloc, text, show, &event, &answer)?;
-            Ok(())
-        }
+    if says_nothing(line) {
+        return Ok(());
     }
+    let Some(event) = read_command(alloc, line)? else {
+        return Err(LineFault::BadLine);
+    };
+    let answer = engine.step(&event);
+    print_served(alloc, text, show, &event, &answer)?;
+    Ok(())
 }

@@ -16,8 +16,9 @@ pub enum ScriptLine {
     Command(Event),
 }
 
+/// Whether a line is empty, or a comment.
 #[inline(always)]
-fn says_nothing(line: &[u8]) -> bool
+pub(crate) fn says_nothing(line: &[u8]) -> bool
     ensures { result ≡ (is_empty line.now || starts_with 35 line.now) }
 {
     match line {
@@ -26,9 +27,9 @@ fn says_nothing(line: &[u8]) -> bool
     }
 }
 
-// A connection, a space and what is asked for.
+/// A connection, a space and what is asked for.
 #[inline(always)]
-fn read_command(alloc: Global, line: &[u8]) -> Result<Option<Event>, AllocError>
+pub(crate) fn read_command(alloc: Global, line: &[u8]) -> Result<Option<Event>, AllocError>
     ensures { IfOk result (λ read. read ≡ script.command line.now) }
 {
     let Some((conn, behind)) = first_word(line) else {

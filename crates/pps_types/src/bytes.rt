@@ -1,5 +1,5 @@
 //! Bytes that one value owns. A contract sees them as a list.
-ghost use Rattle.std.specs.Prelude.{◌≡◌, ◌≤◌, ◌*◌, ◌↔◌, IfOk, IfSome, IsSome, IsTrue, [], length, take, nat_eq};
+ghost use Rattle.std.specs.Prelude.{◌≡◌, ◌≤◌, ◌*◌, ◌↔◌, IfOk, IfSome, IsSome, IsTrue, [], true, length, take, nat_eq};
 ghost use Rattle.std.proofs.Common.{rules};
 ghost use Rattle.std.specs.Cmp.Rules.{comparing};
 ghost use lib.Pointwise.{pointwise};
@@ -135,6 +135,8 @@ impl Model for Bytes {
 }
 
 impl Bytes {
+    ghost use Rattle.pps_types.specs.HeldBytes.{is_short};
+
     /// These bytes. It takes no memory, and gives the vector's back where they stand in place.
     pub fn new(content: Vec<u8>) -> Bytes
         ensures { result ≡ content.items }
@@ -180,6 +182,29 @@ impl Bytes {
             Content::Long(content) => Content::Long(content.clone()?),
         };
         Ok(Bytes { content })
+    }
+
+    /// Whether they are at most 23, so that a copy of them takes no memory.
+    #[inline]
+    pub fn is_short(&self) -> bool
+        ensures { result ≡ is_short self.now }
+    {
+        self.len() <= SHORT_MAX
+    }
+
+    /// A copy of short bytes. It takes no memory.
+    #[inline(always)]
+    pub fn short_copy(&self) -> Bytes
+        requires { is_short self.now ≡ true }
+        ensures { result ≡ self.now }
+    {
+        let short = match &self.content {
+            Content::Short(short) => short.copy(),
+            Content::Long(content) => Short::from_slice(content.as_slice()).unwrap(),
+        };
+        Bytes {
+            content: Content::Short(short),
+        }
     }
 
     #[inline]

@@ -47,6 +47,32 @@ pub enum WriteLine {
     },
 }
 
+impl WriteLine {
+    ghost use Rattle.pps_types.specs.History.{message_line};
+
+    /// The line that it comes to if no attribute of its name was nonpersistent before it, as in a message, whose lines are
+    /// no attributes. It takes no memory.
+    #[inline(always)]
+    pub fn into_line(self) -> Line
+        ensures { result ≡ message_line self }
+    {
+        match self {
+            WriteLine::Set {
+                name,
+                enc,
+                value,
+                mark,
+            } => Line::Set {
+                name,
+                enc,
+                value,
+                n: mark.applied_to(false),
+            },
+            WriteLine::Del { name } => Line::Del { name },
+        }
+    }
+}
+
 /// A line as objects and records hold it. Where `n` is true the attribute is nonpersistent.
 #[derive(Debug, PartialEq, Eq, Drop)]
 pub enum Line {

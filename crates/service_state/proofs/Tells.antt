@@ -15,7 +15,7 @@ use Rattle.open_handles.specs.Whole.{Whole, site_at, handles_in}
 use Rattle.notify_box.specs.Connections.{connections_of, ConnectionsRise}
 use Rattle.notify_box.specs.ConnectionLaws.{ConnectionsAreFound, ConnectionsAreTold}
 use Rattle.std.proofs.lemmas.Bool.{eq-eqb}
-use Rattle.service_state.specs.Lines.{deletes, change_of}
+use Rattle.service_state.specs.Lines.{deletes}
 use Rattle.service_state.specs.Tables.{Tabled, content_in, AreTied, IsOpenable, IsOpenableDirectory}
 use Rattle.service_state.proofs.Ties.{Meets, Step, meets_content}
 
@@ -135,24 +135,12 @@ module _ (found : ConnectionsAreFound) (told : ConnectionsAreTold) (named : Move
         };
       }
 
--- ---- lines that are ready
+-- ---- changes by lines
 
--- what the lines that are ready make of names is what a record of that change makes of them
-pub changed_by : (ready : Option (List Line)) (n : ℕ) (kind : Kind) (old new : Standing) → IsSome ready → ready ≡ change_of kind → IfSome ready (λ lines. new ≡ happened n (Change lines) old)
-    → new ≡ happened n kind old
-changed_by None n kind old new some is standing = absurd (let bad = some in cc)
-changed_by (Some lines) n (Change ls) old new some is standing = standing ∙ ap (λ l. happened n (Change l) old) (let same : lines ≡ ls = cc in same)
-changed_by (Some lines) n Created old new some is standing = absurd (let bad = is in cc)
-changed_by (Some lines) n Truncated old new some is standing = absurd (let bad = is in cc)
-changed_by (Some lines) n Dropped old new some is standing = absurd (let bad = is in cc)
-changed_by (Some lines) n Deleted old new some is standing = absurd (let bad = is in cc)
-changed_by (Some lines) n (Opened id) old new some is standing = absurd (let bad = is in cc)
-changed_by (Some lines) n (Closed id) old new some is standing = absurd (let bad = is in cc)
-changed_by (Some lines) n (FromClient id ls) old new some is standing = absurd (let bad = is in cc)
-changed_by (Some lines) n (ToClient id ls) old new some is standing = absurd (let bad = is in cc)
-changed_by (Some lines) n (ToAll ls) old new some is standing = absurd (let bad = is in cc)
+-- what lines make of names is what a record of that change makes of them
+pub changed_by : (lines : List Line) (n : ℕ) (kind : Kind) (old new : Standing) → kind ≡ Change lines → new ≡ happened n (Change lines) old → new ≡ happened n kind old
+changed_by lines n kind old new is standing = standing ∙ ap (λ k. happened n k old) (sym is)
 
 -- there is such a record
-pub change_exists : {T : Type 0} → (ready : Option (List Line)) (n : ℕ) → IsSome ready → ((e : Entry) → e.record_of.object ≡ n → ready ≡ change_of e.record_of.kind → T) → T
-change_exists None n some by = absurd (let bad = some in cc)
-change_exists (Some lines) n some by = by (bare_entry n (Change lines)) refl refl
+pub change_exists : {T : Type 0} → (lines : List Line) (n : ℕ) → ((e : Entry) → e.record_of.object ≡ n → e.record_of.kind ≡ Change lines → T) → T
+change_exists lines n by = by (bare_entry n (Change lines)) refl refl

@@ -5,12 +5,12 @@ use Rattle.pps_types.specs.declared.record.Kind.{Kind}
 use Rattle.pps_types.specs.declared.record.Kind.TheVariants.{Change, Deleted}
 use Rattle.pps_types.specs.History.{Entry}
 use Rattle.pps_types.specs.Plan.{AppendsRecord}
-use Rattle.name_table.specs.Standing.{Named, lines_ready}
+use Rattle.name_table.specs.Standing.{Named, AreReadyIn}
 use Rattle.service_state.specs.Tables.{Tabled}
 use Rattle.service_state.specs.Tied.{Moves}
 
 abbrev pub HasLinesFor : Kind → ℕ → Named → Type 0
-HasLinesFor (Change lines) number n = lines_ready number n ≡ Some lines
+HasLinesFor (Change lines) number n = AreReadyIn number lines n
 HasLinesFor _ number n = Unit {0}
 
 -- where a record changes attributes, its lines are ready
@@ -23,18 +23,13 @@ abbrev pub deletes : Kind → Bool
 deletes Deleted = true
 deletes _ = false
 
--- the lines by which it changes attributes, where it does
-abbrev pub change_of : Kind → Option (List Line)
-change_of (Change lines) = Some lines
-change_of _ = None
-
 -- it changes attributes by lines
 abbrev pub is_change : Kind → Bool
 is_change (Change lines) = true
 is_change _ = false
 
--- what is there now is what a record makes of it that changes the object by the lines that were ready
-abbrev pub ChangesByReady : ℕ → Tabled → Tabled → Type 0
-ChangesByReady object old new =
-    (entry : Entry) → entry.record_of.object ≡ object → lines_ready object old.names ≡ change_of entry.record_of.kind
+-- what is there now is what a record makes of it that changes the object by these lines
+abbrev pub ChangesBy : ℕ → List Line → Tabled → Tabled → Type 0
+ChangesBy object lines old new =
+    (entry : Entry) → entry.record_of.object ≡ object → entry.record_of.kind ≡ Change lines
     → Moves (AppendsRecord entry ∷ []) old new

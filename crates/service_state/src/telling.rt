@@ -22,7 +22,7 @@ fn change_names(names: &mut Names, entry: &Entry)
 {
     let object = entry.record().object;
     match &entry.record().kind {
-        Kind::Change(_) => names.change(object),
+        Kind::Change(lines) => names.change(object, lines.as_slice()),
         Kind::Created | Kind::Truncated => names.truncate(object),
         Kind::Dropped => names.drop_nonpersistent(object),
         Kind::Deleted => names.delete(object),

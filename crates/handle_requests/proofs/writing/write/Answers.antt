@@ -1,4 +1,4 @@
-use Rattle.std.proofs.Common.{◌≡◌, ◌⊎◌, ◌∙◌, ℕ, true, Option, Some, None, List, sym, ap, subst}
+use Rattle.std.proofs.Common.{◌≡◌, ◌⊎◌, ◌∙◌, true, Option, Some, None, List, length, sym, ap, subst}
 use Rattle.std.proofs.lemmas.Result.{err_from_is_err_and}
 use Rattle.pps_types.specs.declared.outcome.Outcome.TheVariants.{Wrote}
 use Rattle.pps_types.specs.declared.refusal.Refusal.{Refusal}
@@ -44,5 +44,4 @@ returns-clause-does c =
     let made = c.in_ok-prepared.ensures.ok in
     let told : tells c.into_entry.result ≡ told_by (content_in c.args.tables.now) c.args.handle made.draft = ap tells c.into_entry.ensures ∙ made.prepared.tells in
     draft_does (content_in c.args.tables.now) c.args.conn c.args.handle c.args.bytes.now made.draft made.drafted
-    ∙ ap (λ (n : ℕ). (Wrote n, told_by (content_in c.args.tables.now) c.args.handle made.draft)) (sym c.len.ensures)
-    ∙ ap (λ (ms : List Move). (Wrote c.len.result, ms)) (sym (c.in_ok-beginning.ensures.tells ∙ told))
+    ∙ ap (λ (ms : List Move). (Wrote (length c.args.bytes.now), ms)) (sym (c.in_ok-beginning.ensures.tells ∙ told))

@@ -1,5 +1,4 @@
-use Rattle.std.specs.Prelude.{◌≡◌, ◌∷◌, ◌++◌, ℕ, List, [], Option, Some, None, Ok, IfSome, IsSome, true, false, option_map}
-use Rattle.std.specs.Option.{option_and_then}
+use Rattle.std.specs.Prelude.{◌≡◌, ◌∷◌, ◌++◌, ℕ, List, [], Option, Some, None, Ok, IfSome, IsSome, IsSomeAnd, true, false, option_map}
 use Rattle.std.proofs.Common.{refl, sym, ap, subst, ◌∙◌, inl, eqb, eqb-true}
 use Rattle.std.proofs.lemmas.Result.{err_from_is_err_and}
 use Rattle.pps_types.specs.declared.record.Kind.TheVariants.{Change}
@@ -9,8 +8,7 @@ use Rattle.service_laws.proofs.Finds.{find-true}
 use Rattle.pps_types.specs.Plan.{entry_of}
 use Rattle.pps_types.specs.Restore.{line_checks, line_moves}
 use Rattle.pps_types.specs.declared.line.Line.{Line}
-use Rattle.name_table.specs.Standing.{Named, Placed, known_of, placed_at, lines_ready as named_ready, AreReadyFor}
-use Rattle.service_state.specs.Lines.{change_of}
+use Rattle.name_table.specs.Standing.{Named, Placed, known_of, placed_at, AreReadyAt, AreReadyFor, AreReadyIn}
 use Rattle.service_state.specs.Tables.{content_in}
 use Rattle.path_requests.proofs.RestoreChecked.{refused_by}
 use Rattle.path_requests.proofs.LineChecks.{has_told, alive_there, line_exists, limited_or, passes_told, past_told, done_told, line_last}
@@ -36,30 +34,30 @@ returns-in_err-lines_ready-clause-refused c =
     let before = content_in c.args.tables.now in
     let p = err_from_is_err_and c.from_residual-in_err-lines_ready.result c.from_residual-in_err-lines_ready.ensures.1 in
     let none = sym c.if-has_attribute.false ∙ has_told before c.requires c.args.path.now c.args.line c.in_ok-object.object c.in_ok-object.ensures.ok c.has_attribute.result c.in_ok-name.name c.in_ok-name.ensures c.has_attribute.ensures in
-    let one = c.from_ref.ensures.value in
-    rw (p.1, p.2) (limited_or before c.requires c.args.path.now c.args.line c.in_ok-object.object c.in_ok-object.ensures.ok c.from_ref.result.now c.in_err-lines_ready.field-0.0 one none c.in_err-lines_ready.ensures.err)
+    let one = c.from_ref-change.ensures.value in
+    rw (p.1, p.2) (limited_or before c.requires c.args.path.now c.args.line c.in_ok-object.object c.in_ok-object.ensures.ok c.from_ref-change.result.now c.in_err-lines_ready.field-0.0 one none c.in_err-lines_ready.ensures.err)
 
 pub returns-then-passes_last_number-clause-refused : goal.returns-then-passes_last_number-clause-refused
 returns-then-passes_last_number-clause-refused c =
     let before = content_in c.args.tables.now in
     let none = sym c.if-has_attribute.false ∙ has_told before c.requires c.args.path.now c.args.line c.in_ok-object.object c.in_ok-object.ensures.ok c.has_attribute.result c.in_ok-name.name c.in_ok-name.ensures c.has_attribute.ensures in
-    let one = c.from_ref.ensures.value in
-    let passes = passes_told before c.requires c.args.path.now c.args.line c.in_ok-object.object c.in_ok-object.ensures.ok c.from_ref.result.now one c.in_ok-lines_ready.ensures.passes in
+    let one = c.from_ref-change.ensures.value in
+    let passes = passes_told before c.requires c.args.path.now c.args.line c.in_ok-object.object c.in_ok-object.ensures.ok c.from_ref-change.result.now one c.in_ok-lines_ready.ensures.passes in
     let past = past_told before c.requires c.args.path.now c.args.line c.in_ok-object.object c.in_ok-object.ensures.ok (content_in c.lines_ready.new.tables) c.passes_last_number.result c.lines_ready.ensures.content c.passes_last_number.ensures in
     inl (line_last before c.requires c.args.path.now c.args.line c.in_ok-object.object c.in_ok-object.ensures.ok true none passes (sym c.if-passes_last_number.true ∙ past))
 
 -- the lines are ready for the object that is there
 ready_there : (n : Named) (d : Content) (object : ℕ) (lines : List Line) → option_map known_of (placed_at object n) ≡ object_numbered d object → IsSome (object_numbered d object)
-    → IfSome (placed_at object n) (λ x. x.held.ready ≡ Some lines) → named_ready object n ≡ Some lines
+    → IfSome (placed_at object n) (AreReadyAt lines) → AreReadyIn object lines n
 ready_there n d object lines placed alive ready = by (placed_at object n) (subst IsSome (sym placed) alive) ready
   where
-    by : (o : Option Placed) → IsSome (option_map known_of o) → IfSome o (λ x. x.held.ready ≡ Some lines) → option_and_then (λ (x : Placed). x.held.ready) o ≡ Some lines
+    by : (o : Option Placed) → IsSome (option_map known_of o) → IfSome o (AreReadyAt lines) → IsSomeAnd o (AreReadyAt lines)
     by None alive ready = absurd (let bad = alive in cc)
     by (Some x) alive ready = ready
 
 -- there is a record of a change of the object that is there
 told_there : {T : Type 0} → (d : Content) (n : ℕ) (ls : List Line) → IsSome (object_numbered d n)
-    → ((e : Entry) → e.record_of.object ≡ n → Some ls ≡ change_of e.record_of.kind → IfSome (object_numbered d n) (λ o. e ≡ entry_of o.object (Change ls) None) → T) → T
+    → ((e : Entry) → e.record_of.object ≡ n → e.record_of.kind ≡ Change ls → IfSome (object_numbered d n) (λ o. e ≡ entry_of o.object (Change ls) None) → T) → T
 told_there {T = T} d n ls alive by = go (object_numbered d n) refl alive
   where
     go : (o : Option LiveObject) → object_numbered d n ≡ o → IsSome o → T
@@ -71,22 +69,19 @@ told_there {T = T} d n ls alive by = go (object_numbered d n) refl alive
 pub change_unheard-requires-clause-lines : goal.change_unheard-requires-clause-lines
 change_unheard-requires-clause-lines c =
     let alive = subst (λ (d : Content). IsSome (object_numbered d c.in_ok-object.object)) (sym c.lines_ready.ensures.content) (alive_there (content_in c.args.tables.now) c.requires c.args.path.now c.args.line c.in_ok-object.object c.in_ok-object.ensures.ok) in
-    subst IsSome
-    (sym (ready_there c.lines_ready.new.tables.names (content_in c.lines_ready.new.tables) c.in_ok-object.object c.from_ref.result.now c.objects_are_placed.ensures alive c.in_ok-lines_ready.ensures.ready)) refl
+    ready_there c.lines_ready.new.tables.names (content_in c.lines_ready.new.tables) c.in_ok-object.object c.from_ref-change.result.now c.objects_are_placed.ensures alive c.in_ok-lines_ready.ensures.ready
 
 pub returns-then-len-eq0-clause-done : goal.returns-then-len-eq0-clause-done
 returns-then-len-eq0-clause-done c =
     let before = content_in c.args.tables.now in
     let there = alive_there before c.requires c.args.path.now c.args.line c.in_ok-object.object c.in_ok-object.ensures.ok in
-    let alive = subst (λ (d : Content). IsSome (object_numbered d c.in_ok-object.object)) (sym c.lines_ready.ensures.content) there in
-    let ready = ready_there c.lines_ready.new.tables.names (content_in c.lines_ready.new.tables) c.in_ok-object.object c.from_ref.result.now c.objects_are_placed.ensures alive c.in_ok-lines_ready.ensures.ready in
     let none = sym c.if-has_attribute.false ∙ has_told before c.requires c.args.path.now c.args.line c.in_ok-object.object c.in_ok-object.ensures.ok c.has_attribute.result c.in_ok-name.name c.in_ok-name.ensures c.has_attribute.ensures in
-    let one = c.from_ref.ensures.value in
-    let passes = passes_told before c.requires c.args.path.now c.args.line c.in_ok-object.object c.in_ok-object.ensures.ok c.from_ref.result.now one c.in_ok-lines_ready.ensures.passes in
+    let one = c.from_ref-change.ensures.value in
+    let passes = passes_told before c.requires c.args.path.now c.args.line c.in_ok-object.object c.in_ok-object.ensures.ok c.from_ref-change.result.now one c.in_ok-lines_ready.ensures.passes in
     let past = past_told before c.requires c.args.path.now c.args.line c.in_ok-object.object c.in_ok-object.ensures.ok (content_in c.lines_ready.new.tables) c.passes_last_number.result c.lines_ready.ensures.content c.passes_last_number.ensures in
-    told_there before c.in_ok-object.object c.from_ref.result.now there
+    told_there before c.in_ok-object.object c.from_ref-change.result.now there
     (λ e object kind told.
-    let left = done_told before c.requires c.args.path.now c.args.line c.in_ok-object.object c.in_ok-object.ensures.ok c.from_ref.result.now e (content_in c.lines_ready.new.tables) (content_in c.change_unheard.new.self) one c.lines_ready.ensures.content told (c.change_unheard.ensures.moves e object (ready ∙ kind)) in
+    let left = done_told before c.requires c.args.path.now c.args.line c.in_ok-object.object c.in_ok-object.ensures.ok c.from_ref-change.result.now e (content_in c.lines_ready.new.tables) (content_in c.change_unheard.new.self) one c.lines_ready.ensures.content told (c.change_unheard.ensures.moves e object kind) in
     line_last before c.requires c.args.path.now c.args.line c.in_ok-object.object c.in_ok-object.ensures.ok false none passes (sym c.if-passes_last_number.false ∙ past) ∙ ap Ok (sym left))
 
 pub change_told-requires-clause-alive : goal.change_told-requires-clause-alive
@@ -96,14 +91,14 @@ change_told-requires-clause-alive c =
 pub change_told-requires-clause-lines : goal.change_told-requires-clause-lines
 change_told-requires-clause-lines c =
     let held = c.push_reserved.ensures.items ∙ ap (λ ls. ls ++ c.args.line ∷ []) c.in_ok-lines.ensures.items in
-    subst (λ ls. AreReadyFor c.in_ok-object.object ls c.lines_ready.new.tables.names) (c.from_ref.ensures.value ∙ sym held) c.in_ok-lines_ready.ensures.ready
+    subst (λ ls. AreReadyFor c.in_ok-object.object ls c.lines_ready.new.tables.names) (c.from_ref-change.ensures.value ∙ sym held) c.in_ok-lines_ready.ensures.ready
 
 pub returns-clause-done : goal.returns-clause-done
 returns-clause-done c =
     let before = content_in c.args.tables.now in
     let none = sym c.if-has_attribute.false ∙ has_told before c.requires c.args.path.now c.args.line c.in_ok-object.object c.in_ok-object.ensures.ok c.has_attribute.result c.in_ok-name.name c.in_ok-name.ensures c.has_attribute.ensures in
     let held = c.push_reserved.ensures.items ∙ ap (λ ls. ls ++ c.args.line ∷ []) c.in_ok-lines.ensures.items in
-    let passes = passes_told before c.requires c.args.path.now c.args.line c.in_ok-object.object c.in_ok-object.ensures.ok c.from_ref.result.now c.from_ref.ensures.value c.in_ok-lines_ready.ensures.passes in
+    let passes = passes_told before c.requires c.args.path.now c.args.line c.in_ok-object.object c.in_ok-object.ensures.ok c.from_ref-change.result.now c.from_ref-change.ensures.value c.in_ok-lines_ready.ensures.passes in
     let past = past_told before c.requires c.args.path.now c.args.line c.in_ok-object.object c.in_ok-object.ensures.ok (content_in c.lines_ready.new.tables) c.passes_last_number.result c.lines_ready.ensures.content c.passes_last_number.ensures in
     let told = subst (λ (d : Content). IfSome (object_numbered d c.in_ok-object.object) (λ o. c.in_ok-told.told.entry ≡ entry_of o.object (Change c.push_reserved.new.self.items) None)) c.lines_ready.ensures.content c.in_ok-told.ensures.entry in
     let left = done_told before c.requires c.args.path.now c.args.line c.in_ok-object.object c.in_ok-object.ensures.ok c.push_reserved.new.self.items c.in_ok-told.told.entry (content_in c.change_told.new.tables) (content_in c.happen.new.self) held (c.change_told.ensures.content ∙ c.lines_ready.ensures.content) told c.happen.ensures.moves in

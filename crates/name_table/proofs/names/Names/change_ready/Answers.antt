@@ -9,7 +9,7 @@ use Rattle.pps_types.specs.declared.refusal.Refusal.TheVariants.{OutOfMemory}
 use Rattle.pps_types.specs.declared.record.Kind.TheVariants.{Opened}
 use Rattle.number_table.specs.Numbered.{has_number, on_first, value_under}
 use Rattle.name_table.specs.contracts.named.NamedObject.{the_view}
-use Rattle.name_table.specs.Standing.{Placed}
+use Rattle.name_table.specs.Standing.{Placed, AreReadyAt}
 use Rattle.name_table.proofs.Happened.{set_knowns, set_named, standing_with, knowns}
 use Rattle.name_table.proofs.Changed.{noticed, found_set, said, on_ok}
 use Rattle.name_table.proofs.names.Names.change_ready.Goals as goal
@@ -23,7 +23,7 @@ returns-clause-ok c =
     rw (← c.number.ensures.same)
     (on_ok c.apply_ready.result _ _
     (λ ready. said (value_under c.number.result (on_first (has_number c.number.result) (λ e. record e { value = (the_view record { number = c.known.inside.number; path = c.known.inside.path; directory = c.known.inside.directory; nopersist = c.known.inside.nopersist; server = c.known.inside.server; attributes = c.apply_ready.new.self }) }) c.self.inside.objects.entries)) (the_view record { number = c.known.inside.number; path = c.known.inside.path; directory = c.known.inside.directory; nopersist = c.known.inside.nopersist; server = c.known.inside.server; attributes = c.apply_ready.new.self })
-    (λ (x : Placed). x.held.ready ≡ Some c.args.lines.now)
+    (AreReadyAt c.args.lines.now)
     (found_set c.number.result (the_view record { number = c.known.inside.number; path = c.known.inside.path; directory = c.known.inside.directory; nopersist = c.known.inside.nopersist; server = c.known.inside.server; attributes = c.apply_ready.new.self }) (the_view c.known.inside) c.self.inside.objects.entries (sym c.get_mut.ensures.value ∙ ap option_copied_mut c.in-Some.is ∙ ap Some (sym c.known.view_is)))
     ready)
     c.apply_ready.ensures.ok)

@@ -1,4 +1,4 @@
-use Rattle.std.proofs.Common.{Some, None, ap, sym, ◌∙◌}
+use Rattle.std.proofs.Common.{Some, ap, sym, ◌∙◌}
 use Rattle.std.specs.Option.{option_copied}
 use Rattle.std.specs.List.{filter_map}
 use Rattle.pps_types.specs.Names as paths

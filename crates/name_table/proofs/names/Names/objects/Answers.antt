@@ -2,7 +2,7 @@ use Rattle.std.proofs.Common.{map, ap, sym, ◌∙◌, subst, List}
 use Rattle.std.specs.List.{AllByRecursion}
 use Rattle.number_table.specs.Numbered.{Entry}
 use Rattle.name_table.specs.Agrees.{HasPath}
-use Rattle.name_table.specs.Standing.{Placed, Standing, known_of, standing_of, content_of, standing_by}
+use Rattle.name_table.specs.Standing.{Placed, known_of, content_of, standing_by}
 use Rattle.name_table.proofs.Alongside.{knowns_of}
 use Rattle.name_table.proofs.Sorting.{all_map_in}
 use Rattle.name_table.proofs.names.Names.objects.Goals as goal

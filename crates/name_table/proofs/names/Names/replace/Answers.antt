@@ -1,9 +1,7 @@
-use Rattle.std.proofs.Common.{◌≡◌, ◌+◌, Some, ap, sym, ◌∙◌}
+use Rattle.std.proofs.Common.{◌+◌, ap, sym, ◌∙◌}
 use Rattle.pps_types.specs.Names as paths
-use Rattle.pps_types.specs.Plan.{Creates}
-use Rattle.pps_types.specs.declared.record.Kind.TheVariants.{Deleted}
 use Rattle.number_table.specs.Numbered.{value_under}
-use Rattle.name_table.specs.Standing.{Placed, standing_by, after, happened}
+use Rattle.name_table.specs.Standing.{Placed}
 use Rattle.name_table.proofs.Happened.{standing_with}
 use Rattle.name_table.proofs.Changed.{said}
 use Rattle.name_table.proofs.Deleted.{can_go}
