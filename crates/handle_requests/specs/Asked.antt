@@ -13,11 +13,11 @@ use Rattle.handle_requests.specs.declared.own.SeenHandle.{SeenHandle}
 
 -- It is of the open handle of that number. Where that is the connection's, news says whether it has news, and parked whether a
 -- read waits on it. Those on what it is on have it as all handles have it.
-pub record IsAsked (t : Tabled) (conn handle : ℕ) (a : SeenHandle) : Type 0 where
-  pub parked : IfSome (own_handle (content_in t) conn handle) (λ h. is_some a.glance.parked ≡ is_some h.parked)
-  pub news : IfSome (own_handle (content_in t) conn handle) (λ h. a.glance.has_news ≡ has_news h)
-  pub fresh : a.glance.has_news ≡ option_map_or has_news (handle_at handle (handles_in t.handles)) false
-  pub over : a.glance.is_over ≡ option_map_or (λ (h : OpenHandle Progress). is_over h.seen) (handle_at handle (handles_in t.handles)) false
-  pub owed : a.glance.owed ≡ option_and_then (λ (h : OpenHandle Progress). owed_in_seen h h.seen) (handle_at handle (handles_in t.handles))
-  pub topic : handle_at handle (handles_of a.topic.now) ≡ handle_at handle (handles_in t.handles)
+pub record IsAsked (t : Tabled) (conn number : ℕ) (a : SeenHandle) : Type 0 where
+  pub parked : IfSome (own_handle (content_in t) conn number) (λ handle. is_some a.glance.parked ≡ is_some handle.parked)
+  pub news : IfSome (own_handle (content_in t) conn number) (λ handle. a.glance.has_news ≡ has_news handle)
+  pub fresh : a.glance.has_news ≡ option_map_or has_news (handle_at number (handles_in t.handles)) false
+  pub over : a.glance.is_over ≡ option_map_or (λ (handle : OpenHandle Progress). is_over handle.seen) (handle_at number (handles_in t.handles)) false
+  pub owed : a.glance.owed ≡ option_and_then (λ (handle : OpenHandle Progress). owed_in_seen handle handle.seen) (handle_at number (handles_in t.handles))
+  pub topic : handle_at number (handles_of a.topic.now) ≡ handle_at number (handles_in t.handles)
   pub name : name_of a.topic.now ≡ name_at a.own.found t.handles

@@ -11,7 +11,7 @@ use Rattle.handle_requests.specs.Addressed.{recipients, recipient_checks}
 
 -- a client that is owed as many messages as its limit
 abbrev pub is_behind : OpenHandle Progress → Bool
-is_behind h = nat_le h.limit (count_owed is_server_message h)
+is_behind handle = nat_le handle.limit (count_owed is_server_message handle)
 
 -- the handle that owns an object, where it is a server's
 abbrev pub server_in : Content → ℕ → Option ℕ
@@ -27,7 +27,7 @@ server_checks c object client =
 
 -- the number of the first of these clients that has to read before it can be sent more
 abbrev pub first_backlogged : List (OpenHandle Progress) → Option ℕ
-first_backlogged handles = option_map (λ (h : OpenHandle Progress). h.number) (find is_behind handles)
+first_backlogged handles = option_map (λ (handle : OpenHandle Progress). handle.number) (find is_behind handles)
 
 -- a message is refused where one whom it is for has to read first
 abbrev pub backlog_checks : Content → ℕ → Recipient → List Check

@@ -19,8 +19,8 @@ begun conn handle parked told = Closes conn handle parked ∷ telling told
 -- a connection's own handle of that number closes behind those of lower numbers
 abbrev pub begun_behind : Content → ℕ → ℕ → List Beginning
 begun_behind c conn number =
-    option_map_or (λ (h : OpenHandle Progress). begun conn number (is_some h.parked) (told_behind c conn h)) (own_handle c conn number) []
+    option_map_or (λ (handle : OpenHandle Progress). begun conn number (is_some handle.parked) (told_behind c conn handle)) (own_handle c conn number) []
 
 -- what the close of all of a connection's handles begins with, in rising number
 abbrev pub begun_by : Tabled → ℕ → List Beginning
-begun_by t conn = flat_map (begun_behind (content_in t) conn) (map (λ h. h.number) (handles_of (content_in t) conn))
+begun_by t conn = flat_map (begun_behind (content_in t) conn) (map (λ handle. handle.number) (handles_of (content_in t) conn))

@@ -28,8 +28,8 @@ notice_of handle n = (Input n.news, Arms handle (armed_pulse n.pulse) ∷ [])
 
 -- The handle is the connection's own, and reads; the code is one of a pulse. The answer is whether it has news, and the pulse is
 -- armed where the action arms it.
-pub record IsNoticed (c : Content) (conn handle : ℕ) (action : Action) (pulse : Pulse) (n : Notified) : Type 0 where
-  pub own : option_map {U = Bool × Bool} (λ (h : OpenHandle Progress). (h.reads, news h)) (own_handle c conn handle) ≡ Some (true, n.news)
+pub record IsNoticed (c : Content) (conn number : ℕ) (action : Action) (pulse : Pulse) (n : Notified) : Type 0 where
+  pub own : option_map {U = Bool × Bool} (λ (handle : OpenHandle Progress). (handle.reads, news handle)) (own_handle c conn number) ≡ Some (true, n.news)
   pub code : nat_lt 127 pulse.code ≡ false
   pub arming : armed_pulse n.pulse ≡ (if arms action n.news then Some (pulse.code, pulse.value) else None)
 

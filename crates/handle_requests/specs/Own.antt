@@ -29,7 +29,7 @@ own_opened t conn handle = option_map as_opened (own_handle (content_in t) conn 
 
 -- whether it reads
 abbrev pub own_reads : Tabled → ℕ → ℕ → Option Bool
-own_reads t conn handle = option_map (λ (h : OpenHandle Progress). h.reads) (own_handle (content_in t) conn handle)
+own_reads t conn number = option_map (λ (handle : OpenHandle Progress). handle.reads) (own_handle (content_in t) conn number)
 
 -- whether it has news
 abbrev pub own_news : Tabled → ℕ → ℕ → Option Bool

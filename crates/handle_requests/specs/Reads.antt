@@ -51,22 +51,23 @@ abbrev pub Refuses : Answer → Refusal → Type 0
 Refuses a r = (refusal_in a ≡ Some r) ⊎ ((r ≡ OutOfMemory) × (takes_memory a ≡ true))
 
 -- the handle reads, and everything of its target is read from this
-pub record IsReader (c : Content) (waits : Bool) (w : Source) (h : OpenHandle Progress) : Type 0 where
-  pub reads : h.reads ≡ true
-  pub wait : h.options.wait ≡ waits
-  pub source : w ≡ source_of c h
+pub record IsReader (c : Content) (waits : Bool) (w : Source) (handle : OpenHandle Progress) : Type 0 where
+  pub reads : handle.reads ≡ true
+  pub wait : handle.options.wait ≡ waits
+  pub source : w ≡ source_of c handle
 
 -- nothing is owed of a list, and there is news
 abbrev pub is_given_all : Option (OpenHandle Progress) → Bool
-is_given_all h = is_none (option_and_then (λ (h : OpenHandle Progress). owed_in_seen h h.seen) h) && option_map_or news h false
+is_given_all found =
+    is_none (option_and_then (λ (handle : OpenHandle Progress). owed_in_seen handle handle.seen) found) && option_map_or news found false
 
 -- The handle is the connection's own and reads, no read waits on it, and this is its answer to a read of that size, which is one
 -- that may be asked.
-pub record IsRead (c : Content) (size : ℕ) (a : Answer) (h : OpenHandle Progress) : Type 0 where
-  pub reads : h.reads ≡ true
+pub record IsRead (c : Content) (size : ℕ) (a : Answer) (handle : OpenHandle Progress) : Type 0 where
+  pub reads : handle.reads ≡ true
   pub size_fits : (nat_le 1 size && nat_le size 17000000) ≡ true
-  pub free : h.parked ≡ None
-  pub answer : a ≡ read_answer c h size
+  pub free : handle.parked ≡ None
+  pub answer : a ≡ read_answer c handle size
   pub given : refusal_in a ≡ None
 
 abbrev pub IsAnswered : Content → ℕ → ℕ → ℕ → Answer → Type 0
@@ -86,11 +87,11 @@ LacksMemoryFor given a = refusal_of given ≡ Some OutOfMemory → takes_memory 
 
 -- this answers a read of that size
 abbrev pub IsReadAnswer : Tabled → ℕ → ℕ → ℕ → Answer → Type 0
-IsReadAnswer t conn handle size a = IfOwn t conn handle (λ h. a ≡ read_answer (content_in t) h size)
+IsReadAnswer t conn number size a = IfOwn t conn number (λ handle. a ≡ read_answer (content_in t) handle size)
 
 -- a read of that size is refused so
 abbrev pub RefusesRead : Tabled → ℕ → ℕ → ℕ → Refusal → Type 0
-RefusesRead t conn handle size r = IfOwn t conn handle (λ h. Refuses (read_answer (content_in t) h size) r)
+RefusesRead t conn number size r = IfOwn t conn number (λ handle. Refuses (read_answer (content_in t) handle size) r)
 
 -- it reads, it waits or not as is said, and everything of its target is read from this
 abbrev pub ReadsFrom : Tabled → ℕ → ℕ → Bool → Source → Type 0
@@ -104,12 +105,12 @@ attribute_lines x = map line_of (option_map_or (λ (o : LiveObject). o.attribute
 
 -- this is what a read of that size gives it of what it is owed
 abbrev pub IsOwedAt : ℕ → List (OpenHandle Progress) → ℕ → Option GivenBlocks → Type 0
-IsOwedAt number handles size owed = IfSome (handle_at number handles) (λ h. h.reads ≡ true → Owes size h h.seen owed)
+IsOwedAt number handles size owed = IfSome (handle_at number handles) (λ handle. handle.reads ≡ true → Owes size handle handle.seen owed)
 
 -- a read of that size is refused so, whatever everything is
 abbrev pub RefusesAt : ℕ → List (OpenHandle Progress) → ℕ → Refusal → Type 0
 RefusesAt number handles size r = IfSome (handle_at number handles)
-    (λ h. h.reads ≡ true → (everything : List ℕ) (dead : Bool) → Refuses (rests.answer h h.seen everything dead size) r)
+    (λ handle. handle.reads ≡ true → (everything : List ℕ) (dead : Bool) → Refuses (rests.answer handle handle.seen everything dead size) r)
 
 -- ---- what a read does
 

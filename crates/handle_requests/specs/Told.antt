@@ -27,7 +27,8 @@ record_told kind object = option_and_then (λ (k : Kind). option_map (λ (o : Li
 
 -- the record that the close of a handle tells
 abbrev pub told_of : {S : Type 0} → Content → OpenHandle S → Option Entry
-told_of c h = record_told (kind_told (h.options.critical && h.writes) h.number h.kind) (object_numbered c h.target)
+told_of c handle =
+    record_told (kind_told (handle.options.critical && handle.writes) handle.number handle.kind) (object_numbered c handle.target)
 
 -- ---- behind others of the same connection
 
@@ -37,11 +38,12 @@ closes_before c conn number server = option_map_or (λ s. nat_lt s number && is_
 
 -- the server of its object closes before it, where the connection's handles close in rising number
 abbrev pub is_orphan : {S : Type 0} → Content → ℕ → OpenHandle S → Bool
-is_orphan c conn h = option_map_or (λ (o : LiveObject). closes_before c conn h.number o.object.server) (object_numbered c h.target) false
+is_orphan c conn handle =
+    option_map_or (λ (o : LiveObject). closes_before c conn handle.number o.object.server) (object_numbered c handle.target) false
 
 -- the record that its close tells then
 abbrev pub told_behind : {S : Type 0} → Content → ℕ → OpenHandle S → Option Entry
-told_behind c conn h = if is_orphan c conn h then None else told_of c h
+told_behind c conn handle = if is_orphan c conn handle then None else told_of c handle
 
 -- ---- by what the open of a handle fixed
 

@@ -30,7 +30,7 @@ pub record Author : Type 0 where
   pub object : ℕ
 
 abbrev pub author : OpenHandle Progress → Author
-author h = record { handle = h.number; name = h.name; object = h.target }
+author handle = record { handle = handle.number; name = handle.name; object = handle.target }
 
 -- among these handles
 abbrev pub author_of : Whole → Writer → Author
@@ -38,7 +38,8 @@ author_of whole w = record { handle = w.handle; name = name_at w.found whole; ob
 
 -- the checks that come before any memory is taken
 abbrev pub early_checks : Content → List ℕ → OpenHandle Progress → List Check
-early_checks c bytes h = Refuse (not h.writes) BadMode ∷ Refuse (nat_lt 65536 (length bytes)) TooLarge ∷ Refuse (target_is_dead c h) Gone ∷ []
+early_checks c bytes handle =
+    Refuse (not handle.writes) BadMode ∷ Refuse (nat_lt 65536 (length bytes)) TooLarge ∷ Refuse (target_is_dead c handle) Gone ∷ []
 
 -- its object stands as it was found, and is a server's where the handle is
 pub record IsAuthor (c : Content) (w : Writer) : Type 0 where
@@ -47,12 +48,12 @@ pub record IsAuthor (c : Content) (w : Writer) : Type 0 where
   pub served : is_server w.kind ≡ true → is_some (server_in c w.object.now.object.number) ≡ true
 
 -- it is that handle, which may write these bytes, and its object is alive
-pub record IsWriter (c : Content) (whole : Whole) (bytes : List ℕ) (w : Writer) (h : OpenHandle Progress) : Type 0 where
-  pub early : first_refusal (early_checks c bytes h) ≡ None
-  pub author_is : author_of whole w ≡ author h
-  pub kind : w.kind ≡ h.kind
-  pub known : object_numbered c h.target ≡ Some (known_of w.object.now)
-  pub plain : is_directory_kind h.kind ≡ false
+pub record IsWriter (c : Content) (whole : Whole) (bytes : List ℕ) (w : Writer) (handle : OpenHandle Progress) : Type 0 where
+  pub early : first_refusal (early_checks c bytes handle) ≡ None
+  pub author_is : author_of whole w ≡ author handle
+  pub kind : w.kind ≡ handle.kind
+  pub known : object_numbered c handle.target ≡ Some (known_of w.object.now)
+  pub plain : is_directory_kind handle.kind ≡ false
 
 -- ---- what its text comes to
 
@@ -95,10 +96,10 @@ pub record IsDrafted (c : Content) (a : Author) (kind_is : HandleKind) (bytes : 
   pub late : first_refusal (checks_by c a kind_is text) ≡ late_refusal c a.object d.kind
 
 -- the same of a handle
-pub record IsDraftOf (c : Content) (bytes : List ℕ) (d : Draft) (h : OpenHandle Progress) : Type 0 where
-  pub early : first_refusal (early_checks c bytes h) ≡ None
-  pub alive : is_some (object_numbered c h.target) ≡ true
-  pub drafted : IsDrafted c (author h) h.kind bytes d
+pub record IsDraftOf (c : Content) (bytes : List ℕ) (d : Draft) (handle : OpenHandle Progress) : Type 0 where
+  pub early : first_refusal (early_checks c bytes handle) ≡ None
+  pub alive : is_some (object_numbered c handle.target) ≡ true
+  pub drafted : IsDrafted c (author handle) handle.kind bytes d
 
 abbrev pub IsDraft : Content → ℕ → ℕ → List ℕ → Draft → Type 0
 IsDraft c conn handle bytes d = IsSomeAnd (own_handle c conn handle) (IsDraftOf c bytes d)

@@ -16,7 +16,7 @@ use std::alloc::{AllocError, Global};
 
 /// Whether a read waits on the connection's own handle of that number.
 pub(crate) fn is_parked(tables: &Tables, conn: Conn, handle: Handle) -> bool
-    ensures { IfOwn tables.now conn handle (λ h. result ≡ is_some h.parked) }
+    ensures { IfOwn tables.now conn handle (λ own. result ≡ is_some own.parked) }
 {
     let handles = tables.handles();
     handles.handles_are_placed();

@@ -38,7 +38,7 @@ fn does_arm(action: Action, news: bool) -> bool
 // Whether a handle has news, where it can be asked for notices, with a pulse of that code.
 fn check_asked(tables: &Tables, conn: Conn, handle: Handle, code: u8) -> Result<bool, Refusal>
     ensures reads { OnOk result (own_reads tables.now conn handle ≡ Some true) }
-    ensures news { IfOk result (λ news. IfOwn tables.now conn handle (λ h. news ≡ content.news h)) }
+    ensures news { IfOk result (λ news. IfOwn tables.now conn handle (λ own. news ≡ content.news own)) }
     ensures code { OnOk result (nat_lt 127 code ≡ false) }
     ensures err { IfErr result (λ r. (action : ActionAsked)
         → RefusedBy (code_checks tables.now conn handle action code) r) }

@@ -46,7 +46,7 @@ fn check_asked(
     ensures known { IfOk result (IsAsked tables.now conn handle) }
     ensures reads { IfOk result (λ asked. asked.own.opening.now.reads ≡ true) }
     ensures size { OnOk result ((nat_le 1 size && nat_le size 17000000) ≡ true) }
-    ensures free { OnOk result (IfOwn tables.now conn handle (λ h. h.parked ≡ None)) }
+    ensures free { OnOk result (IfOwn tables.now conn handle (λ own. own.parked ≡ None)) }
     ensures err { IfErr result (λ r. RefusedBy (checks_in tables.now conn (Read handle size)) r) }
 {
     let Some(asked) = own_asked(tables, conn, handle) else {

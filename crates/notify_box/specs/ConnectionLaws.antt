@@ -21,10 +21,12 @@ pub record ConnectionsAreFound : Type 0 where
   pub standing : (c : Content) (conn : ℕ) → standing_at conn (connections_of c) ≡ option_map (standing_of c) (connection_numbered c conn)
   pub attached : (c : Content) (conn : ℕ) → is_kept conn (connections_of c) ≡ is_attached c conn
   pub outbox : (c : Content) → AreOwned c → (conn : ℕ) → outbox_at conn (connections_of c) ≡ outbox_of c conn
-  pub handles : (c : Content) → AreOwned c → (conn : ℕ) → handles_at conn (connections_of c) ≡ map (λ h. h.number) (handles_of c conn)
+  pub handles : (c : Content) → AreOwned c → (conn : ℕ)
+      → handles_at conn (connections_of c) ≡ map (λ handle. handle.number) (handles_of c conn)
   pub queues : (c : Content) → ConnectionsRise c → queues_of (connections_of c) ≡ c.connections
   pub unattached : (c : Content) → AreOwned c → (conn : ℕ) → is_attached c conn ≡ false → handles_of c conn ≡ []
-  pub own : (c : Content) (n : ℕ) (h : OpenHandle Progress) → handle_numbered c n ≡ Some h → own_handle c h.connection n ≡ Some h
+  pub own : (c : Content) (n : ℕ) (handle : OpenHandle Progress) → handle_numbered c n ≡ Some handle
+      → own_handle c handle.connection n ≡ Some handle
 
 -- What moves make of the connections. kept: those that are of none leave them. attached, left: one comes or goes.
 -- Each other is a change of one connection, that of the handle that it is of: its handles where it opens or closes one,
@@ -41,24 +43,31 @@ pub record ConnectionsAreTold : Type 0 where
       → connections_of (apply_seen (Queues conn item) c) ≡ with_outbox conn (λ box. with_item box item) (connections_of c)
   pub taken : (c : Content) → ConnectionsRise c → (conn : ℕ)
       → connections_of (apply_seen (Takes conn) c) ≡ with_outbox conn (λ box. record box { items = behind_first box.items }) (connections_of c)
-  pub opened : (c : Content) → ConnectionsRise c → (h : OpenHandle (Unit {0})) → h.parked ≡ None → h.armed ≡ None
-      → connections_of (apply_seen (Opens h) c) ≡ with_handles h.connection (λ hs. hs ++ h.number ∷ []) (connections_of c)
-  pub closed : (c : Content) → HandlesRise c → ConnectionsRise c → (conn n : ℕ) (h : OpenHandle Progress) → own_handle c conn n ≡ Some h
-      → connections_of (apply_all_seen (Closes n ∷ (if is_some h.parked then Queues conn (ReadDone n (Err BadHandle)) ∷ [] else [])) c)
+  pub opened : (c : Content) → ConnectionsRise c → (handle : OpenHandle (Unit {0})) → handle.parked ≡ None → handle.armed ≡ None
+      → connections_of (apply_seen (Opens handle) c) ≡ with_handles handle.connection (λ hs. hs ++ handle.number ∷ []) (connections_of c)
+  pub closed : (c : Content) → HandlesRise c → ConnectionsRise c → (conn n : ℕ) (handle : OpenHandle Progress)
+      → own_handle c conn n ≡ Some handle
+      → connections_of (apply_all_seen (Closes n ∷ (if is_some handle.parked then Queues conn (ReadDone n (Err BadHandle)) ∷ [] else [])) c)
       ≡ with_handles conn (λ hs. without_first (λ k. k == n) hs)
       (with_outbox conn (λ box. parked_ended box n) (with_outbox conn (λ box. without_pulse box n) (connections_of c)))
-  pub armed : (c : Content) → HandlesRise c → ConnectionsRise c → (conn n : ℕ) (h : OpenHandle Progress) → own_handle c conn n ≡ Some h → (pulse : PulseOf)
+  pub armed : (c : Content) → HandlesRise c → ConnectionsRise c → (conn n : ℕ) (handle : OpenHandle Progress)
+      → own_handle c conn n ≡ Some handle → (pulse : PulseOf)
       → connections_of (apply_seen (Arms n (Some pulse)) c) ≡ with_outbox conn (λ box. with_pulse box n pulse) (connections_of c)
-  pub disarmed : (c : Content) → HandlesRise c → ConnectionsRise c → (conn n : ℕ) (h : OpenHandle Progress) → own_handle c conn n ≡ Some h
+  pub disarmed : (c : Content) → HandlesRise c → ConnectionsRise c → (conn n : ℕ) (handle : OpenHandle Progress)
+      → own_handle c conn n ≡ Some handle
       → connections_of (apply_seen (Arms n None) c) ≡ with_outbox conn (λ box. without_pulse box n) (connections_of c)
-  pub fired : (c : Content) → HandlesRise c → ConnectionsRise c → (conn n : ℕ) (h : OpenHandle Progress) → own_handle c conn n ≡ Some h
-      → (pulse : PulseOf) → h.armed ≡ Some pulse
+  pub fired : (c : Content) → HandlesRise c → ConnectionsRise c → (conn n : ℕ) (handle : OpenHandle Progress)
+      → own_handle c conn n ≡ Some handle
+      → (pulse : PulseOf) → handle.armed ≡ Some pulse
       → connections_of (apply_all_seen (Arms n None ∷ Queues conn (Pulse pulse.0 pulse.1) ∷ []) c) ≡ with_outbox conn (λ box. fired_in box n) (connections_of c)
-  pub fires : (c : Content) → HandlesRise c → ConnectionsRise c → (h : OpenHandle Progress) → handle_numbered c h.number ≡ Some h
-      → connections_of (apply_all_seen (firing h) c) ≡ with_outbox h.connection (λ box. fired_in box h.number) (connections_of c)
-  pub parked : (c : Content) → HandlesRise c → ConnectionsRise c → (conn n : ℕ) (h : OpenHandle Progress) → own_handle c conn n ≡ Some h → h.parked ≡ None → (size : ℕ)
+  pub fires : (c : Content) → HandlesRise c → ConnectionsRise c → (handle : OpenHandle Progress)
+      → handle_numbered c handle.number ≡ Some handle
+      → connections_of (apply_all_seen (firing handle) c) ≡ with_outbox handle.connection (λ box. fired_in box handle.number) (connections_of c)
+  pub parked : (c : Content) → HandlesRise c → ConnectionsRise c → (conn n : ℕ) (handle : OpenHandle Progress)
+      → own_handle c conn n ≡ Some handle → handle.parked ≡ None → (size : ℕ)
       → connections_of (apply_seen (Parks n (Some size)) c) ≡ with_outbox conn (λ box. with_parked box n) (connections_of c)
-  pub finished : (c : Content) → HandlesRise c → ConnectionsRise c → (conn n : ℕ) (h : OpenHandle Progress) → own_handle c conn n ≡ Some h
+  pub finished : (c : Content) → HandlesRise c → ConnectionsRise c → (conn n : ℕ) (handle : OpenHandle Progress)
+      → own_handle c conn n ≡ Some handle
       → (result : Result (List ℕ) Refusal)
       → connections_of (apply_all_seen (Parks n None ∷ Queues conn (ReadDone n result) ∷ []) c) ≡ with_outbox conn (λ box. finished_in box n result) (connections_of c)
 
@@ -69,5 +78,6 @@ pub record PremisesStay : Type 0 where
   pub handles : (c : Content) (ms : List Move) → HandlesRise c → AreNumbered c.next_handle ms → HandlesRise (apply_all_seen ms c)
   pub connections : (c : Content) (ms : List Move) → ConnectionsRise c → list_all attaches_none ms ≡ true → ConnectionsRise (apply_all_seen ms c)
   pub attached : (c : Content) (conn : ℕ) → ConnectionsRise c → 1 ≤ conn → conn < 1025 → is_attached c conn ≡ false → ConnectionsRise (apply_seen (Attaches conn) c)
-  pub own : (c : Content) (ms : List Move) → HandlesRise c → AreNumbered c.next_handle ms → (conn n : ℕ) (h : OpenHandle Progress) → own_handle c conn n ≡ Some h
-      → own_handle (apply_all_seen ms c) conn n ≡ handle_after ms h
+  pub own : (c : Content) (ms : List Move) → HandlesRise c → AreNumbered c.next_handle ms → (conn n : ℕ) (handle : OpenHandle Progress)
+      → own_handle c conn n ≡ Some handle
+      → own_handle (apply_all_seen ms c) conn n ≡ handle_after ms handle

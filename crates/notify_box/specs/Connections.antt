@@ -8,7 +8,8 @@ use Rattle.notify_box.specs.Standing.{Standing}
 
 -- a connection with what it has to come, and with its handles
 abbrev pub standing_of : Content → Connection → Standing
-standing_of c x = record { number = x.number; outbox = outbox_of c x.number; handles = map (λ h. h.number) (handles_of c x.number) }
+standing_of c x =
+    record { number = x.number; outbox = outbox_of c x.number; handles = map (λ handle. handle.number) (handles_of c x.number) }
 
 -- all that are attached
 abbrev pub connections_of : Content → List Standing
@@ -22,7 +23,7 @@ ConnectionsRise c = RiseBetween 1 (map (λ x. x.number) c.connections) 1025
 
 -- the connection of each handle is attached
 abbrev pub AreOwned : Content → Type 0
-AreOwned c = AllByRecursion (λ h. is_attached c h.connection ≡ true) c.handles
+AreOwned c = AllByRecursion (λ handle. is_attached c handle.connection ≡ true) c.handles
 
 -- ---- moves
 

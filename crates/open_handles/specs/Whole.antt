@@ -41,7 +41,7 @@ pub record AreRowed (on : Found → List (OpenHandle Progress)) (rows : List (Nu
   pub rise : RiseBetween 0 (map (λ e. e.number) rows) next
   pub on_topic : (f : Found) → AreOn (is_directory f) (number_of f) (on f)
   pub each : AllByRecursion (λ e. is_some (row_handle on e) ≡ true) rows
-  pub own : (f : Found) → AllByRecursion (λ h. value_under h.number rows ≡ Some f) (on f)
+  pub own : (f : Found) → AllByRecursion (λ handle. value_under handle.number rows ≡ Some f) (on f)
 
 -- ---- by where they are
 
@@ -273,10 +273,10 @@ UsesRoom e old new = (entries : List Entry) → HasRoom (e ∷ entries) old → 
 -- ---- one handle changes
 
 abbrev pub changed : Change → OpenHandle Progress → OpenHandle Progress
-changed CatchUp h = reseen caught_up h
-changed (Pass count) h = reseen (λ h. left h count h.seen) h
-changed (Park size) h = record h { parked = size }
-changed (Arm pulse) h = record h { armed = armed_pulse pulse }
+changed CatchUp handle = reseen caught_up handle
+changed (Pass count) handle = reseen (λ handle. left handle count handle.seen) handle
+changed (Park size) handle = record handle { parked = size }
+changed (Arm pulse) handle = record handle { armed = armed_pulse pulse }
 
 -- handles after the one of a number changed so
 abbrev pub with_changed : ℕ → Change → List (OpenHandle Progress) → List (OpenHandle Progress)
@@ -286,7 +286,8 @@ with_changed number change handles = on_numbered number (changed change) handles
 
 -- The shares of a record are enough for one place: where its object is a server's, one for each handle that is given it.
 abbrev pub IsSharedAt : ℕ → Entry → Found → Whole → Type 0
-IsSharedAt count e f w = IfSome (site_at f w) (λ s. s.service ≡ true → length (filter (λ (h : OpenHandle Progress). visible h e) (handles_at f w)) ≤ count)
+IsSharedAt count e f w =
+    IfSome (site_at f w) (λ s. s.service ≡ true → length (filter (λ (handle : OpenHandle Progress). visible handle e) (handles_at f w)) ≤ count)
 
 -- The shares of a record are enough: one where handles are on its directory, and besides it as many as the place of its object needs.
 pub record IsShared (count : ℕ) (e : Entry) (w : Whole) : Type 0 where

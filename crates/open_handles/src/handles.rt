@@ -516,7 +516,7 @@ impl Handles {
     /// numbers of all handles rise, below the next one.
     pub fn handles_are_placed(&self)
         ensures placed { HasEachInPlace self.now }
-        ensures rise { RiseBetween 0 (map (λ h. h.number) (handles_in self.now)) self.now.rows.next }
+        ensures rise { RiseBetween 0 (map (λ handle. handle.number) (handles_in self.now)) self.now.rows.next }
     {
         let _count = self.rows.len();
     }

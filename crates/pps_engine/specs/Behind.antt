@@ -107,17 +107,17 @@ rows_behind c es directory = fold (rows_by directory) (rows_of c directory) es
 
 -- its target behind records is a dead object
 abbrev pub is_dead_behind : Content → List Entry → OpenHandle Progress → Bool
-is_dead_behind c es h = not (is_directory_kind h.kind) && is_none (state_behind c es h.target)
+is_dead_behind c es handle = not (is_directory_kind handle.kind) && is_none (state_behind c es handle.target)
 
 -- the members of its target behind them: an object is its own one member, a dead one too
 abbrev pub members_behind : Content → List Entry → OpenHandle Progress → List Member
-members_behind c es h =
-    if is_directory_kind h.kind then map row_member (rows_behind c es h.target)
-    else record { name = h.name; lines = map line_of (unwrap_or (state_behind c es h.target) []) } ∷ []
+members_behind c es handle =
+    if is_directory_kind handle.kind then map row_member (rows_behind c es handle.target)
+    else record { name = handle.name; lines = map line_of (unwrap_or (state_behind c es handle.target) []) } ∷ []
 
 -- what follows for it, where the records wake it
 abbrev pub follows_behind : Content → List Entry → OpenHandle Progress → List Move
-follows_behind c es h = pulse_and_reply h es (is_dead_behind c es h) (members_behind c es h)
+follows_behind c es handle = pulse_and_reply handle es (is_dead_behind c es handle) (members_behind c es handle)
 
 -- what follows for the handle of a number, unless it closes
 abbrev pub follows_numbered : Content → List Entry → List ℕ → ℕ → List Move

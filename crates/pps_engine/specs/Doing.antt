@@ -53,9 +53,9 @@ pub record CanAttach (conn : ℕ) (outbox : Outbox) (t : Tabled) : Type 0 where
   pub room : 0 < t.connections.room
 
 -- no read waits on the connection's own handle, and there is room for one
-pub record CanWait (conn handle : ℕ) (t : Tabled) : Type 0 where
-  pub free : option_map (λ (h : OpenHandle Progress). h.parked) (own_handle (content_in t) conn handle) ≡ Some None
-  pub room : CanPark conn handle t.connections
+pub record CanWait (conn number : ℕ) (t : Tabled) : Type 0 where
+  pub free : option_map (λ (handle : OpenHandle Progress). handle.parked) (own_handle (content_in t) conn number) ≡ Some None
+  pub room : CanPark conn number t.connections
 
 -- a read that leaves its handle so: it wants room where it waits
 abbrev pub CanRead : ℕ → ℕ → Effect → Tabled → Type 0

@@ -19,26 +19,27 @@ use Rattle.pps_engine.specs.Behind.{follows_behind, follows_numbered}
 
 -- a read waits on it, and the late reply is everything of its target
 abbrev pub needs_everything : Option ℕ → OpenHandle Progress → List Entry → Bool
-needs_everything parked h es = is_some parked && gives_everything h es
+needs_everything parked handle es = is_some parked && gives_everything handle es
 
 -- if it is done, what follows for a handle whose late reply is not everything comes to the end: the records are enough for it
 abbrev pub AddsByRecords : {A X : Type 0} → Waiting → List Entry → Vec Following A → Vec Following A → Result X Refusal → Type 0
 AddsByRecords woken es old new result =
-    (h : OpenHandle Progress) (dead : Bool) (members : List Member) → IsWoken woken h → (is_some h.parked && gives_everything h es) ≡ false
-    → OnOk result (Adds old new (pulse_and_reply h es dead members))
+    (handle : OpenHandle Progress) (dead : Bool) (members : List Member) → IsWoken woken handle → (is_some handle.parked && gives_everything handle es) ≡ false
+    → OnOk result (Adds old new (pulse_and_reply handle es dead members))
 
 -- for the handle, if it is on the object of that number and name
 abbrev pub ForWokenObject : Waiting → ℕ → List ℕ → (OpenHandle Progress → Type 0) → Type 0
 ForWokenObject woken object name P =
-    (h : OpenHandle Progress) → IsWoken woken h → h.target ≡ object → h.name ≡ name → is_directory_kind h.kind ≡ false → P h
+    (handle : OpenHandle Progress) → IsWoken woken handle → handle.target ≡ object → handle.name ≡ name → is_directory_kind handle.kind ≡ false → P handle
 
 -- for the handle, if it is on the directory of that number
 abbrev pub ForWokenDirectory : Waiting → ℕ → (OpenHandle Progress → Type 0) → Type 0
-ForWokenDirectory woken directory P = (h : OpenHandle Progress) → IsWoken woken h → h.target ≡ directory → is_directory_kind h.kind ≡ true → P h
+ForWokenDirectory woken directory P =
+    (handle : OpenHandle Progress) → IsWoken woken handle → handle.target ≡ directory → is_directory_kind handle.kind ≡ true → P handle
 
 -- what follows for a handle, by the names of the service
 abbrev pub follows_by : Named → List Entry → OpenHandle Progress → List Move
-follows_by names es h = follows_behind (named_content names) es h
+follows_by names es handle = follows_behind (named_content names) es handle
 
 -- the same for the handle of that number, where it is open
 abbrev pub follows_at : Named → List Entry → ℕ → Whole → List Move

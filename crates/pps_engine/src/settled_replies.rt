@@ -23,7 +23,7 @@ pub(crate) fn needs_target(
     parked: Option<u32>,
     entries: &[Entry],
 ) -> bool
-    ensures { ForOpened target opening.now (λ h. result ≡ needs_everything parked h entries.now) }
+    ensures { ForOpened target opening.now (λ handle. result ≡ needs_everything parked handle entries.now) }
 {
     parked.is_some() && gives_everything(target, opening, entries)
 }
@@ -62,8 +62,8 @@ pub(crate) fn follow_object(
     woken: &Woken<'_>,
     following: &mut Vec<Following>,
 ) -> Result<(), Refusal>
-    ensures { ForWokenObject woken.now object name.now (λ h. OnOk result
-        (Adds following.old following.new (follows_by names.now entries.now h))) }
+    ensures { ForWokenObject woken.now object name.now (λ handle. OnOk result
+        (Adds following.old following.new (follows_by names.now entries.now handle))) }
 {
     let state = state_behind(alloc, names, entries, object)?;
     let members = [member_of(name, &state)];
@@ -80,8 +80,8 @@ pub(crate) fn follow_directory(
     woken: &Woken<'_>,
     following: &mut Vec<Following>,
 ) -> Result<(), Refusal>
-    ensures { ForWokenDirectory woken.now directory (λ h. OnOk result
-        (Adds following.old following.new (follows_by names.now entries.now h))) }
+    ensures { ForWokenDirectory woken.now directory (λ handle. OnOk result
+        (Adds following.old following.new (follows_by names.now entries.now handle))) }
 {
     let rows = rows_behind(alloc, names, entries, directory)?;
     let members = members_of(alloc, &rows)?;

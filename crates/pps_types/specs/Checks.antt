@@ -102,15 +102,15 @@ abbrev pub on_handle : Content → ℕ → ℕ → (OpenHandle Progress → List
 on_handle c conn number checks = option_map_or checks (own_handle c conn number) (Refuse true BadHandle ∷ [])
 
 abbrev pub answer_checks : Content → OpenHandle Progress → Answer → List Check
-answer_checks c h (Needs need) = Refuse true (TooSmall need) ∷ []
-answer_checks c h TargetGone = Refuse true Gone ∷ []
-answer_checks c h Waits = refused (park_refusal (outbox_of c h.connection) h.number) ++ Memory ∷ []
-answer_checks c h _ = Memory ∷ []
+answer_checks c handle (Needs need) = Refuse true (TooSmall need) ∷ []
+answer_checks c handle TargetGone = Refuse true Gone ∷ []
+answer_checks c handle Waits = refused (park_refusal (outbox_of c handle.connection) handle.number) ++ Memory ∷ []
+answer_checks c handle _ = Memory ∷ []
 
 abbrev pub read_checks : Content → ℕ → OpenHandle Progress → List Check
-read_checks c size h =
-    Refuse (not h.reads) BadMode ∷ Refuse (not (nat_le 1 size && nat_le size 17000000)) BadArgument ∷ Refuse (is_some h.parked) ReadPending
-    ∷ answer_checks c h (read_answer c h size)
+read_checks c size handle =
+    Refuse (not handle.reads) BadMode ∷ Refuse (not (nat_le 1 size && nat_le size 17000000)) BadArgument ∷ Refuse (is_some handle.parked) ReadPending
+    ∷ answer_checks c handle (read_answer c handle size)
 
 -- ---- Write
 
@@ -139,11 +139,11 @@ is_server _ = false
 
 -- the open clients of an object, in rising number
 abbrev pub clients : Content → ℕ → List (OpenHandle Progress)
-clients c object = filter (λ h. is_client h.kind && (h.target == object)) c.handles
+clients c object = filter (λ handle. is_client handle.kind && (handle.target == object)) c.handles
 
 -- the clients that a server's message is for
 abbrev pub meant : Content → ℕ → Addressee → List (OpenHandle Progress)
-meant c object (OneClient id) = filter (λ h. h.number == id) (clients c object)
+meant c object (OneClient id) = filter (λ handle. handle.number == id) (clients c object)
 meant c object _ = clients c object
 
 abbrev pub is_message_of : ℕ → Entry → Bool
@@ -162,17 +162,18 @@ is_server_message e = sent e.record_of.kind
     sent _ = false
 
 abbrev pub count_owed : (Entry → Bool) → OpenHandle Progress → ℕ
-count_owed test h = length (filter test (owed_in h h.seen))
+count_owed test handle = length (filter test (owed_in handle handle.seen))
 
 -- the server is owed as many messages of this client as the server's limit
 abbrev pub server_backlog : Content → OpenHandle Progress → List Check
-server_backlog c h =
-    option_map_or (λ s. Refuse (nat_le s.limit (count_owed (is_message_of h.number) s)) (Backlogged s.number) ∷ [])
-    (option_and_then (λ o. option_and_then (handle_numbered c) o.object.server) (object_numbered c h.target)) []
+server_backlog c handle =
+    option_map_or (λ s. Refuse (nat_le s.limit (count_owed (is_message_of handle.number) s)) (Backlogged s.number) ∷ [])
+    (option_and_then (λ o. option_and_then (handle_numbered c) o.object.server) (object_numbered c handle.target)) []
 
 -- one of these clients is owed as many messages as its limit
 abbrev pub client_backlog : List (OpenHandle Progress) → List Check
-client_backlog clients = map (λ h. Refuse (nat_le h.limit (count_owed is_server_message h)) (Backlogged h.number)) clients
+client_backlog clients =
+    map (λ handle. Refuse (nat_le handle.limit (count_owed is_server_message handle)) (Backlogged handle.number)) clients
 
 abbrev pub client_checks : Content → ℕ → Addressee → List Check
 client_checks c object Everyone = []
@@ -189,38 +190,38 @@ limit_checks attributes = Refuse (nat_lt 1024 (length attributes) || nat_lt 6553
 
 -- the attributes after the whole write
 abbrev pub changed : Content → OpenHandle Progress → WriteText → List Attribute
-changed c h text = fold apply_line (attributes_of c h.target) (resolve (attributes_of c h.target) text.lines)
+changed c handle text = fold apply_line (attributes_of c handle.target) (resolve (attributes_of c handle.target) text.lines)
 
 -- a write without lines is in nobody's way
 abbrev pub where_lines : WriteText → List Check → List Check
 where_lines text checks = if is_empty text.lines then [] else checks
 
 abbrev pub text_checks : Content → OpenHandle Progress → HandleKind → WriteText → List Check
-text_checks c h (ObjectHandle delta) text = own_header h.name text.header ++ limit_checks (changed c h text)
-text_checks c h ServerHandle text =
-    let to = addressee h.name text.header in
-    client_checks c h.target to ++ where_lines text (client_backlog (meant c h.target to))
-text_checks c h ClientHandle text = own_header h.name text.header ++ where_lines text (server_backlog c h)
-text_checks c h _ text = []
+text_checks c handle (ObjectHandle delta) text = own_header handle.name text.header ++ limit_checks (changed c handle text)
+text_checks c handle ServerHandle text =
+    let to = addressee handle.name text.header in
+    client_checks c handle.target to ++ where_lines text (client_backlog (meant c handle.target to))
+text_checks c handle ClientHandle text = own_header handle.name text.header ++ where_lines text (server_backlog c handle)
+text_checks c handle _ text = []
 
 abbrev pub write_checks : Content → List ℕ → OpenHandle Progress → List Check
-write_checks c bytes h =
-    Refuse (not h.writes) BadMode ∷ Refuse (nat_lt 65536 (length bytes)) TooLarge ∷ Refuse (target_is_dead c h) Gone ∷ Memory
-    ∷ parsed (write_text bytes) (text_checks c h h.kind)
+write_checks c bytes handle =
+    Refuse (not handle.writes) BadMode ∷ Refuse (nat_lt 65536 (length bytes)) TooLarge ∷ Refuse (target_is_dead c handle) Gone ∷ Memory
+    ∷ parsed (write_text bytes) (text_checks c handle handle.kind)
 
 -- ---- Close
 
 -- a critical publisher of an alive object
 abbrev pub drops : Content → OpenHandle Progress → Bool
-drops c h = h.options.critical && h.writes && not (target_is_dead c h)
+drops c handle = handle.options.critical && handle.writes && not (target_is_dead c handle)
 
 abbrev pub close_checks : Content → OpenHandle Progress → List Check
-close_checks c h = wants h.kind
+close_checks c handle = wants handle.kind
   where
     wants : HandleKind → List Check
     wants ServerHandle = Memory ∷ []
     wants ClientHandle = Memory ∷ []
-    wants (ObjectHandle delta) = if drops c h then Memory ∷ [] else []
+    wants (ObjectHandle delta) = if drops c handle then Memory ∷ [] else []
     wants _ = []
 
 -- ---- paths
@@ -248,9 +249,9 @@ list_checks c path = parsed (find_at (at c) path) (λ found. Refuse (is_object f
 -- ---- Notify and Receive
 
 abbrev pub notify_checks : Content → Action → ℕ → OpenHandle Progress → List Check
-notify_checks c action code h =
-    Refuse (not h.reads) BadMode ∷ Refuse (nat_lt 127 code) BadArgument
-    ∷ (if arms action (news h) then refused (arm_refusal (outbox_of c h.connection) h.number) ++ Memory ∷ [] else [])
+notify_checks c action code handle =
+    Refuse (not handle.reads) BadMode ∷ Refuse (nat_lt 127 code) BadArgument
+    ∷ (if arms action (news handle) then refused (arm_refusal (outbox_of c handle.connection) handle.number) ++ Memory ∷ [] else [])
 
 abbrev pub receive_checks : Option Item → List Check
 receive_checks item = if option_map_or item_has_bytes item false then Memory ∷ [] else []

@@ -83,30 +83,30 @@ subdirectories c path = filter (λ d. not (same_path d.path []) && same_path (pa
 -- ---- handles
 
 abbrev pub handle_numbered : Content → ℕ → Option (OpenHandle Progress)
-handle_numbered c number = find (λ h. h.number == number) c.handles
+handle_numbered c number = find (λ handle. handle.number == number) c.handles
 
 -- the handle of that number, where it is the connection's own
 abbrev pub own_handle : Content → ℕ → ℕ → Option (OpenHandle Progress)
-own_handle c conn number = find (λ h. (h.number == number) && (h.connection == conn)) c.handles
+own_handle c conn number = find (λ handle. (handle.number == number) && (handle.connection == conn)) c.handles
 
 abbrev pub news : OpenHandle Progress → Bool
-news h = news_in h.reads h.seen
+news handle = news_in handle.reads handle.seen
 
 -- it has a read parked or a pulse armed
 abbrev pub is_waiting : OpenHandle Progress → Bool
-is_waiting h = is_some h.parked || is_some h.armed
+is_waiting handle = is_some handle.parked || is_some handle.armed
 
 -- it had no news, and sees one of the records
 abbrev pub learns : List Entry → OpenHandle Progress → Bool
-learns es h = not (news h) && list_any (visible h) es
+learns es handle = not (news handle) && list_any (visible handle) es
 
 -- a handle on that object, as publisher, subscriber, server or client
 abbrev pub has_object_handle : Content → ℕ → Bool
-has_object_handle c object = is_some (find (λ h. not (is_directory_kind h.kind) && (h.target == object)) c.handles)
+has_object_handle c object = is_some (find (λ handle. not (is_directory_kind handle.kind) && (handle.target == object)) c.handles)
 
 -- an open `.all` of that directory
 abbrev pub has_directory_handle : Content → ℕ → Bool
-has_directory_handle c directory = is_some (find (λ h. is_directory_kind h.kind && (h.target == directory)) c.handles)
+has_directory_handle c directory = is_some (find (λ handle. is_directory_kind handle.kind && (handle.target == directory)) c.handles)
 
 abbrev pub attributes_of : Content → ℕ → List Attribute
 attributes_of c number = option_map_or (λ o. o.attributes) (object_numbered c number) []
@@ -116,17 +116,19 @@ member o = record { name = o.object.name; lines = map line_of o.attributes }
 
 -- an object is its own one member, a dead one too
 abbrev pub target_members : Content → OpenHandle Progress → List Member
-target_members c h =
-    if is_directory_kind h.kind then map member (members c h.target) else record { name = h.name; lines = map line_of (attributes_of c h.target) } ∷ []
+target_members c handle =
+    if is_directory_kind handle.kind then map member (members c handle.target)
+    else record { name = handle.name; lines = map line_of (attributes_of c handle.target) } ∷ []
 
 abbrev pub target_is_dead : Content → OpenHandle Progress → Bool
-target_is_dead c h = not (is_directory_kind h.kind) && is_none (object_numbered c h.target)
+target_is_dead c handle = not (is_directory_kind handle.kind) && is_none (object_numbered c handle.target)
 
 abbrev pub everything : Content → OpenHandle Progress → List ℕ
-everything c h = everything_of h.kind h.options.filter (is_over h.seen) (not (target_is_dead c h)) (target_members c h)
+everything c handle =
+    everything_of handle.kind handle.options.filter (is_over handle.seen) (not (target_is_dead c handle)) (target_members c handle)
 
 abbrev pub read_answer : Content → OpenHandle Progress → ℕ → Answer
-read_answer c h max = answer h h.seen (everything c h) (target_is_dead c h) max
+read_answer c handle max = answer handle handle.seen (everything c handle) (target_is_dead c handle) max
 
 -- ---- connections
 
@@ -140,12 +142,12 @@ abbrev pub queue_of : Content → ℕ → List Item
 queue_of c conn = option_map_or (λ x. x.queue) (connection_numbered c conn) []
 
 abbrev pub handles_of : Content → ℕ → List (OpenHandle Progress)
-handles_of c conn = filter (λ h. h.connection == conn) c.handles
+handles_of c conn = filter (λ handle. handle.connection == conn) c.handles
 
 -- what a connection has to come
 abbrev pub outbox_of : Content → ℕ → Outbox
 outbox_of c conn = record {
   items = queue_of c conn;
-  armed = filter_map (λ h. option_map (λ pulse. (h.number, pulse)) h.armed) (handles_of c conn);
-  parked = filter_map (λ h. option_map (λ size. h.number) h.parked) (handles_of c conn);
+  armed = filter_map (λ handle. option_map (λ pulse. (handle.number, pulse)) handle.armed) (handles_of c conn);
+  parked = filter_map (λ handle. option_map (λ size. handle.number) handle.parked) (handles_of c conn);
 }

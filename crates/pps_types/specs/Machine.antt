@@ -48,7 +48,7 @@ abbrev pub known : List Entry → Object → Option LiveObject
 known history o = if is_alive o.number history then Some (record { object = o; attributes = state o.number history }) else None
 
 abbrev pub shown_handle : List Entry → OpenHandle (Option ℕ) → OpenHandle Progress
-shown_handle history = reseen (λ h. seen_with h history h.seen)
+shown_handle history = reseen (λ handle. seen_with handle history handle.seen)
 
 abbrev pub content_of : Machine → Content
 content_of m = record {
@@ -71,11 +71,11 @@ first_cursor _ end = None
 
 -- the cursor behind the first records that it is owed, that many
 abbrev pub passed_with : OpenHandle (Option ℕ) → List Entry → ℕ → Progress → Option ℕ → Option ℕ
-passed_with h history count (Owed rest) (Some cursor) = Some (cursor + behind (visible h) count (drop cursor history))
-passed_with h history count seen cursor = cursor
+passed_with handle history count (Owed rest) (Some cursor) = Some (cursor + behind (visible handle) count (drop cursor history))
+passed_with handle history count seen cursor = cursor
 
 abbrev pub passed : OpenHandle (Option ℕ) → List Entry → ℕ → Option ℕ → Option ℕ
-passed h history count cursor = passed_with h history count (seen_with h history cursor) cursor
+passed handle history count cursor = passed_with handle history count (seen_with handle history cursor) cursor
 
 -- a record goes to the end of the history, and a read moves a cursor
 abbrev pub apply : Move → Machine → Machine
@@ -83,12 +83,14 @@ apply (Attaches conn) m = record m { connections = with_connection conn m.connec
 apply (Leaves conn) m = record m { connections = without_connection conn m.connections }
 apply (Creates o) m = record m { objects = m.objects ++ o ∷ []; history = m.history ++ creation o ∷ [] }
 apply (AppendsRecord e) m = record m { history = m.history ++ e ∷ [] }
-apply (Opens h) m = record m { handles = m.handles ++ reseen (λ h. first_cursor (style h.kind) (length m.history)) h ∷ []; next_handle = m.next_handle + 1 }
+apply (Opens handle) m =
+    record m { handles = m.handles ++ reseen (λ handle. first_cursor (style handle.kind) (length m.history)) handle ∷ []; next_handle = m.next_handle + 1 }
 apply (Closes number) m = record m { handles = without_number number m.handles }
-apply (CatchesUp number) m = record m { handles = on_numbered number (reseen (λ h. Some (length m.history))) m.handles }
-apply (Advances number count) m = record m { handles = on_numbered number (reseen (λ h. passed h m.history count h.seen)) m.handles }
-apply (Parks number size) m = record m { handles = on_numbered number (λ h. record h { parked = size }) m.handles }
-apply (Arms number pulse) m = record m { handles = on_numbered number (λ h. record h { armed = pulse }) m.handles }
+apply (CatchesUp number) m = record m { handles = on_numbered number (reseen (λ handle. Some (length m.history))) m.handles }
+apply (Advances number count) m =
+    record m { handles = on_numbered number (reseen (λ handle. passed handle m.history count handle.seen)) m.handles }
+apply (Parks number size) m = record m { handles = on_numbered number (λ handle. record handle { parked = size }) m.handles }
+apply (Arms number pulse) m = record m { handles = on_numbered number (λ handle. record handle { armed = pulse }) m.handles }
 apply (Queues conn item) m = record m { connections = on_connection conn (λ items. items ++ item ∷ []) m.connections }
 apply (Takes conn) m = record m { connections = on_connection conn behind_first m.connections }
 apply (MakesDirectory path) m = record m { directories = m.directories ++ record { number = m.next_directory; path = path } ∷ []; next_directory = m.next_directory + 1 }
@@ -147,16 +149,16 @@ pub record IsRecorded (objects : List Object) (e : Entry) : Type 0 where
 pub record IsMachine (m : Machine) : Type 0 where
   pub counted : AreCounted 0 m.objects
   pub recorded : AllByRecursion (IsRecorded m.objects) m.history
-  pub within : AllByRecursion (λ h. IsWithin (length m.history) h.seen) m.handles
-  pub targets : AllByRecursion (λ h. is_for h.kind (server_made m h.target) ≡ true) m.handles
+  pub within : AllByRecursion (λ handle. IsWithin (length m.history) handle.seen) m.handles
+  pub targets : AllByRecursion (λ handle. is_for handle.kind (server_made m handle.target) ≡ true) m.handles
   pub standing : IsContent (content_of m)
 
 -- All of it but that what stands is well formed, which does not hold between the moves of one event.
 pub record IsMade (m : Machine) : Type 0 where
   pub counted : AreCounted 0 m.objects
   pub recorded : AllByRecursion (IsRecorded m.objects) m.history
-  pub within : AllByRecursion (λ h. IsWithin (length m.history) h.seen) m.handles
-  pub targets : AllByRecursion (λ h. is_for h.kind (server_made m h.target) ≡ true) m.handles
+  pub within : AllByRecursion (λ handle. IsWithin (length m.history) handle.seen) m.handles
+  pub targets : AllByRecursion (λ handle. is_for handle.kind (server_made m handle.target) ≡ true) m.handles
 
 -- ---- moves that keep a machine well formed
 
@@ -187,7 +189,7 @@ pub record IsOfAlive (objects : List LiveObject) (e : Entry) : Type 0 where
 
 -- a handle opens on an object that is alive, for its kind, and only what is alive has records
 abbrev pub IsAlive : Content → Move → Type 0
-IsAlive c (Opens h) = is_for h.kind (server_of c h.target) ≡ true
+IsAlive c (Opens handle) = is_for handle.kind (server_of c handle.target) ≡ true
 IsAlive c (AppendsRecord e) = IsOfAlive c.objects e
 IsAlive c x = Unit {0}
 

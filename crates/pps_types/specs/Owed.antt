@@ -18,16 +18,16 @@ use Rattle.pps_types.specs.Machine.{Machine, known, content_of}
 
 -- the visible records from the cursor on; without a cursor none
 abbrev pub owed : {S : Type 0} → OpenHandle S → List Entry → Option ℕ → List Entry
-owed h history None = []
-owed h history (Some cursor) = filter (visible h) (drop cursor history)
+owed handle history None = []
+owed handle history (Some cursor) = filter (visible handle) (drop cursor history)
 
 -- more of them than the limit of a handle in delta mode
 abbrev pub is_past_limit : {S : Type 0} → OpenHandle S → List Entry → Bool
-is_past_limit h debt = is_delta_style (style h.kind) && nat_lt h.limit (length debt)
+is_past_limit handle debt = is_delta_style (style handle.kind) && nat_lt handle.limit (length debt)
 
 -- it reads, and it has not read yet or is owed something
 abbrev pub has_news : {S : Type 0} → OpenHandle S → List Entry → Option ℕ → Bool
-has_news h history cursor = h.reads && (is_none cursor || not (is_empty (owed h history cursor)))
+has_news handle history cursor = handle.reads && (is_none cursor || not (is_empty (owed handle history cursor)))
 
 -- ---- everything
 
@@ -40,45 +40,48 @@ abbrev pub alive_object : Machine → ℕ → Option LiveObject
 alive_object m number = option_and_then (known m.history) (find (λ o. o.number == number) m.objects)
 
 abbrev pub is_dead : {S : Type 0} → Machine → OpenHandle S → Bool
-is_dead m h = not (is_directory_kind h.kind) && is_none (alive_object m h.target)
+is_dead m handle = not (is_directory_kind handle.kind) && is_none (alive_object m handle.target)
 
 abbrev pub members_of_target : {S : Type 0} → Machine → OpenHandle S → List Member
-members_of_target m h =
-    if is_directory_kind h.kind then map member (alive_members m h.target)
-    else record { name = h.name; lines = map line_of (option_map_or (λ o. o.attributes) (alive_object m h.target) []) } ∷ []
+members_of_target m handle =
+    if is_directory_kind handle.kind then map member (alive_members m handle.target)
+    else record { name = handle.name; lines = map line_of (option_map_or (λ o. o.attributes) (alive_object m handle.target) []) } ∷ []
 
 -- ---- the answer
 
 -- at the first read, past the limit, and in full mode with news
 abbrev pub takes_everything : {S : Type 0} → OpenHandle S → List Entry → Option ℕ → Bool
-takes_everything h debt cursor = is_none cursor || is_past_limit h debt || (is_full_style (style h.kind) && not (is_empty debt))
+takes_everything handle debt cursor =
+    is_none cursor || is_past_limit handle debt || (is_full_style (style handle.kind) && not (is_empty debt))
 
 -- Everything; or else the longest run of whole owed blocks that fits; or else that the object is gone, that the read waits, or nothing.
 abbrev pub answer_with : {S : Type 0} → OpenHandle S → List Entry → Option ℕ → List ℕ → Bool → ℕ → Answer
-answer_with h history cursor everything dead max =
-    if takes_everything h (owed h history cursor) cursor then whole_answer everything max
-    else owed_answer h.options.wait (map (block h) (owed h history cursor)) dead max
+answer_with handle history cursor everything dead max =
+    if takes_everything handle (owed handle history cursor) cursor then whole_answer everything max
+    else owed_answer handle.options.wait (map (block handle) (owed handle history cursor)) dead max
 
 abbrev pub answer_of : Machine → OpenHandle (Option ℕ) → ℕ → Answer
-answer_of m h max =
-    answer_with h m.history h.seen (everything_of h.kind h.options.filter (is_past_limit h (owed h m.history h.seen)) (not (is_dead m h)) (members_of_target m h)) (is_dead m h) max
+answer_of m handle max =
+    answer_with handle m.history handle.seen
+    (everything_of handle.kind handle.options.filter (is_past_limit handle (owed handle m.history handle.seen)) (not (is_dead m handle)) (members_of_target m handle)) (is_dead m handle) max
 
 -- ---- how much a handle is owed
 
 -- none of no such handle, of one in full mode, of one without a cursor and of one past its limit
 abbrev pub owed_by : Machine → ℕ → Option ℕ
-owed_by m number = option_and_then (λ h. counted h (is_some h.seen && not (is_full_style (style h.kind)) && not (is_past_limit h (owed h m.history h.seen)))) (find (λ h. h.number == number) m.handles)
+owed_by m number =
+    option_and_then (λ handle. counted handle (is_some handle.seen && not (is_full_style (style handle.kind)) && not (is_past_limit handle (owed handle m.history handle.seen)))) (find (λ handle. handle.number == number) m.handles)
   where
     counted : OpenHandle (Option ℕ) → Bool → Option ℕ
-    counted h counts = if counts then Some (length (owed h m.history h.seen)) else None
+    counted handle counts = if counts then Some (length (owed handle m.history handle.seen)) else None
 
 abbrev pub owed_in_seen : OpenHandle Progress → Progress → Option ℕ
-owed_in_seen h (Owed rest) = Some (length (filter (visible h) rest))
-owed_in_seen h seen = None
+owed_in_seen handle (Owed rest) = Some (length (filter (visible handle) rest))
+owed_in_seen handle seen = None
 
 -- the same, of what stands
 abbrev pub owed_by_seen : Content → ℕ → Option ℕ
-owed_by_seen c number = option_and_then (λ h. owed_in_seen h h.seen) (handle_numbered c number)
+owed_by_seen c number = option_and_then (λ handle. owed_in_seen handle handle.seen) (handle_numbered c number)
 
 -- ---- how much is kept
 
@@ -94,8 +97,8 @@ first_place test n (e ∷ es) = if test e then Some n else first_place test (n +
 
 -- the place of the first record that it is owed
 abbrev pub first_owed : {S : Type 0} → OpenHandle S → List Entry → Option ℕ → Option ℕ
-first_owed h history None = None
-first_owed h history (Some cursor) = first_place (visible h) cursor (drop cursor history)
+first_owed handle history None = None
+first_owed handle history (Some cursor) = first_place (visible handle) cursor (drop cursor history)
 
 abbrev pub older : Option ℕ → Option ℕ → Option ℕ
 older None b = b
@@ -108,13 +111,15 @@ same_flag false b = not b
 
 -- a handle in delta mode, or a names handle, of that directory or object
 abbrev pub is_of : {S : Type 0} → Bool → ℕ → OpenHandle S → Bool
-is_of directory target h = is_delta_style (style h.kind) && same_flag (is_directory_kind h.kind) directory && (h.target == target)
+is_of directory target handle =
+    is_delta_style (style handle.kind) && same_flag (is_directory_kind handle.kind) directory && (handle.target == target)
 
 -- the place of the oldest record that is owed to one of them that is not past its limit
 abbrev pub oldest : Bool → ℕ → List Entry → List (OpenHandle (Option ℕ)) → Option ℕ
 oldest directory target history [] = None
-oldest directory target history (h ∷ hs) =
-    older (if is_of directory target h && not (is_past_limit h (owed h history h.seen)) then first_owed h history h.seen else None) (oldest directory target history hs)
+oldest directory target history (handle ∷ handles) =
+    older (if is_of directory target handle && not (is_past_limit handle (owed handle history handle.seen)) then first_owed handle history handle.seen else None)
+    (oldest directory target history handles)
 
 -- the records of a directory or an object from a place in the history on
 abbrev pub records_from : Bool → ℕ → List Entry → Option ℕ → List Entry
@@ -146,7 +151,8 @@ rest_seen _ = []
 -- the length of the longest rest
 abbrev pub longest : Bool → ℕ → List (OpenHandle Progress) → ℕ
 longest directory target [] = 0
-longest directory target (h ∷ hs) = max (if is_of directory target h then length (rest_seen h.seen) else 0) (longest directory target hs)
+longest directory target (handle ∷ handles) =
+    max (if is_of directory target handle then length (rest_seen handle.seen) else 0) (longest directory target handles)
 
 abbrev pub kept_seen : Content → Path → Option ℕ
 kept_seen c path = option_map (kept_at (λ directory target. longest directory target c.handles)) (at c path)
@@ -158,7 +164,8 @@ longer first second = if nat_lt (length first) (length second) then second else 
 -- the longest rest of the delta and names handles of that directory or object
 abbrev pub longest_rest : Bool → ℕ → List (OpenHandle Progress) → List Entry
 longest_rest directory target [] = []
-longest_rest directory target (h ∷ hs) = longer (if is_of directory target h then rest_seen h.seen else []) (longest_rest directory target hs)
+longest_rest directory target (handle ∷ handles) =
+    longer (if is_of directory target handle then rest_seen handle.seen else []) (longest_rest directory target handles)
 
 -- the records of an object or a directory that have to be kept
 abbrev pub kept_records_seen : Content → Bool → ℕ → List Entry

@@ -64,10 +64,10 @@ module _ {X : Type 0} where
 
 -- the handle of that number
 abbrev pub on_numbered : {S : Type 0} → ℕ → (OpenHandle S → OpenHandle S) → List (OpenHandle S) → List (OpenHandle S)
-on_numbered number change handles = on_first (λ h. h.number == number) change handles
+on_numbered number change handles = on_first (λ handle. handle.number == number) change handles
 
 abbrev pub without_number : {S : Type 0} → ℕ → List (OpenHandle S) → List (OpenHandle S)
-without_number number handles = without_first (λ h. h.number == number) handles
+without_number number handles = without_first (λ handle. handle.number == number) handles
 
 -- the connection of that number, and its queue
 abbrev pub requeued : (List Item → List Item) → Connection → Connection
@@ -93,13 +93,13 @@ creation o = entry_of o Created None
 
 -- a record is offered to a handle
 abbrev pub offered : {S : Type 0} → OpenHandle S → Entry → Progress → Progress
-offered h e (News b) = News (b || visible h e)
-offered h e Unread = Unread
-offered h e Over = Over
-offered h e (Owed rest) = seen_of h (if keeps h e then pushed (visible h) e rest else rest)
+offered handle e (News b) = News (b || visible handle e)
+offered handle e Unread = Unread
+offered handle e Over = Over
+offered handle e (Owed rest) = seen_of handle (if keeps handle e then pushed (visible handle) e rest else rest)
 
 abbrev pub offer : Entry → OpenHandle Progress → OpenHandle Progress
-offer e = reseen (λ h. offered h e h.seen)
+offer e = reseen (λ handle. offered handle e handle.seen)
 
 abbrev pub still_known : LiveObject → Kind → Option LiveObject
 still_known o Deleted = None
@@ -110,28 +110,30 @@ abbrev pub touched : Entry → LiveObject → Option LiveObject
 touched e o = if e.record_of.object == o.object.number then still_known o e.record_of.kind else Some o
 
 abbrev pub caught_up : {S : Type 0} → OpenHandle S → Progress
-caught_up h = seen_of h []
+caught_up handle = seen_of handle []
 
 abbrev pub left : {S : Type 0} → OpenHandle S → ℕ → Progress → Progress
-left h count (Owed rest) = seen_of h (from_first (visible h) (past (visible h) count rest))
-left h count seen = seen
+left handle count (Owed rest) = seen_of handle (from_first (visible handle) (past (visible handle) count rest))
+left handle count seen = seen
 
 -- a server's or client's queue begins behind its own opening
 abbrev pub first_seen : {S : Type 0} → OpenHandle S → Style → Progress
-first_seen h Queue = seen_of h []
-first_seen h kind = unread kind h.reads
+first_seen handle Queue = seen_of handle []
+first_seen handle kind = unread kind handle.reads
 
 abbrev pub apply_seen : Move → Content → Content
 apply_seen (Attaches conn) c = record c { connections = with_connection conn c.connections }
 apply_seen (Leaves conn) c = record c { connections = without_connection conn c.connections }
 apply_seen (Creates o) c = record c { records = c.records + 1; objects = c.objects ++ record { object = o; attributes = [] } ∷ []; next_object = c.next_object + 1; handles = map (offer (creation o)) c.handles }
 apply_seen (AppendsRecord e) c = record c { records = c.records + 1; objects = filter_map (touched e) c.objects; handles = map (offer e) c.handles }
-apply_seen (Opens h) c = record c { handles = c.handles ++ reseen (λ h. first_seen h (style h.kind)) h ∷ []; next_handle = c.next_handle + 1 }
+apply_seen (Opens handle) c =
+    record c { handles = c.handles ++ reseen (λ handle. first_seen handle (style handle.kind)) handle ∷ []; next_handle = c.next_handle + 1 }
 apply_seen (Closes number) c = record c { handles = without_number number c.handles }
 apply_seen (CatchesUp number) c = record c { handles = on_numbered number (reseen caught_up) c.handles }
-apply_seen (Advances number count) c = record c { handles = on_numbered number (reseen (λ h. left h count h.seen)) c.handles }
-apply_seen (Parks number size) c = record c { handles = on_numbered number (λ h. record h { parked = size }) c.handles }
-apply_seen (Arms number pulse) c = record c { handles = on_numbered number (λ h. record h { armed = pulse }) c.handles }
+apply_seen (Advances number count) c =
+    record c { handles = on_numbered number (reseen (λ handle. left handle count handle.seen)) c.handles }
+apply_seen (Parks number size) c = record c { handles = on_numbered number (λ handle. record handle { parked = size }) c.handles }
+apply_seen (Arms number pulse) c = record c { handles = on_numbered number (λ handle. record handle { armed = pulse }) c.handles }
 apply_seen (Queues conn item) c = record c { connections = on_connection conn (λ items. items ++ item ∷ []) c.connections }
 apply_seen (Takes conn) c = record c { connections = on_connection conn behind_first c.connections }
 apply_seen (MakesDirectory path) c = record c { directories = c.directories ++ record { number = c.next_directory; path = path } ∷ []; next_directory = c.next_directory + 1 }
@@ -197,10 +199,10 @@ found_object c spec = if spec.all then None else object_at c spec.names
 -- ---- Read
 
 abbrev pub read_effect : OpenHandle Progress → ℕ → Answer → Outcome × List Move
-read_effect h size (Everything text) = (Data text, CatchesUp h.number ∷ [])
-read_effect h size (Blocks count text) = (Data text, Advances h.number count ∷ [])
-read_effect h size Waits = (Parked, Parks h.number (Some size) ∷ [])
-read_effect h size _ = (Data [], [])
+read_effect handle size (Everything text) = (Data text, CatchesUp handle.number ∷ [])
+read_effect handle size (Blocks count text) = (Data text, Advances handle.number count ∷ [])
+read_effect handle size Waits = (Parked, Parks handle.number (Some size) ∷ [])
+read_effect handle size _ = (Data [], [])
 
 -- ---- Write
 
@@ -209,33 +211,35 @@ sent (OneClient id) lines = ToClient id lines
 sent _ lines = ToAll lines
 
 abbrev pub written_kind : Content → OpenHandle Progress → HandleKind → WriteText → Kind
-written_kind c h ServerHandle text = sent (addressee h.name text.header) (map message_line text.lines)
-written_kind c h ClientHandle text = FromClient h.number (map message_line text.lines)
-written_kind c h _ text = Change (resolve (attributes_of c h.target) text.lines)
+written_kind c handle ServerHandle text = sent (addressee handle.name text.header) (map message_line text.lines)
+written_kind c handle ClientHandle text = FromClient handle.number (map message_line text.lines)
+written_kind c handle _ text = Change (resolve (attributes_of c handle.target) text.lines)
 
 -- a record of the target, where it is alive
 abbrev pub on_target : Content → OpenHandle Progress → Kind → Option ℕ → List Move
-on_target c h kind writer = option_map_or (λ o. AppendsRecord (entry_of o.object kind writer) ∷ []) (object_numbered c h.target) []
+on_target c handle kind writer =
+    option_map_or (λ o. AppendsRecord (entry_of o.object kind writer) ∷ []) (object_numbered c handle.target) []
 
 abbrev pub writing : Content → OpenHandle Progress → WriteText → List Move
-writing c h text = if is_empty text.lines then [] else on_target c h (written_kind c h h.kind text) (Some h.number)
+writing c handle text = if is_empty text.lines then [] else on_target c handle (written_kind c handle handle.kind text) (Some handle.number)
 
 -- ---- Close and Detach
 
 abbrev pub parting : Content → OpenHandle Progress → HandleKind → List Move
-parting c h ServerHandle = on_target c h Deleted None
-parting c h ClientHandle = on_target c h (Closed h.number) None
-parting c h (ObjectHandle delta) = if h.options.critical && h.writes then on_target c h Dropped None else []
-parting c h _ = []
+parting c handle ServerHandle = on_target c handle Deleted None
+parting c handle ClientHandle = on_target c handle (Closed handle.number) None
+parting c handle (ObjectHandle delta) = if handle.options.critical && handle.writes then on_target c handle Dropped None else []
+parting c handle _ = []
 
 -- a parked read ends with the handle, before anything that the close tells others
 abbrev pub closing : Content → OpenHandle Progress → List Move
-closing c h = Closes h.number ∷ (if is_some h.parked then Queues h.connection (ReadDone h.number (Err BadHandle)) ∷ [] else []) ++ parting c h h.kind
+closing c handle =
+    Closes handle.number ∷ (if is_some handle.parked then Queues handle.connection (ReadDone handle.number (Err BadHandle)) ∷ [] else []) ++ parting c handle handle.kind
 
 -- one after the other, each where those before it took effect
 abbrev pub closings : Content → List (OpenHandle Progress) → List Move
 closings c [] = []
-closings c (h ∷ hs) = closing c h ++ closings (apply_all_seen (closing c h) c) hs
+closings c (handle ∷ handles) = closing c handle ++ closings (apply_all_seen (closing c handle) c) handles
 
 -- ---- paths
 
@@ -273,40 +277,41 @@ unfoldable pub effect : Content → ℕ → Request → Outcome × List Move
 effect c conn Attach = (Done, Attaches conn ∷ [])
 effect c conn Detach = (Done, closings c (handles_of c conn) ++ Leaves conn ∷ [])
 effect c conn (OpenRequest mode text) = with_result (open_text text) (λ spec. (OpenedHandle c.next_handle, opening c conn mode spec (found_object c spec)))
-effect c conn (Read handle size) = with_handle c conn handle (λ h. read_effect h size (read_answer c h size))
-effect c conn (Write handle bytes) = with_handle c conn handle (λ h. with_result (write_text bytes) (λ text. (Wrote (length bytes), writing c h text)))
-effect c conn (Close handle) = with_handle c conn handle (λ h. (Done, closing c h))
+effect c conn (Read number size) = with_handle c conn number (λ handle. read_effect handle size (read_answer c handle size))
+effect c conn (Write number bytes) =
+    with_handle c conn number (λ handle. with_result (write_text bytes) (λ text. (Wrote (length bytes), writing c handle text)))
+effect c conn (Close number) = with_handle c conn number (λ handle. (Done, closing c handle))
 effect c conn (Unlink path) = with_path path (λ names. (Done, unlinking (object_at c names) (directory_at c names)))
 effect c conn (Mkdir path) = with_path path (λ names. (Done, MakesDirectory names ∷ []))
 effect c conn (ListRequest path) = with_path path (λ names. (Data (listing c names), []))
-effect c conn (Notify handle action code value) =
-    with_handle c conn handle (λ h. (Input (news h), Arms h.number (if arms action (news h) then Some (code, value) else None) ∷ []))
+effect c conn (Notify number action code value) =
+    with_handle c conn number (λ handle. (Input (news handle), Arms handle.number (if arms action (news handle) then Some (code, value) else None) ∷ []))
 effect c conn Receive = received conn (first_of (queue_of c conn))
 
 -- ---- what follows
 
 abbrev pub fired : {S : Type 0} → OpenHandle S → List Move
-fired h = option_map_or (λ pulse. Arms h.number None ∷ Queues h.connection (Pulse pulse.0 pulse.1) ∷ []) h.armed []
+fired handle = option_map_or (λ pulse. Arms handle.number None ∷ Queues handle.connection (Pulse pulse.0 pulse.1) ∷ []) handle.armed []
 
 abbrev pub ended : {S : Type 0} → OpenHandle S → Result (List ℕ) Refusal → List Move
-ended h result = Parks h.number None ∷ Queues h.connection (ReadDone h.number result) ∷ []
+ended handle result = Parks handle.number None ∷ Queues handle.connection (ReadDone handle.number result) ∷ []
 
 abbrev pub late_reply : {S : Type 0} → OpenHandle S → Answer → List Move
-late_reply h (Everything text) = CatchesUp h.number ∷ ended h (Ok text)
-late_reply h (Blocks count text) = Advances h.number count ∷ ended h (Ok text)
-late_reply h (Needs need) = ended h (Err (TooSmall need))
-late_reply h _ = []
+late_reply handle (Everything text) = CatchesUp handle.number ∷ ended handle (Ok text)
+late_reply handle (Blocks count text) = Advances handle.number count ∷ ended handle (Ok text)
+late_reply handle (Needs need) = ended handle (Err (TooSmall need))
+late_reply handle _ = []
 
 -- the parked read is answered by what stands after the event
 abbrev pub late_replies : Content → OpenHandle Progress → List Move
-late_replies c h = option_map_or (λ size. late_reply h (read_answer c h size)) h.parked []
+late_replies c handle = option_map_or (λ size. late_reply handle (read_answer c handle size)) handle.parked []
 
 abbrev pub had_news : Content → OpenHandle Progress → Bool
-had_news before h = option_map_or news (handle_numbered before h.number) false
+had_news before handle = option_map_or news (handle_numbered before handle.number) false
 
 -- a handle's pulse comes before its late reply
 abbrev pub settling_handle : Content → Content → OpenHandle Progress → List Move
-settling_handle before c h = if not (had_news before h) && news h then fired h ++ late_replies c h else []
+settling_handle before c handle = if not (had_news before handle) && news handle then fired handle ++ late_replies c handle else []
 
 -- each handle, in rising number, that had no news before and has some now
 unfoldable pub settling : Content → Content → List Move

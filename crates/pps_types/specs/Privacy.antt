@@ -20,16 +20,17 @@ use Rattle.pps_types.specs.Runs.{Answered, after_answered}
 -- ---- foreign events
 
 abbrev pub on_kind : Content → ℕ → (HandleKind → Bool) → Bool
-on_kind c number test = option_map_or (λ h. test h.kind) (handle_numbered c number) false
+on_kind c number test = option_map_or (λ handle. test handle.kind) (handle_numbered c number) false
 
 -- the addressee is an open client of another connection
 abbrev pub is_elsewhere : Content → ℕ → ℕ → Addressee → Bool
-is_elsewhere c conn object (OneClient id) = list_any (λ h. not (h.connection == conn)) (meant c object (OneClient id))
+is_elsewhere c conn object (OneClient id) = list_any (λ handle. not (handle.connection == conn)) (meant c object (OneClient id))
 is_elsewhere c conn object _ = false
 
 -- a server's message to one client of another connection, by its first line alone, also where a later line is bad
 abbrev pub names_other : Content → ℕ → List ℕ → OpenHandle Progress → Bool
-names_other c conn bytes h = is_server h.kind && is_elsewhere c conn h.target (addressee h.name (header_of (lines_of bytes)))
+names_other c conn bytes handle =
+    is_server handle.kind && is_elsewhere c conn handle.target (addressee handle.name (header_of (lines_of bytes)))
 
 -- what others do that isn't told to the connection
 abbrev pub is_others_own : ℕ → Content → Request → Bool
@@ -53,7 +54,7 @@ shared_events conn m (x ∷ xs) = unless (is_foreign conn (content_of m) x.event
 -- ---- quiet runs
 
 abbrev pub holds_server : ℕ → Content → Bool
-holds_server conn c = list_any (λ h. (h.connection == conn) && is_server h.kind) c.handles
+holds_server conn c = list_any (λ handle. (handle.connection == conn) && is_server handle.kind) c.handles
 
 abbrev pub is_backlogged : Reply → Bool
 is_backlogged (Err (Backlogged handle)) = true

@@ -36,7 +36,8 @@ pub record OpenHandle (S : Type 0) : Type 0 where
 
 -- the same open, with another thing known of what it has seen
 abbrev pub reseen : {S T : Type 0} → (OpenHandle S → T) → OpenHandle S → OpenHandle T
-reseen see h = record { number = h.number; connection = h.connection; target = h.target; name = h.name; kind = h.kind; reads = h.reads; writes = h.writes; options = h.options; limit = h.limit; seen = see h; parked = h.parked; armed = h.armed }
+reseen see handle =
+    record { number = handle.number; connection = handle.connection; target = handle.target; name = handle.name; kind = handle.kind; reads = handle.reads; writes = handle.writes; options = handle.options; limit = handle.limit; seen = see handle; parked = handle.parked; armed = handle.armed }
 
 abbrev pub is_object_kind : HandleKind → Bool
 is_object_kind (ObjectHandle delta) = true
@@ -133,10 +134,10 @@ print_shown name (Some s) = print_header s.mark (name ++ s.suffix) ++ print_line
 
 -- what a record of the object of that name looks like to a handle
 abbrev pub block_of : {S : Type 0} → OpenHandle S → List ℕ → Kind → List ℕ
-block_of h name kind = print_shown name (shown h.kind h.number h.options.filter kind)
+block_of handle name kind = print_shown name (shown handle.kind handle.number handle.options.filter kind)
 
 abbrev pub block : {S : Type 0} → OpenHandle S → Entry → List ℕ
-block h e = block_of h e.name e.record_of.kind
+block handle e = block_of handle e.name e.record_of.kind
 
 -- ---- which records a handle is given
 
@@ -145,14 +146,16 @@ is_writer number writer = option_map_or (λ w. w == number) writer false
 
 -- of the records of its target: not its own, unless it is an object's handle that reflects, and none without a block
 abbrev pub sees : {S : Type 0} → OpenHandle S → Record → Bool
-sees h r = h.reads && (not (is_writer h.number r.writer) || (h.options.reflect && is_object_kind h.kind)) && is_some (shown h.kind h.number h.options.filter r.kind)
+sees handle r =
+    handle.reads && (not (is_writer handle.number r.writer) || (handle.options.reflect && is_object_kind handle.kind))
+    && is_some (shown handle.kind handle.number handle.options.filter r.kind)
 
 -- a record of the target, or of an object directly in it
 abbrev pub concerns : {S : Type 0} → OpenHandle S → Entry → Bool
-concerns h e = if is_directory_kind h.kind then e.directory == h.target else e.record_of.object == h.target
+concerns handle e = if is_directory_kind handle.kind then e.directory == handle.target else e.record_of.object == handle.target
 
 abbrev pub visible : {S : Type 0} → OpenHandle S → Entry → Bool
-visible h e = concerns h e && sees h e.record_of
+visible handle e = concerns handle e && sees handle e.record_of
 
 -- the records of a directory or an object that are kept for those who subscribe to it in delta mode
 abbrev pub is_chained : HandleKind → Kind → Bool

@@ -16,7 +16,7 @@ pub data Progress : Type 0 where
 -- What is owed, and what stands between in the target's kept records. A target has one list for all its handles in delta mode, so that
 -- their rests are ends of one list: this is why the rest of a names handle holds a Change, which it is never shown.
 abbrev pub keeps : {S : Type 0} → OpenHandle S → Entry → Bool
-keeps h e = visible h e || (concerns h e && is_chained h.kind e.record_of.kind)
+keeps handle e = visible handle e || (concerns handle e && is_chained handle.kind e.record_of.kind)
 
 -- ---- lists that are read from the front
 
@@ -52,10 +52,10 @@ stand Delta reads over rest = if over then Over else Owed rest
 stand Queue reads over rest = Owed rest
 
 abbrev pub over_limit : {S : Type 0} → OpenHandle S → List Entry → Bool
-over_limit h rest = nat_lt h.limit (length (filter (visible h) rest))
+over_limit handle rest = nat_lt handle.limit (length (filter (visible handle) rest))
 
 abbrev pub seen_of : {S : Type 0} → OpenHandle S → List Entry → Progress
-seen_of h rest = stand (style h.kind) h.reads (over_limit h rest) rest
+seen_of handle rest = stand (style handle.kind) handle.reads (over_limit handle rest) rest
 
 -- before the first read
 abbrev pub unread : Style → Bool → Progress
@@ -65,16 +65,16 @@ unread Queue reads = Unread
 
 -- of the records from the cursor on: what is kept, from the first that is owed
 abbrev pub rest_of : {S : Type 0} → OpenHandle S → List Entry → List Entry
-rest_of h entries = from_first (visible h) (filter (keeps h) entries)
+rest_of handle entries = from_first (visible handle) (filter (keeps handle) entries)
 
 -- what a handle has seen that has this cursor in this history
 abbrev pub seen_with : {S : Type 0} → OpenHandle S → List Entry → Option ℕ → Progress
-seen_with h history None = unread (style h.kind) h.reads
-seen_with h history (Some cursor) = seen_of h (rest_of h (drop cursor history))
+seen_with handle history None = unread (style handle.kind) handle.reads
+seen_with handle history (Some cursor) = seen_of handle (rest_of handle (drop cursor history))
 
 abbrev pub owed_in : {S : Type 0} → OpenHandle S → Progress → List Entry
-owed_in h (Owed rest) = filter (visible h) rest
-owed_in h _ = []
+owed_in handle (Owed rest) = filter (visible handle) rest
+owed_in handle _ = []
 
 abbrev pub news_in : Bool → Progress → Bool
 news_in reads (News b) = b
@@ -90,8 +90,8 @@ is_over _ = false
 
 -- The answer to a read of max bytes, by what everything is, and whether the target is a dead object.
 abbrev pub answer : OpenHandle Progress → Progress → List ℕ → Bool → ℕ → Answer
-answer h (News true) everything dead max = whole_answer everything max
-answer h (News false) everything dead max = idle_answer dead h.options.wait
-answer h Unread everything dead max = whole_answer everything max
-answer h Over everything dead max = whole_answer everything max
-answer h (Owed rest) everything dead max = owed_answer h.options.wait (map (block h) (filter (visible h) rest)) dead max
+answer handle (News true) everything dead max = whole_answer everything max
+answer handle (News false) everything dead max = idle_answer dead handle.options.wait
+answer handle Unread everything dead max = whole_answer everything max
+answer handle Over everything dead max = whole_answer everything max
+answer handle (Owed rest) everything dead max = owed_answer handle.options.wait (map (block handle) (filter (visible handle) rest)) dead max

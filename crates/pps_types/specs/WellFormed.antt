@@ -20,7 +20,7 @@ RiseBetween low (n ∷ ns) high = (low ≤ n) × RiseBetween (n + 1) ns high
 
 -- All stand in rising number, below the number of the next one. Connections have the numbers 1 to 1,024.
 pub record AreInOrder (c : Content) : Type 0 where
-  pub handles_rise : RiseBetween 0 (map (λ h. h.number) c.handles) c.next_handle
+  pub handles_rise : RiseBetween 0 (map (λ handle. handle.number) c.handles) c.next_handle
   pub objects_rise : RiseBetween 0 (map (λ o. o.object.number) c.objects) c.next_object
   pub directories_rise : RiseBetween 0 (map (λ d. d.number) c.directories) c.next_directory
   pub connections_rise : RiseBetween 1 (map (λ x. x.number) c.connections) 1025
@@ -50,14 +50,14 @@ IsTarget c target false = target < c.next_object
 
 -- the connection of each handle is attached
 pub record AreHeld (c : Content) : Type 0 where
-  pub owners : AllByRecursion (λ h. is_attached c h.connection ≡ true) c.handles
-  pub targets : AllByRecursion (λ h. IsTarget c h.target (is_directory_kind h.kind)) c.handles
+  pub owners : AllByRecursion (λ handle. is_attached c handle.connection ≡ true) c.handles
+  pub targets : AllByRecursion (λ handle. IsTarget c handle.target (is_directory_kind handle.kind)) c.handles
 
 -- ---- servers
 
 -- the handle of that number is open, a server's, and on that object
 abbrev pub is_server_of : Content → ℕ → ℕ → Bool
-is_server_of c object number = option_map_or (λ h. is_server h.kind && (h.target == object)) (handle_numbered c number) false
+is_server_of c object number = option_map_or (λ handle. is_server handle.kind && (handle.target == object)) (handle_numbered c number) false
 
 abbrev pub has_server : Content → Object → Bool
 has_server c o = option_map_or (is_server_of c o.number) o.server true
@@ -78,7 +78,7 @@ may_be_on _ number server = true
 -- servers: the server of each server object is open. users: each handle is on an object for its kind, so no other server is on one.
 pub record AreServed (c : Content) : Type 0 where
   pub servers : AllByRecursion (λ o. has_server c o.object ≡ true) c.objects
-  pub users : AllByRecursion (λ h. may_be_on h.kind h.number (server_of c h.target) ≡ true) c.handles
+  pub users : AllByRecursion (λ handle. may_be_on handle.kind handle.number (server_of c handle.target) ≡ true) c.handles
 
 -- ---- what handles have seen
 
@@ -94,8 +94,8 @@ fits Queue s = true
 
 -- what it is owed is within its limit, where it has one
 abbrev pub IsWhole : {S : Type 0} → OpenHandle S → Progress → Type 0
-IsWhole h (Owed rest) = seen_of h rest ≡ Owed rest
-IsWhole h s = Unit {0}
+IsWhole handle (Owed rest) = seen_of handle rest ≡ Owed rest
+IsWhole handle s = Unit {0}
 
 -- what it is owed begins with a record that it sees
 abbrev pub begins : (Entry → Bool) → List Entry → Bool
@@ -103,19 +103,19 @@ begins test [] = true
 begins test (e ∷ es) = test e
 
 abbrev pub HasFirst : {S : Type 0} → OpenHandle S → Progress → Type 0
-HasFirst h (Owed rest) = begins (visible h) rest ≡ true
-HasFirst h s = Unit {0}
+HasFirst handle (Owed rest) = begins (visible handle) rest ≡ true
+HasFirst handle s = Unit {0}
 
 pub record AreTold (c : Content) : Type 0 where
-  pub fitting : AllByRecursion (λ h. fits (style h.kind) h.seen ≡ true) c.handles
-  pub whole : AllByRecursion (λ h. IsWhole h h.seen) c.handles
-  pub first : AllByRecursion (λ h. HasFirst h h.seen) c.handles
+  pub fitting : AllByRecursion (λ handle. fits (style handle.kind) handle.seen ≡ true) c.handles
+  pub whole : AllByRecursion (λ handle. IsWhole handle handle.seen) c.handles
+  pub first : AllByRecursion (λ handle. HasFirst handle handle.seen) c.handles
 
 -- ---- parked reads
 
 -- only a handle that waits has one, and only while it has no news
 pub record AreParked (c : Content) : Type 0 where
-  pub idle : AllByRecursion (λ h. is_some h.parked ≡ true → (h.options.wait ≡ true) × (news h ≡ false)) c.handles
+  pub idle : AllByRecursion (λ handle. is_some handle.parked ≡ true → (handle.options.wait ≡ true) × (news handle ≡ false)) c.handles
 
 -- ---- all of it
 

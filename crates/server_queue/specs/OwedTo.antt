@@ -6,10 +6,10 @@ use Rattle.pps_types.specs.Rests.{Progress}
 
 -- each is visible to the handle
 abbrev pub AllVisible : OpenHandle Progress → List Entry → Type 0
-AllVisible h [] = Unit {0}
-AllVisible h (e ∷ es) = (visible h e ≡ true) × AllVisible h es
+AllVisible handle [] = Unit {0}
+AllVisible handle (e ∷ es) = (visible handle e ≡ true) × AllVisible handle es
 
 -- these are owed to a server's or a client's handle
-pub record IsOwedTo (h : OpenHandle Progress) (owed : List Entry) : Type 0 where
-  pub kind : style h.kind ≡ Queue
-  pub seen : AllVisible h owed
+pub record IsOwedTo (handle : OpenHandle Progress) (owed : List Entry) : Type 0 where
+  pub kind : style handle.kind ≡ Queue
+  pub seen : AllVisible handle owed

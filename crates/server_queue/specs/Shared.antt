@@ -17,7 +17,7 @@ pub record Shared : Type 0 where
 
 -- how many of these handles are given a record
 abbrev pub seer_count : Entry → List (OpenHandle Progress) → ℕ
-seer_count e handles = length (filter (λ (h : OpenHandle Progress). visible h e) handles)
+seer_count e handles = length (filter (λ (handle : OpenHandle Progress). visible handle e) handles)
 
 -- a share for each of them
 abbrev pub shares_for : Entry → List (OpenHandle Progress) → Shared

@@ -15,5 +15,6 @@ pub record BoundsStay : Type 0 where
   pub stays : (c : Content) → IsContent c → IsBound c → (e : Event) → IsBound (step_seen c e).1
 
 pub record SizesFit : Type 0 where
-  pub needs : (c : Content) → IsBound c → (number : ℕ) (h : OpenHandle Progress) → handle_numbered c number ≡ Some h → (max need : ℕ) → read_answer c h max ≡ Needs need → need < 2 ^ 32
+  pub needs : (c : Content) → IsBound c → (number : ℕ) (handle : OpenHandle Progress) → handle_numbered c number ≡ Some handle
+      → (max need : ℕ) → read_answer c handle max ≡ Needs need → need < 2 ^ 32
   pub answers : (c : Content) → IsBound c → (e : Event) → IsSendable (step_seen c e).0

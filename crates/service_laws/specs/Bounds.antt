@@ -49,11 +49,11 @@ IsReadSize None = Unit {0}
 IsReadSize (Some size) = size ≤ 17000000
 
 -- a handle on a directory does not write
-pub record IsBoundHandle (h : OpenHandle Progress) : Type 0 where
-  pub name : length h.name ≤ 255
-  pub parked : IsReadSize h.parked
-  pub owed : AreShort h.seen
-  pub listens : is_directory_kind h.kind ≡ true → h.writes ≡ false
+pub record IsBoundHandle (handle : OpenHandle Progress) : Type 0 where
+  pub name : length handle.name ≤ 255
+  pub parked : IsReadSize handle.parked
+  pub owed : AreShort handle.seen
+  pub listens : is_directory_kind handle.kind ≡ true → handle.writes ≡ false
 
 abbrev pub IsBoundItem : Item → Type 0
 IsBoundItem (ReadDone handle (Ok bytes)) = length bytes ≤ 17000000

@@ -11,15 +11,15 @@ use Rattle.pps_types.specs.Plan.{Move, Closes, Queues, parting}
 
 -- the object's server is among the handles that closed before, and so it is dead
 abbrev pub server_closed : List (OpenHandle Progress) → ℕ → Bool
-server_closed before object = list_any (λ h. is_server h.kind && (h.target == object)) before
+server_closed before object = list_any (λ handle. is_server handle.kind && (handle.target == object)) before
 
 -- the closing of a handle behind these others
 abbrev pub closing_behind : Content → List (OpenHandle Progress) → OpenHandle Progress → List Move
-closing_behind c before h =
-    Closes h.number ∷ (if is_some h.parked then Queues h.connection (ReadDone h.number (Err BadHandle)) ∷ [] else [])
-    ++ (if server_closed before h.target then [] else parting c h h.kind)
+closing_behind c before handle =
+    Closes handle.number ∷ (if is_some handle.parked then Queues handle.connection (ReadDone handle.number (Err BadHandle)) ∷ [] else [])
+    ++ (if server_closed before handle.target then [] else parting c handle handle.kind)
 
 -- the closings of handles, each behind those before it and behind these others
 abbrev pub closings_behind : Content → List (OpenHandle Progress) → List (OpenHandle Progress) → List Move
 closings_behind c before [] = []
-closings_behind c before (h ∷ hs) = closing_behind c before h ++ closings_behind c (h ∷ before) hs
+closings_behind c before (handle ∷ handles) = closing_behind c before handle ++ closings_behind c (handle ∷ before) handles

@@ -11,7 +11,8 @@ use Rattle.service_laws.specs.Bounds.{IsShort, IsReadSize, IsBoundItem, crowd}
 abbrev pub IsFit : Content → Move → Type 0
 IsFit c (Creates o) = (length o.name ≤ 255) × (crowd c.objects o.directory < 256)
 IsFit c (AppendsRecord e) = IsShort e × AllByRecursion (λ (o : LiveObject). o.object.number ≡ e.record_of.object → text_length (after_kind o.attributes e.record_of.kind) ≤ 65536) c.objects
-IsFit c (Opens h) = (c.next_handle < 4294967296) × (length h.name ≤ 255) × (h.parked ≡ None) × (is_directory_kind h.kind ≡ true → h.writes ≡ false)
+IsFit c (Opens handle) =
+    (c.next_handle < 4294967296) × (length handle.name ≤ 255) × (handle.parked ≡ None) × (is_directory_kind handle.kind ≡ true → handle.writes ≡ false)
 IsFit c (Parks number size) = IsReadSize size
 IsFit c (Queues conn item) = IsBoundItem item
 IsFit c (MakesDirectory path) = (length (last_name path) ≤ 255) × ((p : Path) → same_path (parent path) p ≡ true → length (subdirectories c p) < 256)

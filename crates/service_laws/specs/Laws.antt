@@ -56,15 +56,19 @@ pub record ImagesStart : Type 0 where
 
 -- what stands of a handle says whether it has news and is past its limit, and what it is owed
 pub record HandlesAreTold : Type 0 where
-  pub news : (h : OpenHandle (Option ℕ)) (history : List Entry) → news_in h.reads (seen_with h history h.seen) ≡ has_news h history h.seen
-  pub over : (h : OpenHandle (Option ℕ)) (history : List Entry) → is_over (seen_with h history h.seen) ≡ is_past_limit h (owed h history h.seen)
-  pub owes : (h : OpenHandle (Option ℕ)) (history : List Entry) → is_full_style (style h.kind) ≡ false → is_past_limit h (owed h history h.seen) ≡ false
-      → owed_in h (seen_with h history h.seen) ≡ owed h history h.seen
+  pub news : (handle : OpenHandle (Option ℕ)) (history : List Entry)
+      → news_in handle.reads (seen_with handle history handle.seen) ≡ has_news handle history handle.seen
+  pub over : (handle : OpenHandle (Option ℕ)) (history : List Entry)
+      → is_over (seen_with handle history handle.seen) ≡ is_past_limit handle (owed handle history handle.seen)
+  pub owes : (handle : OpenHandle (Option ℕ)) (history : List Entry) → is_full_style (style handle.kind) ≡ false
+      → is_past_limit handle (owed handle history handle.seen) ≡ false
+      → owed_in handle (seen_with handle history handle.seen) ≡ owed handle history handle.seen
   pub count : (m : Machine) (number : ℕ) → owed_by_seen (content_of m) number ≡ owed_by m number
 
 -- what stands says what each read answers
 abbrev pub AnswersAreTold : Type 0
-AnswersAreTold = (m : Machine) (h : OpenHandle (Option ℕ)) (max : ℕ) → h.reads ≡ true → read_answer (content_of m) (shown_handle m.history h) max ≡ answer_of m h max
+AnswersAreTold =
+    (m : Machine) (handle : OpenHandle (Option ℕ)) (max : ℕ) → handle.reads ≡ true → read_answer (content_of m) (shown_handle m.history handle) max ≡ answer_of m handle max
 
 -- what stands says how many records have to be kept
 abbrev pub KeptIsTold : Type 0
@@ -85,9 +89,9 @@ RefusalsKeep = (m : Machine) (e : Event) (r : Refusal) → (step m e).0 ≡ Err 
 
 -- one more record is owed to the handles that see it, behind all else; and without a cursor nothing is owed
 pub record DebtsGrow : Type 0 where
-  pub record_more : (h : OpenHandle (Option ℕ)) (history : List Entry) (e : Entry) (cursor : ℕ) → cursor ≤ length history
-      → owed h (history ++ e ∷ []) (Some cursor) ≡ owed h history (Some cursor) ++ (if visible h e then e ∷ [] else [])
-  pub no_cursor : (h : OpenHandle (Option ℕ)) (history : List Entry) → owed h history None ≡ []
+  pub record_more : (handle : OpenHandle (Option ℕ)) (history : List Entry) (e : Entry) (cursor : ℕ) → cursor ≤ length history
+      → owed handle (history ++ e ∷ []) (Some cursor) ≡ owed handle history (Some cursor) ++ (if visible handle e then e ∷ [] else [])
+  pub no_cursor : (handle : OpenHandle (Option ℕ)) (history : List Entry) → owed handle history None ≡ []
 
 -- ---- private traffic
 

@@ -39,9 +39,9 @@ is_addressed ServerHandle name text = is_somebody (addressee name text.header)
 is_addressed kind name text = true
 
 -- the object that is written is alive
-pub record IsWritten (c : Content) (h : OpenHandle Progress) (text : WriteText) : Type 0 where
-  pub alive : target_is_dead c h ≡ false
-  pub addressed : is_addressed h.kind h.name text ≡ true
+pub record IsWritten (c : Content) (handle : OpenHandle Progress) (text : WriteText) : Type 0 where
+  pub alive : target_is_dead c handle ≡ false
+  pub addressed : is_addressed handle.kind handle.name text ≡ true
 
 -- the directory that is opened, or the one above the object
 abbrev pub has_place : Content → OpenSpec → Bool
@@ -49,10 +49,10 @@ has_place c spec = is_some (if spec.all then directory_at c spec.names else dire
 
 abbrev pub IsThere : Content → ℕ → Request → Type 0
 IsThere c conn (OpenRequest mode text) = IsRead (open_text text) (λ spec. has_place c spec ≡ true)
-IsThere c conn (Read handle size) = IsFound (own_handle c conn handle) (λ h. is_told (read_answer c h size) ≡ true)
-IsThere c conn (Write handle bytes) = IsFound (own_handle c conn handle) (λ h. IsRead (write_text bytes) (IsWritten c h))
-IsThere c conn (Close handle) = IsFound (own_handle c conn handle) (λ h. Unit {0})
-IsThere c conn (Notify handle action code value) = IsFound (own_handle c conn handle) (λ h. Unit {0})
+IsThere c conn (Read number size) = IsFound (own_handle c conn number) (λ handle. is_told (read_answer c handle size) ≡ true)
+IsThere c conn (Write number bytes) = IsFound (own_handle c conn number) (λ handle. IsRead (write_text bytes) (IsWritten c handle))
+IsThere c conn (Close number) = IsFound (own_handle c conn number) (λ handle. Unit {0})
+IsThere c conn (Notify number action code value) = IsFound (own_handle c conn number) (λ handle. Unit {0})
 IsThere c conn (Unlink path) = IsFound (path_text path) (λ names. (directory_at c names ≡ None) → is_some (object_at c names) ≡ true)
 IsThere c conn (Mkdir path) = IsFound (path_text path) (λ names. is_some (directory_at c (parent names)) ≡ true)
 IsThere c conn (ListRequest path) = IsFound (path_text path) (λ names. is_some (directory_at c names) ≡ true)

@@ -22,72 +22,80 @@ use Rattle.pps_types.specs.Owed.{owed, is_past_limit, has_news, answer_of}
 
 -- the connection's handle of that number
 abbrev pub own_handle : Machine → ℕ → ℕ → Option (OpenHandle (Option ℕ))
-own_handle m conn number = find (λ h. (h.number == number) && (h.connection == conn)) m.handles
+own_handle m conn number = find (λ handle. (handle.number == number) && (handle.connection == conn)) m.handles
 
 -- a cursor from which a handle is owed what it was owed but for the first n
 abbrev pub IsPast : OpenHandle (Option ℕ) → List Entry → ℕ → ℕ → Type 0
-IsPast h history n cursor = owed h history (Some cursor) ≡ drop n (owed h history h.seen)
+IsPast handle history n cursor = owed handle history (Some cursor) ≡ drop n (owed handle history handle.seen)
 
 -- What an accepted read of that size is told by its answer, and the handle that it leaves. After everything the cursor is at the end of the
 -- history, and after n blocks past the first n records that were owed. A read that waits is parked; one that gives nothing leaves all.
 abbrev pub IsReadAs : Machine → OpenHandle (Option ℕ) → ℕ → Answer → Outcome → OpenHandle (Option ℕ) → Type 0
-IsReadAs m h size (Everything text) outcome after = (outcome ≡ Data text) × (after ≡ record h { seen = Some (length m.history) })
-IsReadAs m h size (Blocks n text) outcome after = (outcome ≡ Data text) × ((cursor : ℕ) × IsPast h m.history n cursor × (after ≡ record h { seen = Some cursor }))
-IsReadAs m h size Waits outcome after = (outcome ≡ Parked) × (after ≡ record h { parked = Some size })
-IsReadAs m h size Nothing outcome after = (outcome ≡ Data []) × (after ≡ h)
-IsReadAs m h size (Needs need) outcome after = ⊥
-IsReadAs m h size TargetGone outcome after = ⊥
+IsReadAs m handle size (Everything text) outcome after = (outcome ≡ Data text) × (after ≡ record handle { seen = Some (length m.history) })
+IsReadAs m handle size (Blocks n text) outcome after =
+    (outcome ≡ Data text) × ((cursor : ℕ) × IsPast handle m.history n cursor × (after ≡ record handle { seen = Some cursor }))
+IsReadAs m handle size Waits outcome after = (outcome ≡ Parked) × (after ≡ record handle { parked = Some size })
+IsReadAs m handle size Nothing outcome after = (outcome ≡ Data []) × (after ≡ handle)
+IsReadAs m handle size (Needs need) outcome after = ⊥
+IsReadAs m handle size TargetGone outcome after = ⊥
 
 -- the machine is the same but for that handle, which is found in its place, left as the answer says
-pub record ReadMoves (m : Machine) (h : OpenHandle (Option ℕ)) (size : ℕ) (outcome : Outcome) (next : Machine) : Type 0 where
+pub record ReadMoves (m : Machine) (handle : OpenHandle (Option ℕ)) (size : ℕ) (outcome : Outcome) (next : Machine) : Type 0 where
   pub after : OpenHandle (Option ℕ)
-  pub moved : IsReadAs m h size (answer_of m h size) outcome after
-  pub found : own_handle next h.connection h.number ≡ Some after
-  pub rest : next ≡ record m { handles = on_numbered h.number (λ g. after) m.handles }
+  pub moved : IsReadAs m handle size (answer_of m handle size) outcome after
+  pub found : own_handle next handle.connection handle.number ≡ Some after
+  pub rest : next ≡ record m { handles = on_numbered handle.number (λ g. after) m.handles }
 
 -- why its answer refuses a read: it needs more room, its object is gone, or no more may wait
 abbrev pub answer_refusal : Machine → OpenHandle (Option ℕ) → Answer → Option Refusal
-answer_refusal m h (Needs need) = Some (TooSmall need)
-answer_refusal m h TargetGone = Some Gone
-answer_refusal m h Waits = park_refusal (outbox_of (content_of m) h.connection) h.number
-answer_refusal m h _ = None
+answer_refusal m handle (Needs need) = Some (TooSmall need)
+answer_refusal m handle TargetGone = Some Gone
+answer_refusal m handle Waits = park_refusal (outbox_of (content_of m) handle.connection) handle.number
+answer_refusal m handle _ = None
 
 -- Why a read of that size is refused, if it is: the handle does not read, the size is not 1 to 17,000,000, a read is parked already,
 -- its answer refuses it, or the last number of all is passed. The first of these is the reason.
 abbrev pub read_refusal : Machine → OpenHandle (Option ℕ) → ℕ → Option Refusal
-read_refusal m h size =
-    option_or (if not h.reads then Some BadMode else if not (nat_le 1 size && nat_le size 17000000) then Some BadArgument else if is_some h.parked then Some ReadPending else answer_refusal m h (answer_of m h size))
+read_refusal m handle size =
+    option_or
+    (if not handle.reads then Some BadMode
+    else if not (nat_le 1 size && nat_le size 17000000) then Some BadArgument
+    else if is_some handle.parked then Some ReadPending
+    else answer_refusal m handle (answer_of m handle size))
     (if passes_last_number (content_of m) then Some TableFull else None)
 
 -- a refused read changes nothing
 abbrev pub ReadLeaves : Machine → OpenHandle (Option ℕ) → ℕ → Reply → Machine → Type 0
-ReadLeaves m h size (Err refusal) next = (read_refusal m h size ≡ Some refusal) × (next ≡ m)
-ReadLeaves m h size (Ok outcome) next = (read_refusal m h size ≡ None) × ReadMoves m h size outcome next
+ReadLeaves m handle size (Err refusal) next = (read_refusal m handle size ≡ Some refusal) × (next ≡ m)
+ReadLeaves m handle size (Ok outcome) next = (read_refusal m handle size ≡ None) × ReadMoves m handle size outcome next
 
 -- blocks: behind n blocks a handle is owed what it was owed but for the first n.
 -- everything: at the end of the history nothing is owed.
 -- reads: what each read of a handle of the connection's own replies and leaves.
 pub record CursorsMove : Type 0 where
-  pub blocks : (h : OpenHandle (Option ℕ)) (history : List Entry) (n : ℕ) (cursor : Option ℕ) → is_full_style (style h.kind) ≡ false → is_past_limit h (owed h history cursor) ≡ false
-      → owed h history (passed h history n cursor) ≡ drop n (owed h history cursor)
-  pub everything : (h : OpenHandle (Option ℕ)) (history : List Entry) → owed h history (Some (length history)) ≡ []
-  pub reads : (m : Machine) → IsMachine m → (conn number size : ℕ) (h : OpenHandle (Option ℕ)) → own_handle m conn number ≡ Some h
+  pub blocks : (handle : OpenHandle (Option ℕ)) (history : List Entry) (n : ℕ) (cursor : Option ℕ)
+      → is_full_style (style handle.kind) ≡ false → is_past_limit handle (owed handle history cursor) ≡ false
+      → owed handle history (passed handle history n cursor) ≡ drop n (owed handle history cursor)
+  pub everything : (handle : OpenHandle (Option ℕ)) (history : List Entry) → owed handle history (Some (length history)) ≡ []
+  pub reads : (m : Machine) → IsMachine m → (conn number size : ℕ) (handle : OpenHandle (Option ℕ)) → own_handle m conn number ≡ Some handle
       → let done = step m (record { conn = conn; request = Read number size }) in
-      ReadLeaves m h size done.0 done.1
+      ReadLeaves m handle size done.0 done.1
 
 -- ---- what follows an event
 
 -- whether the handle of that number had news; without such a handle there was none
 abbrev pub had_news_of : Machine → ℕ → Bool
-had_news_of before number = option_map_or (λ h. has_news h before.history h.seen) (find (λ h. h.number == number) before.handles) false
+had_news_of before number =
+    option_map_or (λ handle. has_news handle before.history handle.seen) (find (λ handle. handle.number == number) before.handles) false
 
 -- it had no news before, and has some now
 abbrev pub gets_news : Machine → Machine → OpenHandle (Option ℕ) → Bool
-gets_news before now h = not (had_news_of before h.number) && has_news h now.history h.seen
+gets_news before now handle = not (had_news_of before handle.number) && has_news handle now.history handle.seen
 
 -- a handle that gets news: first its pulse is queued and disarmed, then its parked read is given the machine's answer and ends
 abbrev pub follows_for : Machine → Machine → OpenHandle (Option ℕ) → List Move
-follows_for before now h = if gets_news before now h then fired h ++ option_map_or (λ size. late_reply h (answer_of now h size)) h.parked [] else []
+follows_for before now handle =
+    if gets_news before now handle then fired handle ++ option_map_or (λ size. late_reply handle (answer_of now handle size)) handle.parked [] else []
 
 -- for each handle, in order
 abbrev pub what_follows : Machine → Machine → List Move
@@ -98,26 +106,27 @@ what_follows before now = flat_map (follows_for before now) now.handles
 -- A handle whose parked read is given this answer: its cursor moves as by a read, and it has no parked read and no pulse any more.
 -- With news there always is an answer.
 abbrev pub IsAnsweredAs : Machine → OpenHandle (Option ℕ) → Answer → OpenHandle (Option ℕ) → Type 0
-IsAnsweredAs now h (Everything text) after = after ≡ record h { seen = Some (length now.history); parked = None; armed = None }
-IsAnsweredAs now h (Blocks n text) after = (cursor : ℕ) × IsPast h now.history n cursor × (after ≡ record h { seen = Some cursor; parked = None; armed = None })
-IsAnsweredAs now h (Needs need) after = after ≡ record h { parked = None; armed = None }
-IsAnsweredAs now h _ after = ⊥
+IsAnsweredAs now handle (Everything text) after = after ≡ record handle { seen = Some (length now.history); parked = None; armed = None }
+IsAnsweredAs now handle (Blocks n text) after =
+    (cursor : ℕ) × IsPast handle now.history n cursor × (after ≡ record handle { seen = Some cursor; parked = None; armed = None })
+IsAnsweredAs now handle (Needs need) after = after ≡ record handle { parked = None; armed = None }
+IsAnsweredAs now handle _ after = ⊥
 
 -- a handle that gets news, by the size of its parked read
 abbrev pub IsAwokenAs : Machine → OpenHandle (Option ℕ) → Option ℕ → OpenHandle (Option ℕ) → Type 0
-IsAwokenAs now h None after = after ≡ record h { armed = None }
-IsAwokenAs now h (Some size) after = IsAnsweredAs now h (answer_of now h size) after
+IsAwokenAs now handle None after = after ≡ record handle { armed = None }
+IsAwokenAs now handle (Some size) after = IsAnsweredAs now handle (answer_of now handle size) after
 
 -- a handle that gets none stays as it is
 abbrev pub IsSettledAs : Machine → OpenHandle (Option ℕ) → Bool → OpenHandle (Option ℕ) → Type 0
-IsSettledAs now h true after = IsAwokenAs now h h.parked after
-IsSettledAs now h false after = after ≡ h
+IsSettledAs now handle true after = IsAwokenAs now handle handle.parked after
+IsSettledAs now handle false after = after ≡ handle
 
 -- the handle of that number, after what follows
-pub record Settles (before now next : Machine) (number : ℕ) (h : OpenHandle (Option ℕ)) : Type 0 where
+pub record Settles (before now next : Machine) (number : ℕ) (handle : OpenHandle (Option ℕ)) : Type 0 where
   pub after : OpenHandle (Option ℕ)
   pub found : find (λ g. g.number == number) next.handles ≡ Some after
-  pub settled : IsSettledAs now h (gets_news before now h) after
+  pub settled : IsSettledAs now handle (gets_news before now handle) after
 
 -- moves: what stands before and after says what follows.
 -- steps: an event that no check refuses has its own moves, and then what follows from them.
@@ -131,6 +140,6 @@ pub record SettlingIsTold : Type 0 where
       step m e ≡ (Ok done.0, apply_all (what_follows m now) now)
   pub handles : (m : Machine) → IsMachine m → (e : Event) → first_refusal (all_checks_of (content_of m) e) ≡ None
       → let now = apply_all (effect (content_of m) e.conn e.request).1 m in
-      (number : ℕ) (h : OpenHandle (Option ℕ)) → find (λ g. g.number == number) now.handles ≡ Some h → Settles m now (step m e).1 number h
+      (number : ℕ) (handle : OpenHandle (Option ℕ)) → find (λ g. g.number == number) now.handles ≡ Some handle → Settles m now (step m e).1 number handle
   pub records : (m : Machine) → IsMachine m → (e : Event) → first_refusal (all_checks_of (content_of m) e) ≡ None
       → (step m e).1.history ≡ (apply_all (effect (content_of m) e.conn e.request).1 m).history

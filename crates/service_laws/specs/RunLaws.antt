@@ -24,9 +24,10 @@ use Rattle.pps_types.specs.Owed.{owed, is_past_limit, is_of, kept_records, kept_
 pub record RecordsAreKept : Type 0 where
   pub records : (m : Machine) (directory : Bool) (target : ℕ) → kept_records_seen (content_of m) directory target ≡ kept_records m directory target
   pub count : (c : Content) (directory : Bool) (target : ℕ) → length (kept_records_seen c directory target) ≡ longest directory target c.handles
-  pub owed_are_kept : (m : Machine) (directory : Bool) (target number : ℕ) (h : OpenHandle (Option ℕ)) → find (λ h. h.number == number) m.handles ≡ Some h
-      → is_of directory target h ≡ true → is_past_limit h (owed h m.history h.seen) ≡ false
-      → (read : List Entry) × (filter (visible h) (kept_records m directory target) ≡ read ++ owed h m.history h.seen)
+  pub owed_are_kept : (m : Machine) (directory : Bool) (target number : ℕ) (handle : OpenHandle (Option ℕ))
+      → find (λ handle. handle.number == number) m.handles ≡ Some handle
+      → is_of directory target handle ≡ true → is_past_limit handle (owed handle m.history handle.seen) ≡ false
+      → (read : List Entry) × (filter (visible handle) (kept_records m directory target) ≡ read ++ owed handle m.history handle.seen)
 
 -- ---- moves
 

@@ -28,44 +28,53 @@ pub record MovesAreSettled : Type 0 where
   pub handles : (ms : List Move) (c : Content) → HandlesRise c → AreNumbered c.next_handle ms
       → (apply_all_seen ms c).handles ≡ filter_map (handle_after ms) c.handles ++ handles_opened ms
   pub silent : (ms : List Move) (c : Content) → HandlesRise c → AreNumbered c.next_handle ms
-      → AllByRecursion (λ h. is_waiting h ≡ false) (handles_opened ms) → entries_told ms ≡ [] → settling c (apply_all_seen ms c) ≡ []
+      → AllByRecursion (λ handle. is_waiting handle ≡ false) (handles_opened ms) → entries_told ms ≡ []
+      → settling c (apply_all_seen ms c) ≡ []
   pub told : (ms : List Move) (c : Content) → HandlesRise c → AreNumbered c.next_handle ms
-      → AllByRecursion (λ h. is_waiting h ≡ false) (handles_opened ms) → list_all only_tells ms ≡ true
+      → AllByRecursion (λ handle. is_waiting handle ≡ false) (handles_opened ms) → list_all only_tells ms ≡ true
       → settling c (apply_all_seen ms c)
-      ≡ flat_map (λ h. fired h ++ late_replies (apply_all_seen ms c) (offer_all (entries_told ms) h)) (filter (is_woken ms) c.handles)
+      ≡ flat_map (λ handle. fired handle ++ late_replies (apply_all_seen ms c) (offer_all (entries_told ms) handle)) (filter (is_woken ms) c.handles)
 
 -- What a handle has seen behind records, by the records alone: in full mode whether it sees one; else, where it was owed nothing,
 -- the rest that it keeps of them. A handle without news that reads and fits its mode is owed nothing; and one that sees a record
 -- has news by it.
 pub record SeenIsTold : Type 0 where
-  pub full : (h : OpenHandle Progress) (es : List Entry) (b : Bool) → seen_after h es (News b) ≡ News (b || list_any (visible h) es)
-  pub caught_up : (h : OpenHandle Progress) (es : List Entry) → seen_after h es (seen_of h []) ≡ seen_of h (rest_of h es)
-  pub no_news : (h : OpenHandle Progress) → fits (style h.kind) h.seen ≡ true → news h ≡ false → h.reads ≡ true → h.seen ≡ seen_of h []
-  pub wakes : (h : OpenHandle Progress) (es : List Entry) → news h ≡ false → list_any (visible h) es ≡ true → news (offer_all es h) ≡ true
+  pub full : (handle : OpenHandle Progress) (es : List Entry) (b : Bool)
+      → seen_after handle es (News b) ≡ News (b || list_any (visible handle) es)
+  pub caught_up : (handle : OpenHandle Progress) (es : List Entry)
+      → seen_after handle es (seen_of handle []) ≡ seen_of handle (rest_of handle es)
+  pub no_news : (handle : OpenHandle Progress) → fits (style handle.kind) handle.seen ≡ true
+      → news handle ≡ false → handle.reads ≡ true → handle.seen ≡ seen_of handle []
+  pub wakes : (handle : OpenHandle Progress) (es : List Entry) → news handle ≡ false → list_any (visible handle) es ≡ true
+      → news (offer_all es handle) ≡ true
 
 -- Records leave each handle as it is that they do not concern, and moves each that they are not of either; and whatever the moves,
 -- what handles have seen stays fitting.
 pub record OthersStay : Type 0 where
-  pub untouched : (es : List Entry) (h : OpenHandle Progress) → IsWhole h h.seen → is_concerned es h ≡ false → offer_all es h ≡ h
-  pub left : (ms : List Move) (h : OpenHandle Progress) → IsWhole h h.seen → is_concerned (entries_told ms) h ≡ false
-      → list_any (names_handle h.number) ms ≡ false → handle_after ms h ≡ Some h
+  pub untouched : (es : List Entry) (handle : OpenHandle Progress) → IsWhole handle handle.seen → is_concerned es handle ≡ false
+      → offer_all es handle ≡ handle
+  pub left : (ms : List Move) (handle : OpenHandle Progress) → IsWhole handle handle.seen → is_concerned (entries_told ms) handle ≡ false
+      → list_any (names_handle handle.number) ms ≡ false → handle_after ms handle ≡ Some handle
   pub stays : (ms : List Move) (c : Content) → AreTold c → AreTold (apply_all_seen ms c)
 
 -- The answer to a parked read behind records, by its handle before them and by its target. One record passes no limit of 1 or more.
 -- And what moves leave of the objects, of a directory's members and of a handle's target, by what stood before.
 pub record RepliesAreTold : Type 0 where
-  pub answer : (c : Content) (h : OpenHandle Progress) (es : List Entry) (size : ℕ) → fits (style h.kind) h.seen ≡ true → news h ≡ false
-      → list_any (visible h) es ≡ true → read_answer c (offer_all es h) size ≡ late_answer h es (target_is_dead c h) (target_members c h) size
-  pub within : (h : OpenHandle Progress) (e : Entry) → 1 ≤ h.limit → is_past_limit h (visible_to h (e ∷ [])) ≡ false
+  pub answer : (c : Content) (handle : OpenHandle Progress) (es : List Entry) (size : ℕ) → fits (style handle.kind) handle.seen ≡ true
+      → news handle ≡ false
+      → list_any (visible handle) es ≡ true
+      → read_answer c (offer_all es handle) size ≡ late_answer handle es (target_is_dead c handle) (target_members c handle) size
+  pub within : (handle : OpenHandle Progress) (e : Entry) → 1 ≤ handle.limit → is_past_limit handle (visible_to handle (e ∷ [])) ≡ false
   pub objects : (ms : List Move) (c : Content) → (apply_all_seen ms c).objects ≡ objects_after ms c.objects
   pub object : (ms : List Move) (c : Content) (n : ℕ) → object_numbered (apply_all_seen ms c) n ≡ object_after ms n (object_numbered c n)
   pub members : (ms : List Move) (c : Content) (directory : ℕ) → NamesAreFree c ms
       → members (apply_all_seen ms c) directory ≡ members_after ms directory (members c directory)
-  pub target : (ms : List Move) (c : Content) (h : OpenHandle Progress) → NamesAreFree c ms
-      → target_members (apply_all_seen ms c) h ≡ target_members_after c ms h
-  pub dead : (ms : List Move) (c : Content) (h : OpenHandle Progress) → target_is_dead (apply_all_seen ms c) h ≡ target_is_dead_after c ms h
-  pub before : (ms : List Move) (c : Content) (h : OpenHandle Progress) → NamesAreFree c ms
-      → follows_in (apply_all_seen ms c) (entries_told ms) h ≡ follows c ms h
+  pub target : (ms : List Move) (c : Content) (handle : OpenHandle Progress) → NamesAreFree c ms
+      → target_members (apply_all_seen ms c) handle ≡ target_members_after c ms handle
+  pub dead : (ms : List Move) (c : Content) (handle : OpenHandle Progress)
+      → target_is_dead (apply_all_seen ms c) handle ≡ target_is_dead_after c ms handle
+  pub before : (ms : List Move) (c : Content) (handle : OpenHandle Progress) → NamesAreFree c ms
+      → follows_in (apply_all_seen ms c) (entries_told ms) handle ≡ follows c ms handle
 
 -- An event's moves: the handle that they open has the next number and waits for nothing, the names of the objects that they create are free,
 -- and they tell few records, but for those of a Detach. Where what stands is well formed, and no check refuses the event: all that follows,
@@ -73,7 +82,8 @@ pub record RepliesAreTold : Type 0 where
 pub record EventsAreSettled : Type 0 where
   pub numbered : (c : Content) → IsContent c → (conn : ℕ) (request : Request) → first_refusal (checks c conn request) ≡ None
       → AreNumbered c.next_handle (effect c conn request).1
-  pub quiet : (c : Content) (conn : ℕ) (request : Request) → AllByRecursion (λ h. is_waiting h ≡ false) (handles_opened (effect c conn request).1)
+  pub quiet : (c : Content) (conn : ℕ) (request : Request)
+      → AllByRecursion (λ handle. is_waiting handle ≡ false) (handles_opened (effect c conn request).1)
   pub free : (c : Content) → IsContent c → (conn : ℕ) (request : Request) → first_refusal (checks c conn request) ≡ None
       → NamesAreFree c (effect c conn request).1
   pub few : (c : Content) (conn : ℕ) (request : Request) → (request ≡ Detach → ⊥) → AreFew c (entries_told (effect c conn request).1)
@@ -104,24 +114,27 @@ pub record ClosesArePlanned : Type 0 where
 -- that it puts behind. A woken handle is given one item for its pulse and one for its read. And who wakes is among the handles
 -- on the records' objects and on their directories, in rising number.
 pub record StepsAreFree : Type 0 where
-  pub answers : (ms : List Move) (c : Content) (h : OpenHandle Progress) (size : ℕ) → entries_told ms ≡ []
-      → read_answer (apply_all_seen ms c) h size ≡ read_answer c h size
+  pub answers : (ms : List Move) (c : Content) (handle : OpenHandle Progress) (size : ℕ) → entries_told ms ≡ []
+      → read_answer (apply_all_seen ms c) handle size ≡ read_answer c handle size
   pub in_turn : (hs : List (OpenHandle Progress)) (c : Content) (es : List Entry) → follows_in_turn c es hs ≡ flat_map (follows_in c es) hs
-  pub others : (g h : OpenHandle Progress) (es : List Entry) (dead : Bool) (members : List Member) → (g.number == h.number) ≡ false
-      → handle_after (pulse_and_reply h es dead members) g ≡ Some g
+  pub others : (g handle : OpenHandle Progress) (es : List Entry) (dead : Bool) (members : List Member)
+      → (g.number == handle.number) ≡ false
+      → handle_after (pulse_and_reply handle es dead members) g ≡ Some g
   pub queues : (ms : List Move) (c : Content) (conn : ℕ) → list_all (keeps_queue conn) ms ≡ true
       → queue_of (apply_all_seen ms c) conn ≡ option_map_or (λ x. x.queue ++ flat_map (queued_by conn) ms) (connection_numbered c conn) []
-  pub keeps : (h : OpenHandle Progress) (es : List Entry) (dead : Bool) (members : List Member) (conn : ℕ) → list_all (keeps_queue conn) (pulse_and_reply h es dead members) ≡ true
-  pub counts : (h : OpenHandle Progress) (es : List Entry) (dead : Bool) (members : List Member) → list_any (visible h) es ≡ true
-      → length (flat_map (queued_by h.connection) (pulse_and_reply h es dead members))
-      ≡ (if is_some h.armed then 1 else 0) + (if is_some h.parked then 1 else 0)
-  pub elsewhere : (h : OpenHandle Progress) (es : List Entry) (dead : Bool) (members : List Member) (conn : ℕ) → (h.connection == conn) ≡ false
-      → flat_map (queued_by conn) (pulse_and_reply h es dead members) ≡ []
+  pub keeps : (handle : OpenHandle Progress) (es : List Entry) (dead : Bool) (members : List Member) (conn : ℕ)
+      → list_all (keeps_queue conn) (pulse_and_reply handle es dead members) ≡ true
+  pub counts : (handle : OpenHandle Progress) (es : List Entry) (dead : Bool) (members : List Member) → list_any (visible handle) es ≡ true
+      → length (flat_map (queued_by handle.connection) (pulse_and_reply handle es dead members))
+      ≡ (if is_some handle.armed then 1 else 0) + (if is_some handle.parked then 1 else 0)
+  pub elsewhere : (handle : OpenHandle Progress) (es : List Entry) (dead : Bool) (members : List Member) (conn : ℕ)
+      → (handle.connection == conn) ≡ false
+      → flat_map (queued_by conn) (pulse_and_reply handle es dead members) ≡ []
   pub among : (ms : List Move) (hs : List (OpenHandle Progress)) → filter (is_woken ms) hs ≡ filter (is_woken ms) (filter (is_concerned (entries_told ms)) hs)
   pub looked_up : (es : List Entry) (c : Content) → HandlesRise c
       → filter (is_concerned es) c.handles
-      ≡ merged (filter (λ h. list_any (λ e. is_on_object e.record_of.object h) es) c.handles)
-      (filter (λ h. list_any (λ e. is_on_directory e.directory h) es) c.handles)
+      ≡ merged (filter (λ handle. list_any (λ e. is_on_object e.record_of.object handle) es) c.handles)
+      (filter (λ handle. list_any (λ e. is_on_directory e.directory handle) es) c.handles)
   pub one_record : (ms : List Move) (c : Content) (e : Entry) → HandlesRise c → entries_told ms ≡ e ∷ []
       → filter (is_woken ms) c.handles
       ≡ filter (is_woken ms) (merged (filter (is_on_object e.record_of.object) c.handles) (filter (is_on_directory e.directory) c.handles))

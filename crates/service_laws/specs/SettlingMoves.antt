@@ -11,13 +11,13 @@ use Rattle.service_laws.specs.SettlingTargets.{target_members_after, target_is_d
 
 -- its pulse and its late reply, by the content in which the target is looked up
 abbrev pub follows_in : Content → List Entry → OpenHandle Progress → List Move
-follows_in c es h = pulse_and_reply h es (target_is_dead c h) (target_members c h)
+follows_in c es handle = pulse_and_reply handle es (target_is_dead c handle) (target_members c handle)
 
 -- All that follows from moves for a handle that they wake, by what stood before them.
 abbrev pub follows : Content → List Move → OpenHandle Progress → List Move
-follows c ms h = pulse_and_reply h (entries_told ms) (target_is_dead_after c ms h) (target_members_after c ms h)
+follows c ms handle = pulse_and_reply handle (entries_told ms) (target_is_dead_after c ms handle) (target_members_after c ms handle)
 
 -- what follows for each of the handles, worked out where all before it was carried out
 abbrev pub follows_in_turn : Content → List Entry → List (OpenHandle Progress) → List Move
 follows_in_turn c es [] = []
-follows_in_turn c es (h ∷ hs) = follows_in c es h ++ follows_in_turn (apply_all_seen (follows_in c es h) c) es hs
+follows_in_turn c es (handle ∷ handles) = follows_in c es handle ++ follows_in_turn (apply_all_seen (follows_in c es handle) c) es handles

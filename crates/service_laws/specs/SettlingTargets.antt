@@ -59,13 +59,17 @@ members_after ms directory os = fold (members_by directory) os ms
 
 -- its members after moves: an object is its own one member, a dead one too
 abbrev pub target_members_after : Content → List Move → OpenHandle Progress → List Member
-target_members_after c ms h =
-    if is_directory_kind h.kind then map member (members_after ms h.target (members c h.target))
-    else record { name = h.name; lines = map line_of (option_map_or (λ o. o.attributes) (object_after ms h.target (object_numbered c h.target)) []) } ∷ []
+target_members_after c ms handle =
+    if is_directory_kind handle.kind then map member (members_after ms handle.target (members c handle.target))
+    else record {
+      name = handle.name;
+      lines = map line_of (option_map_or (λ o. o.attributes) (object_after ms handle.target (object_numbered c handle.target)) []);
+    } ∷ []
 
 -- whether it is a dead object after them
 abbrev pub target_is_dead_after : Content → List Move → OpenHandle Progress → Bool
-target_is_dead_after c ms h = not (is_directory_kind h.kind) && is_none (object_after ms h.target (object_numbered c h.target))
+target_is_dead_after c ms handle =
+    not (is_directory_kind handle.kind) && is_none (object_after ms handle.target (object_numbered c handle.target))
 
 -- ---- how many there are
 

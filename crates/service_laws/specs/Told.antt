@@ -24,23 +24,24 @@ entries_told ms = filter_map entry_told ms
 
 -- what a move makes of a handle: none where it closes it
 abbrev pub handle_by : Move → OpenHandle Progress → Option (OpenHandle Progress)
-handle_by (Creates o) h = Some (offer (creation o) h)
-handle_by (AppendsRecord e) h = Some (offer e h)
-handle_by (Closes number) h = if h.number == number then None else Some h
-handle_by (CatchesUp number) h = Some (if h.number == number then reseen caught_up h else h)
-handle_by (Advances number count) h = Some (if h.number == number then reseen (λ h. left h count h.seen) h else h)
-handle_by (Parks number size) h = Some (if h.number == number then record h { parked = size } else h)
-handle_by (Arms number pulse) h = Some (if h.number == number then record h { armed = pulse } else h)
-handle_by _ h = Some h
+handle_by (Creates o) handle = Some (offer (creation o) handle)
+handle_by (AppendsRecord e) handle = Some (offer e handle)
+handle_by (Closes number) handle = if handle.number == number then None else Some handle
+handle_by (CatchesUp number) handle = Some (if handle.number == number then reseen caught_up handle else handle)
+handle_by (Advances number count) handle =
+    Some (if handle.number == number then reseen (λ handle. left handle count handle.seen) handle else handle)
+handle_by (Parks number size) handle = Some (if handle.number == number then record handle { parked = size } else handle)
+handle_by (Arms number pulse) handle = Some (if handle.number == number then record handle { armed = pulse } else handle)
+handle_by _ handle = Some handle
 
 -- what moves make of it, one after the other
 abbrev pub handle_after : List Move → OpenHandle Progress → Option (OpenHandle Progress)
-handle_after [] h = Some h
-handle_after (x ∷ xs) h = option_and_then (handle_after xs) (handle_by x h)
+handle_after [] handle = Some handle
+handle_after (x ∷ xs) handle = option_and_then (handle_after xs) (handle_by x handle)
 
 -- the handle that a move opens
 abbrev pub opened_by : Move → Option (OpenHandle Progress)
-opened_by (Opens h) = Some (reseen (λ h. first_seen h (style h.kind)) h)
+opened_by (Opens handle) = Some (reseen (λ handle. first_seen handle (style handle.kind)) handle)
 opened_by _ = None
 
 -- the handles that moves open, each as the moves behind leave it
@@ -52,17 +53,17 @@ handles_opened (x ∷ xs) = cons_option (option_and_then (handle_after xs) (open
 
 -- the handles stand in rising number, as they do where what stands is well formed
 abbrev pub HandlesRise : Content → Type 0
-HandlesRise c = RiseBetween 0 (map (λ h. h.number) c.handles) c.next_handle
+HandlesRise c = RiseBetween 0 (map (λ handle. handle.number) c.handles) c.next_handle
 
 -- the handle, if there is one, has the next number
 abbrev pub IsNumbered : ℕ → Option (OpenHandle Progress) → Type 0
 IsNumbered next None = Unit {0}
-IsNumbered next (Some h) = h.number ≡ next
+IsNumbered next (Some handle) = handle.number ≡ next
 
 -- the next number behind it
 abbrev pub number_after : ℕ → Option (OpenHandle Progress) → ℕ
 number_after next None = next
-number_after next (Some h) = next + 1
+number_after next (Some handle) = next + 1
 
 -- each handle that moves open has the next number
 abbrev pub AreNumbered : ℕ → List Move → Type 0
@@ -87,7 +88,7 @@ closes_handle n _ = false
 
 -- It waits, had no news, sees one of the moves' records, and stays open.
 abbrev pub is_woken : List Move → OpenHandle Progress → Bool
-is_woken ms h = is_waiting h && learns (entries_told ms) h && not (list_any (closes_handle h.number) ms)
+is_woken ms handle = is_waiting handle && learns (entries_told ms) handle && not (list_any (closes_handle handle.number) ms)
 
 -- a move that changes a handle at most by its record, or by closing it
 abbrev pub only_tells : Move → Bool
@@ -101,8 +102,8 @@ only_tells _ = true
 
 -- what a handle has seen once records were offered to it, one after the other
 abbrev pub seen_after : OpenHandle Progress → List Entry → Progress → Progress
-seen_after h es seen = fold (λ s e. offered h e s) seen es
+seen_after handle es seen = fold (λ s e. offered handle e s) seen es
 
 -- the handle once they were
 abbrev pub offer_all : List Entry → OpenHandle Progress → OpenHandle Progress
-offer_all es h = reseen (λ h. seen_after h es h.seen) h
+offer_all es handle = reseen (λ handle. seen_after handle es handle.seen) handle

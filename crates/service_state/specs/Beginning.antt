@@ -30,7 +30,8 @@ entries_in xs = filter_map entry_of xs
 
 -- a handle that closes is the connection's own, and a read waits on it or not, as is said
 abbrev pub CanBegin : Content → Beginning → Type 0
-CanBegin c (Closes conn handle parked) = option_map (λ (h : OpenHandle Progress). is_some h.parked) (own_handle c conn handle) ≡ Some parked
+CanBegin c (Closes conn number parked) =
+    option_map (λ (handle : OpenHandle Progress). is_some handle.parked) (own_handle c conn number) ≡ Some parked
 CanBegin c (AppendsRecord told) = Unit {0}
 
 -- each of them, where those before it took effect

@@ -10,8 +10,10 @@ use Rattle.whole_texts.specs.Followed.{moves_of}
 
 -- it can follow: the pulse is armed on the connection's own handle, or a read waits on it
 abbrev pub CanFollow : Content → Following → Type 0
-CanFollow c (Fires handle conn pulse) = option_map (λ (h : OpenHandle Progress). h.armed) (own_handle c conn handle) ≡ Some (Some (pulse.code, pulse.value))
-CanFollow c (Ends handle conn result) = option_map (λ (h : OpenHandle Progress). is_some h.parked) (own_handle c conn handle) ≡ Some true
+CanFollow c (Fires number conn pulse) =
+    option_map (λ (handle : OpenHandle Progress). handle.armed) (own_handle c conn number) ≡ Some (Some (pulse.code, pulse.value))
+CanFollow c (Ends number conn result) =
+    option_map (λ (handle : OpenHandle Progress). is_some handle.parked) (own_handle c conn number) ≡ Some true
 CanFollow c _ = Unit {0}
 
 -- each of them, where those before it took effect

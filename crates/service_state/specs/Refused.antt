@@ -67,15 +67,15 @@ IsKnownIn t object = option_map known_of (placed_at object t.names) ≡ object_n
 
 -- the read that waits on the connection's own handle of that number, as its size, where one does
 abbrev pub parked_in : Tabled → ℕ → ℕ → Option (Option ℕ)
-parked_in t conn handle = option_map (λ (h : OpenHandle Progress). h.parked) (own_handle (content_in t) conn handle)
+parked_in t conn number = option_map (λ (handle : OpenHandle Progress). handle.parked) (own_handle (content_in t) conn number)
 
 -- whether a read waits on that handle
 abbrev pub is_parked_in : Tabled → ℕ → ℕ → Option Bool
-is_parked_in t conn handle = option_map (λ (h : OpenHandle Progress). is_some h.parked) (own_handle (content_in t) conn handle)
+is_parked_in t conn number = option_map (λ (handle : OpenHandle Progress). is_some handle.parked) (own_handle (content_in t) conn number)
 
 -- the pulse that is armed on that handle, as its code and its value, where one is
 abbrev pub armed_in : Tabled → ℕ → ℕ → Option (Option (ℕ × ℕ))
-armed_in t conn handle = option_map (λ (h : OpenHandle Progress). h.armed) (own_handle (content_in t) conn handle)
+armed_in t conn number = option_map (λ (handle : OpenHandle Progress). handle.armed) (own_handle (content_in t) conn number)
 
 -- why no pulse can be armed on the handle of the connection, if none can
 abbrev pub arm_refusal_in : Tabled → ℕ → ℕ → Option Refusal

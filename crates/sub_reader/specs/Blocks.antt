@@ -14,11 +14,11 @@ use Rattle.sub_reader.specs.Places.{seen_at}
 use Rattle.sub_reader.specs.Chained.{records_from}
 
 abbrev pub blocks_given : {S : Type 0} → OpenHandle S → List Entry → List (List ℕ)
-blocks_given h entries = map (block h) (filter (visible h) entries)
+blocks_given handle entries = map (block handle) (filter (visible handle) entries)
 
 -- of all that a handle has seen, those of what it is owed
 abbrev pub owed_blocks : Option (OpenHandle Progress) → List (List ℕ)
-owed_blocks h = option_map_or (λ h. map (block h) (owed_in h h.seen)) h []
+owed_blocks found = option_map_or (λ handle. map (block handle) (owed_in handle handle.seen)) found []
 
 -- the same, of a handle at its place
 abbrev pub blocks_at : ℕ → ℕ → List Entry → Reader → List (List ℕ)

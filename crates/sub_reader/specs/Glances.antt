@@ -21,7 +21,8 @@ pub record Glanced : Type 0 where
   pub owed : Option ℕ
 
 abbrev pub glanced : OpenHandle Progress → Glanced
-glanced h = record { opening = as_opened h; parked = h.parked; news = news h; over = is_over h.seen; owed = owed_in_seen h h.seen }
+glanced handle =
+    record { opening = as_opened handle; parked = handle.parked; news = news handle; over = is_over handle.seen; owed = owed_in_seen handle handle.seen }
 
 -- what is told of a handle on the target of that number and name
 abbrev pub glance_on : ℕ → List ℕ → Glance → Glanced

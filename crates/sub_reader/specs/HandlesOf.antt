@@ -12,15 +12,15 @@ use Rattle.pps_types.specs.Owed.{same_flag, longest_rest}
 use Rattle.sub_reader.specs.Opened.{is_directory, number_of, is_reader}
 
 -- It is on the directory or the object of that number, and what it is owed is within its limit.
-pub record IsOn (directory : Bool) (target : ℕ) (h : OpenHandle Progress) : Type 0 where
-  pub flag : is_directory_kind h.kind ≡ directory
-  pub on : h.target ≡ target
-  pub whole : IsWhole h h.seen
+pub record IsOn (directory : Bool) (target : ℕ) (handle : OpenHandle Progress) : Type 0 where
+  pub flag : is_directory_kind handle.kind ≡ directory
+  pub on : handle.target ≡ target
+  pub whole : IsWhole handle handle.seen
 
 -- each of them, and their numbers rise
 pub record AreOn (directory : Bool) (target : ℕ) (handles : List (OpenHandle Progress)) : Type 0 where
   pub each : AllByRecursion (IsOn directory target) handles
-  pub rising : IsRising (λ h. h.number) handles
+  pub rising : IsRising (λ handle. handle.number) handles
 
 -- ---- of an object or a directory
 
@@ -38,8 +38,8 @@ longest_rest_on found handles = longest_rest (is_directory found) (number_of fou
 
 -- each of them has this name
 abbrev pub HaveName : List ℕ → List (OpenHandle Progress) → Type 0
-HaveName name handles = AllByRecursion (λ (h : OpenHandle Progress). h.name ≡ name) handles
+HaveName name handles = AllByRecursion (λ (handle : OpenHandle Progress). handle.name ≡ name) handles
 
 -- each of them reads in full or delta mode
 abbrev pub AreReaders : List (OpenHandle Progress) → Type 0
-AreReaders handles = AllByRecursion (λ (h : OpenHandle Progress). is_reader h.kind ≡ true) handles
+AreReaders handles = AllByRecursion (λ (handle : OpenHandle Progress). is_reader handle.kind ≡ true) handles

@@ -19,7 +19,8 @@ reads_changes_of o writer = o.reads && (not (is_writer o.number writer) || (o.op
 
 -- it is told of a record, where that has a block for it
 abbrev pub is_told : {S : Type 0} → OpenHandle S → Entry → Bool
-is_told h e = concerns h e && (h.reads && (not (is_writer h.number e.record_of.writer) || (h.options.reflect && is_object_kind h.kind)))
+is_told handle e =
+    concerns handle e && (handle.reads && (not (is_writer handle.number e.record_of.writer) || (handle.options.reflect && is_object_kind handle.kind)))
 
 -- the record has lines, and the handle takes all of them
 pub record TakesLines (o : Opening) (e : Entry) (text : List ℕ) : Type 0 where

@@ -43,11 +43,11 @@ suits kind directory false = is_reader kind && same_flag (is_directory_kind kind
 
 -- what its open fixed of a handle
 abbrev pub as_opened : OpenHandle Progress → OpenHandle (Unit {0})
-as_opened h = record (reseen (λ x. tt) h) { parked = None; armed = None }
+as_opened handle = record (reseen (λ x. tt) handle) { parked = None; armed = None }
 
 -- the handle of that number
 abbrev pub handle_at : ℕ → List (OpenHandle Progress) → Option (OpenHandle Progress)
-handle_at number handles = find (λ h. h.number == number) handles
+handle_at number handles = find (λ handle. handle.number == number) handles
 
 -- what an open fixed of the handle of a number, if it is among those on the target of that number and name
 abbrev pub IsOpeningAt : ℕ → ℕ → List ℕ → List (OpenHandle Progress) → Option (Bor Opening) → Type 0

@@ -20,11 +20,11 @@ seen_at start entries (At first owed) = Owed (drop (first - start) entries)
 
 -- with what waits on it
 abbrev pub waiting : Reader → OpenHandle Progress → OpenHandle Progress
-waiting r h = record h { parked = r.parked; armed = armed_pulse r.armed }
+waiting r handle = record handle { parked = r.parked; armed = armed_pulse r.armed }
 
 -- the handle, on the target of that number and name
 abbrev pub handle_of : ℕ → List ℕ → ℕ → List Entry → Reader → OpenHandle Progress
-handle_of target name start entries r = waiting r (reseen (λ h. seen_at start entries r.progress) (opened target name r.opening))
+handle_of target name start entries r = waiting r (reseen (λ handle. seen_at start entries r.progress) (opened target name r.opening))
 
 abbrev pub placed : Place → Reader → Reader
 placed place r = record r { progress = place }
@@ -67,20 +67,20 @@ Begins test [] = ⊥
 Begins test (e ∷ es) = test e ≡ true
 
 -- The first record that is owed stands among those that are held, so many are owed from there, and they are within the limit.
-pub record IsAt {S : Type 0} (h : OpenHandle S) (start : ℕ) (entries : List Entry) (first owed : ℕ) : Type 0 where
-  pub delta : is_delta_style (style h.kind) ≡ true
+pub record IsAt {S : Type 0} (handle : OpenHandle S) (start : ℕ) (entries : List Entry) (first owed : ℕ) : Type 0 where
+  pub delta : is_delta_style (style handle.kind) ≡ true
   pub from_start : start ≤ first
   pub before_end : first < start + length entries
-  pub begins : Begins (visible h) (drop (first - start) entries)
-  pub count : length (filter (visible h) (drop (first - start) entries)) ≡ owed
-  pub few : owed ≤ h.limit
+  pub begins : Begins (visible handle) (drop (first - start) entries)
+  pub count : length (filter (visible handle) (drop (first - start) entries)) ≡ owed
+  pub few : owed ≤ handle.limit
 
 abbrev pub IsPlace : {S : Type 0} → OpenHandle S → ℕ → List Entry → Place → Type 0
-IsPlace h start entries (News b) = is_full_style (style h.kind) ≡ true
-IsPlace h start entries Fresh = is_delta_style (style h.kind) ≡ true
-IsPlace h start entries Over = is_delta_style (style h.kind) ≡ true
-IsPlace h start entries Idle = is_delta_style (style h.kind) ≡ true
-IsPlace h start entries (At first owed) = IsAt h start entries first owed
+IsPlace handle start entries (News b) = is_full_style (style handle.kind) ≡ true
+IsPlace handle start entries Fresh = is_delta_style (style handle.kind) ≡ true
+IsPlace handle start entries Over = is_delta_style (style handle.kind) ≡ true
+IsPlace handle start entries Idle = is_delta_style (style handle.kind) ≡ true
+IsPlace handle start entries (At first owed) = IsAt handle start entries first owed
 
 -- a handle on the directory or object of that number
 pub record IsReader (directory : Bool) (target : ℕ) (name : List ℕ) (start : ℕ) (entries : List Entry) (r : Reader) : Type 0 where

@@ -14,7 +14,7 @@ use Rattle.sub_reader.specs.Rows.{rows_in}
 
 -- the numbers of those that wait, had no news and see one of the records
 abbrev pub woken_by : List Entry → List (OpenHandle Progress) → List ℕ
-woken_by es handles = map (λ h. h.number) (filter (λ h. is_waiting h && learns es h) handles)
+woken_by es handles = map (λ handle. handle.number) (filter (λ handle. is_waiting handle && learns es handle) handles)
 
 -- the same of a handle at its place: whether a read would give something new
 abbrev pub news_at : Bool → Place → Bool

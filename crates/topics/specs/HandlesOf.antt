@@ -73,7 +73,7 @@ KeepsRoom old new = (entries : List Entry) → IsReady entries old → IsReady e
 -- so many shares of a record are enough: one for each handle of a server object that is given it
 abbrev pub IsEnough : ℕ → Entry → Topic → Type 0
 IsEnough count e (Readers t) = Unit {0}
-IsEnough count e (Served s) = length (filter (λ (h : OpenHandle Progress). visible h e) s.handles) ≤ count
+IsEnough count e (Served s) = length (filter (λ (handle : OpenHandle Progress). visible handle e) s.handles) ≤ count
 
 -- where there was room for a record and others, there is room for the others
 abbrev pub UsesRoomFor : Entry → Topic → Topic → Type 0
@@ -95,7 +95,7 @@ HasGlance x number glance = IsGlanceAt number (number_of (target_of x)) (name_of
 
 -- each of these is a server's or a client's just if the flag is set
 abbrev pub AreQueuedJustIf : Bool → List (OpenHandle Progress) → Type 0
-AreQueuedJustIf service handles = AllByRecursion (λ (h : OpenHandle Progress). is_queue_style (style h.kind) ≡ service) handles
+AreQueuedJustIf service handles = AllByRecursion (λ (handle : OpenHandle Progress). is_queue_style (style handle.kind) ≡ service) handles
 
 -- the same target with the same handles
 abbrev pub AreSame : Topic → Topic → Type 0

@@ -26,11 +26,11 @@ QueueSlot = Slot Queued
 
 -- with what waits on it
 abbrev pub waiting : QueueRow → OpenHandle Progress → OpenHandle Progress
-waiting x h = record h { parked = x.parked; armed = armed_pulse x.armed }
+waiting x handle = record handle { parked = x.parked; armed = armed_pulse x.armed }
 
 -- a handle on the object of that number and name, which is owed these
 abbrev pub owed_as : ℕ → List ℕ → QueueRow → List Entry → OpenHandle Progress
-owed_as object name x owed = waiting x (reseen (λ h. Owed owed) (opened object name x.opening))
+owed_as object name x owed = waiting x (reseen (λ handle. Owed owed) (opened object name x.opening))
 
 -- it is owed what its queue holds
 abbrev pub handle_of : ℕ → List ℕ → QueueRow → OpenHandle Progress

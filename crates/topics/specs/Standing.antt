@@ -32,14 +32,14 @@ abbrev pub messages_in : List Entry → ℕ
 messages_in entries = sum_by (λ e. client_messages e.record_of.kind) entries
 
 -- a queue has room for those of the records that are for its handle
-pub record HasRoom {S : Type 0} (entries : List Entry) (h : OpenHandle S) (spare : Spare) : Type 0 where
-  pub records : length (filter (visible h) entries) ≤ spare.records
-  pub messages : messages_in (filter (visible h) entries) ≤ spare.messages
+pub record HasRoom {S : Type 0} (entries : List Entry) (handle : OpenHandle S) (spare : Spare) : Type 0 where
+  pub records : length (filter (visible handle) entries) ≤ spare.records
+  pub messages : messages_in (filter (visible handle) entries) ≤ spare.messages
 
 abbrev pub HaveRoom : List Entry → List (OpenHandle Progress) → List Spare → Type 0
 HaveRoom entries [] spares = Unit {0}
-HaveRoom entries (h ∷ hs) [] = ⊥
-HaveRoom entries (h ∷ hs) (s ∷ ss) = HasRoom entries h s × HaveRoom entries hs ss
+HaveRoom entries (handle ∷ handles) [] = ⊥
+HaveRoom entries (handle ∷ handles) (s ∷ ss) = HasRoom entries handle s × HaveRoom entries handles ss
 
 -- each queue has room for those of the records that are for its handle
 abbrev pub IsReady : List Entry → Standing → Type 0
@@ -67,7 +67,7 @@ AreSame one other = (one.object ≡ other.object) × (one.name ≡ other.name) �
 
 -- each of these handles is a server's or a client's
 abbrev pub AreQueued : List (OpenHandle Progress) → Type 0
-AreQueued handles = AllByRecursion (λ (h : OpenHandle Progress). style h.kind ≡ Queue) handles
+AreQueued handles = AllByRecursion (λ (handle : OpenHandle Progress). style handle.kind ≡ Queue) handles
 
 -- whatever they are on, none of them is owed records of a list that handles share
 abbrev pub ShareNoList : List (OpenHandle Progress) → Type 0

@@ -57,13 +57,13 @@ pub record AreFitting (max : ℕ) (blocks : List (List ℕ)) (g : GivenBlocks) :
 
 -- what a handle that has seen this is owed: everything, or blocks
 abbrev pub Owes : {S : Type 0} → ℕ → OpenHandle S → Progress → Option GivenBlocks → Type 0
-Owes max h (News true) owed = owed ≡ None
-Owes max h (News false) None = ⊥
-Owes max h (News false) (Some g) = AreFitting max [] g
-Owes max h Unread owed = owed ≡ None
-Owes max h Over owed = owed ≡ None
-Owes max h (Owed rest) None = ⊥
-Owes max h (Owed rest) (Some g) = AreFitting max (map (block h) (filter (visible h) rest)) g
+Owes max handle (News true) owed = owed ≡ None
+Owes max handle (News false) None = ⊥
+Owes max handle (News false) (Some g) = AreFitting max [] g
+Owes max handle Unread owed = owed ≡ None
+Owes max handle Over owed = owed ≡ None
+Owes max handle (Owed rest) None = ⊥
+Owes max handle (Owed rest) (Some g) = AreFitting max (map (block handle) (filter (visible handle) rest)) g
 
 -- what a read leaves of the handle of that number, as moves
 abbrev pub moves_of : ℕ → Effect → List Move
@@ -74,9 +74,9 @@ moves_of number Stays = []
 
 -- the moves of a read of that size, which is answered so
 abbrev pub read_moves : OpenHandle Progress → ℕ → reading.Answer → List Move
-read_moves h size a = (read_effect h size a).1
+read_moves handle size a = (read_effect handle size a).1
 
 -- the answer to a read of so many bytes is told by what the handle is owed and by its target
 abbrev pub AnswersAreRead : Type 0
-AnswersAreRead = (c : Content) (h : OpenHandle Progress) (max : ℕ) (owed : Option GivenBlocks) → Owes max h h.seen owed
-    → read_answer c h max ≡ answer_by (source_of c h) h.options.wait max owed
+AnswersAreRead = (c : Content) (handle : OpenHandle Progress) (max : ℕ) (owed : Option GivenBlocks) → Owes max handle handle.seen owed
+    → read_answer c handle max ≡ answer_by (source_of c handle) handle.options.wait max owed

@@ -49,5 +49,5 @@ Adds old new moves = flat_map moves_of new.items ≡ flat_map moves_of old.items
 -- if it is done, what follows for a handle comes to their end, its target being as this shows it
 abbrev pub AddsWhatFollows : {A X : Type 0} → Waiting → Behind → Vec Following A → Vec Following A → Result X Refusal → Type 0
 AddsWhatFollows woken told old new result =
-    (h : OpenHandle Progress) (dead : Bool) (members : List Member) → IsWoken woken h → ShowsWaiting told h dead members
-    → OnOk result (Adds old new (pulse_and_reply h told.entries dead members))
+    (handle : OpenHandle Progress) (dead : Bool) (members : List Member) → IsWoken woken handle → ShowsWaiting told handle dead members
+    → OnOk result (Adds old new (pulse_and_reply handle told.entries dead members))

@@ -52,9 +52,10 @@ blocks_by target o es size = owed_answer o.options.wait (blocks_for target o es)
 
 -- the late reply to a handle, whatever it has seen
 abbrev pub reply_to : {S : Type 0} → OpenHandle S → List Entry → Bool → List Member → ℕ → reading.Answer
-reply_to h es alive members size =
-    if is_past_limit h (filter (visible h) es) || is_full_style (style h.kind) then whole_answer (everything_of h.kind h.options.filter (is_past_limit h (filter (visible h) es)) alive members) size
-    else owed_answer h.options.wait (blocks_given h es) false size
+reply_to handle es alive members size =
+    if is_past_limit handle (filter (visible handle) es) || is_full_style (style handle.kind)
+    then whole_answer (everything_of handle.kind handle.options.filter (is_past_limit handle (filter (visible handle) es)) alive members) size
+    else owed_answer handle.options.wait (blocks_given handle es) false size
 
 -- the same by what its open fixed, its target being as this shows it
 abbrev pub reply_by : ℕ → Opening → Behind → ℕ → reading.Answer

@@ -55,7 +55,8 @@ lines_of held = option_map_or (λ o. map line_of o.attributes) held []
 
 -- what everything of a handle's target is read from
 abbrev pub source_of : Content → OpenHandle Progress → Source
-source_of c h = record { kind = h.kind; parts = h.options.filter; over = is_over h.seen; alive = not (target_is_dead c h); members = target_members c h }
+source_of c handle =
+    record { kind = handle.kind; parts = handle.options.filter; over = is_over handle.seen; alive = not (target_is_dead c handle); members = target_members c handle }
 
 -- ---- a read that is answered by everything
 

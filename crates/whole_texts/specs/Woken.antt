@@ -27,28 +27,28 @@ pub record Behind : Type 0 where
 
 -- the handle is on the object or directory of that number, and its open fixed this
 abbrev pub IsOpened : ℕ → Opening → OpenHandle Progress → Type 0
-IsOpened target o h = as_opened h ≡ opened target h.name o
+IsOpened target o handle = as_opened handle ≡ opened target handle.name o
 
 -- for each handle that was so opened
 abbrev pub ForOpened : ℕ → Opening → (OpenHandle Progress → Type 0) → Type 0
-ForOpened target o P = (h : OpenHandle Progress) → IsOpened target o h → P h
+ForOpened target o P = (handle : OpenHandle Progress) → IsOpened target o handle → P handle
 
 -- the handle is this one, whatever it has seen
-pub record IsWoken (w : Waiting) (h : OpenHandle Progress) : Type 0 where
-  pub opened : IsOpened w.target w.opening h
-  pub parked : h.parked ≡ w.parked
-  pub armed : h.armed ≡ armed_pulse w.armed
+pub record IsWoken (w : Waiting) (handle : OpenHandle Progress) : Type 0 where
+  pub opened : IsOpened w.target w.opening handle
+  pub parked : handle.parked ≡ w.parked
+  pub armed : handle.armed ≡ armed_pulse w.armed
 
 -- Its target is dead or alive and has these members, where the late reply to it is everything: else none of this is told.
 abbrev pub Shows : Behind → OpenHandle Progress → Bool → List Member → Type 0
-Shows b h dead members = gives_everything h b.entries ≡ true → (b.alive ≡ not dead) × (b.members ≡ members)
+Shows b handle dead members = gives_everything handle b.entries ≡ true → (b.alive ≡ not dead) × (b.members ≡ members)
 
 -- the same, where a read waits on it: else there is no late reply
 abbrev pub ShowsWaiting : Behind → OpenHandle Progress → Bool → List Member → Type 0
-ShowsWaiting b h dead members = is_some h.parked ≡ true → Shows b h dead members
+ShowsWaiting b handle dead members = is_some handle.parked ≡ true → Shows b handle dead members
 
 -- for the late reply to a read of that size, whatever the handle has seen, its target being as this shows it
 abbrev pub ForLateAnswer : ℕ → Opening → Behind → ℕ → (Answer → Type 0) → Type 0
 ForLateAnswer target o told size P =
-    (h : OpenHandle Progress) (dead : Bool) (members : List Member) → IsOpened target o h → Shows told h dead members
-    → P (late_answer h told.entries dead members size)
+    (handle : OpenHandle Progress) (dead : Bool) (members : List Member) → IsOpened target o handle → Shows told handle dead members
+    → P (late_answer handle told.entries dead members size)

@@ -41,7 +41,7 @@ pub(crate) fn is_past_limit(target: u64, opening: &Opening, entries: &[Entry]) -
 /// Whether the late reply to a handle on the object or directory of that number is everything of it: in full mode, and
 /// where it is given more of the records than it may be owed. It takes no memory.
 pub fn gives_everything(target: u64, opening: &Opening, entries: &[Entry]) -> bool
-    ensures { ForOpened target opening.now (λ h. result ≡ replies.gives_everything h entries.now) }
+    ensures { ForOpened target opening.now (λ handle. result ≡ replies.gives_everything handle entries.now) }
 {
     is_full(opening.kind) || is_past_limit(target, opening, entries)
 }
