@@ -11,7 +11,7 @@ use Rattle.service_laws.proofs.Finds.{find-true}
 use Rattle.name_table.specs.Standing.{Named, Placed, known_of, placed_at, AreReadyAt}
 use Rattle.service_state.specs.Lines.{HasLines, HasLinesFor}
 use Rattle.handle_requests.specs.declared.draft.Draft.{Draft}
-use Rattle.handle_requests.specs.declared.draft.Prepared.TheVariants.{Record, Nothing}
+use Rattle.handle_requests.specs.declared.draft.Prepared.TheVariants.{Record, Untold}
 use Rattle.handle_requests.specs.Writes.{HasLinesAt, on_object}
 use Rattle.handle_requests.specs.Drafting.{HasKindLines, IsPreparedOf}
 
@@ -42,7 +42,7 @@ record_lines n e live known alive ready = by (placed_at e.record_of.object n) re
 -- ---- a draft with its record
 
 module _ (c : Content) (handle : ℕ) (d : Draft) where
-  pub untold : d.has_lines ≡ false → IsPreparedOf c handle d (Nothing d)
+  pub untold : d.has_lines ≡ false → IsPreparedOf c handle d (Untold d)
   untold none = record {
     object = refl;
     kind = refl;

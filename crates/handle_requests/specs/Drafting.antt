@@ -22,7 +22,7 @@ use Rattle.service_state.specs.Beginning.{moves_of}
 use Rattle.service_state.specs.Refused.{all_checks_in, effect_in}
 use Rattle.handle_requests.specs.declared.draft.Draft.{Draft}
 use Rattle.handle_requests.specs.declared.draft.Prepared.{Prepared}
-use Rattle.handle_requests.specs.declared.draft.Prepared.TheVariants.{Record, Nothing}
+use Rattle.handle_requests.specs.declared.draft.Prepared.TheVariants.{Record, Untold}
 use Rattle.handle_requests.specs.declared.writer.Writer.{Writer}
 use Rattle.handle_requests.specs.Writes.{author_of, checks_by, kind_by, server_text_checks, client_text_checks, late_refusal, IsWriter, IsDrafted, IsDraft, HasLinesAt, told_by, tells, is_past}
 
@@ -93,15 +93,15 @@ pub record IsLineDraft (x : Placed) (line : WriteLine) (d : Draft) : Type 0 wher
 
 abbrev pub object_in : Prepared → ℕ
 object_in (Record e) = e.record_of.object
-object_in (Nothing d) = d.object
+object_in (Untold d) = d.object
 
 abbrev pub kind_in : Prepared → Kind
 kind_in (Record e) = e.record_of.kind
-kind_in (Nothing d) = d.kind
+kind_in (Untold d) = d.kind
 
 abbrev pub entry_in : Prepared → Option Entry
 entry_in (Record e) = Some e
-entry_in (Nothing d) = None
+entry_in (Untold d) = None
 
 -- it is this draft, with the record that it tells
 pub record IsPreparedOf (c : Content) (handle : ℕ) (d : Draft) (p : Prepared) : Type 0 where

@@ -36,8 +36,10 @@ pub(crate) struct Draft {
 /// A draft, with its record if it has lines.
 #[derive(Drop)]
 pub(crate) enum Prepared {
+    /// Its record, which has taken its lines.
     Record(Entry),
-    Nothing(Draft),
+    /// It has no lines, and makes no record.
+    Untold(Draft),
 }
 
 impl Prepared {
@@ -50,7 +52,7 @@ impl Prepared {
     {
         match self {
             Prepared::Record(entry) => Some(entry),
-            Prepared::Nothing(_) => None,
+            Prepared::Untold(_) => None,
         }
     }
 }
@@ -249,7 +251,7 @@ fn with_record(
     ensures { IfOk result (IsPreparedOf (content_in tables.now) handle draft) }
 {
     if !draft.has_lines {
-        return Ok(Prepared::Nothing(draft));
+        return Ok(Prepared::Untold(draft));
     }
     let entry = record_of(alloc, object, draft.kind, Some(handle))?;
     Ok(Prepared::Record(entry))

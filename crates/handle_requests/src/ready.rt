@@ -55,7 +55,7 @@ pub(crate) fn lines_ready(tables: &mut Tables, prepared: &Prepared) -> Result<()
         (λ r. RefusesKind tables.old (object_in prepared.now) (kind_in prepared.now) r) }
 {
     match prepared {
-        Prepared::Nothing(draft) => kind_ready(tables, draft.object, &draft.kind),
+        Prepared::Untold(draft) => kind_ready(tables, draft.object, &draft.kind),
         Prepared::Record(entry) => {
             let record = entry.record();
             let ready = kind_ready(tables, record.object, &record.kind);

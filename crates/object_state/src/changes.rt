@@ -14,6 +14,7 @@ use pps_filter::Name;
 use pps_types::Line;
 
 /// Puts an attribute in the place of the one of that name, or last, for which there is room.
+#[inline(always)]
 fn set(map: &mut Attributes, text_len: usize, name: Name, content: Content) -> usize
     requires room { 0 < spare map.old }
     requires kept { text_len ≡ history.text_length (attributes_in map.old) }

@@ -75,22 +75,19 @@ fn copy_short(out: &mut [u8], content: &[u8])
 }
 
 impl Short {
-    // A copy of these bytes, if they are few enough.
-    #[inline]
-    fn from_slice(content: &[u8]) -> Option<Short>
-        ensures few { IsSome result ↔ (length content.now ≤ 23) }
-        ensures bytes { IfSome result (λ short. short ≡ content.now) }
+    // A copy of these bytes, which are few enough.
+    #[inline(always)]
+    fn of(content: &[u8]) -> Short
+        requires { length content.now ≤ SHORT_MAX }
+        ensures { result ≡ content.now }
     {
-        if content.len() > SHORT_MAX {
-            return None;
-        }
-        let mut bytes = [0; SHORT_MAX];
-        copy_short(&mut bytes, content);
-        Some(Short {
-            bytes,
+        let mut short = Short {
+            bytes: [0; SHORT_MAX],
             len: content.len() as u8,
             aligned: [],
-        })
+        };
+        copy_short(&mut short.bytes, content);
+        short
     }
 
     #[inline]
@@ -141,9 +138,10 @@ impl Bytes {
     pub fn new(content: Vec<u8>) -> Bytes
         ensures { result ≡ content.items }
     {
-        let content = match Short::from_slice(content.as_slice()) {
-            Some(short) => Content::Short(short),
-            None => Content::Long(content),
+        let content = if content.len() <= SHORT_MAX {
+            Content::Short(Short::of(content.as_slice()))
+        } else {
+            Content::Long(content)
         };
         Bytes { content }
     }
@@ -152,14 +150,16 @@ impl Bytes {
     pub fn from_slice(alloc: Global, content: &[u8]) -> Result<Bytes, AllocError>
         ensures { IfOk result (λ bytes. bytes ≡ content.now) }
     {
-        if let Some(short) = Short::from_slice(content) {
+        if content.len() <= SHORT_MAX {
             return Ok(Bytes {
-                content: Content::Short(short),
+                content: Content::Short(Short::of(content)),
             });
         }
         let mut copy = Vec::with_capacity(alloc, content.len())?;
         copy.extend_from_slice(content)?;
-        Ok(Bytes::new(copy))
+        Ok(Bytes {
+            content: Content::Long(copy),
+        })
     }
 
     #[inline]
@@ -200,7 +200,7 @@ impl Bytes {
     {
         let short = match &self.content {
             Content::Short(short) => short.copy(),
-            Content::Long(content) => Short::from_slice(content.as_slice()).unwrap(),
+            Content::Long(content) => Short::of(content.as_slice()),
         };
         Bytes {
             content: Content::Short(short),

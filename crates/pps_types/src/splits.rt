@@ -13,7 +13,7 @@ pub fn after_prefix<'a>(prefix: &[u8], bytes: &'a [u8]) -> Option<&'a [u8]>
 }
 
 /// What stands before the first of that byte, and what stands behind it.
-#[inline]
+#[inline(always)]
 pub fn split_at_first(byte: u8, bytes: &[u8]) -> Option<(&[u8], &[u8])>
     ensures { words.lent_parts result ≡ words.split_at_first byte bytes.now }
 {
