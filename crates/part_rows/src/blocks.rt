@@ -132,18 +132,22 @@ fn answer_handle(
     Ok(())
 }
 
-// The block as it is printed.
+// The block as it is printed into a vector that takes room for it.
 fn put_printed(alloc: Global, block: Option<Block<'_>>, page: &mut Page) -> Result<(), AllocError> {
     page.line(b"printed")?;
     let Some(block) = block else {
         return page.word(b"none");
     };
+    let Some(len) = block.print_len(&OBJECT) else {
+        return Err(AllocError);
+    };
     let mut text = Vec::new(alloc);
-    block.put(&mut text, &OBJECT)?;
+    text.reserve(len)?;
+    block.push(&mut text, &OBJECT);
     page.text(text.as_slice())
 }
 
-// The block as it is measured first and then pushed.
+// The block as it is printed into a vector that is made with room for it.
 fn put_pushed(alloc: Global, block: Option<Block<'_>>, page: &mut Page) -> Result<(), AllocError> {
     page.line(b"pushed")?;
     let Some(block) = block else {

@@ -1,17 +1,17 @@
-//! The lines of a block: those of a record that match.
-ghost use Rattle.std.specs.Prelude.{◌≡◌, ◌≤◌, ◌+◌, ◌++◌, ◌^◌, is_some, length, take, vec_len, vec_capacity, OnOk, IfSome, IfNone};
+//! The lines of a block: those that are all printed, and of others those that match.
+ghost use Rattle.std.specs.Prelude.{◌≡◌, ◌≤◌, ◌+◌, ◌++◌, ◌^◌, is_some, length, take, vec_len, vec_capacity, IfSome, IfNone};
 ghost use Rattle.pps_types.specs.Text as text;
-ghost use Rattle.pps_block.specs.Matching.{some_match, matching_text, HaveSameMatches};
+ghost use Rattle.pps_block.specs.Matching.{some_match, matching_text, StartsWithMatch, HaveSameMatches};
 
 use attr_text::{line_len, push_line, write_line};
 use pps_filter::{Filter, matches};
 use pps_types::Line;
-use std::alloc::AllocError;
 
 /// The lines from the first that matches on, where one does. It asks about no line behind that one.
 #[inline]
 pub(crate) fn from_first_match<'a>(filter: Option<&Filter>, lines: &'a [Line]) -> Option<&'a [Line]>
     ensures matches { is_some result ≡ some_match filter.entry lines.now }
+    ensures first { IfSome result (λ rest. StartsWithMatch filter.entry rest.now) }
     ensures same { IfSome result (λ rest. HaveSameMatches filter.entry rest.now lines.now) }
 {
     let mut rest = lines;
@@ -24,6 +24,19 @@ pub(crate) fn from_first_match<'a>(filter: Option<&Filter>, lines: &'a [Line]) -
     None
 }
 
+/// How long lines are, printed, where that is a length. It takes no memory.
+#[inline]
+pub(crate) fn lines_len(lines: &[Line]) -> Option<usize>
+    ensures some { IfSome result (λ len. len ≡ length (text.print_lines lines.now)) }
+    ensures none { IfNone result (2 ^ 64 ≤ length (text.print_lines lines.now)) }
+{
+    let mut total: usize = 0;
+    'lines: for line in lines {
+        total = total.checked_add(line_len(line)?)?;
+    }
+    Some(total)
+}
+
 /// How long the lines that match are, printed, where that is a length. It takes no memory.
 #[inline]
 pub(crate) fn matching_len(filter: Option<&Filter>, lines: &[Line]) -> Option<usize>
@@ -32,13 +45,24 @@ pub(crate) fn matching_len(filter: Option<&Filter>, lines: &[Line]) -> Option<us
 {
     let mut total: usize = 0;
     'lines: for line in lines {
-        if !matches(filter, line) {
-            continue;
+        if matches(filter, line) {
+            let len = line_len(line)?;
+            total = total.checked_add(len)?;
         }
-        let len = line_len(line)?;
-        total = total.checked_add(len)?;
     }
     Some(total)
+}
+
+/// Pushes the printing of lines, for which there is room. It takes no memory.
+#[inline]
+pub(crate) fn push_lines(out: &mut Vec<u8>, lines: &[Line])
+    requires { vec_len out.old + length (text.print_lines lines.now) ≤ vec_capacity out.old }
+    ensures items { out.new.items ≡ out.old.items ++ text.print_lines lines.now }
+    ensures capacity { vec_capacity out.old ≤ vec_capacity out.new }
+{
+    'lines: for line in lines {
+        push_line(out, line);
+    }
 }
 
 /// Pushes the printing of the lines that match, for which there is room. It takes no memory.
@@ -49,11 +73,24 @@ pub(crate) fn push_matching(out: &mut Vec<u8>, filter: Option<&Filter>, lines: &
     ensures capacity { vec_capacity out.old ≤ vec_capacity out.new }
 {
     'lines: for line in lines {
-        if !matches(filter, line) {
-            continue;
+        if matches(filter, line) {
+            push_line(out, line);
         }
-        push_line(out, line);
     }
+}
+
+/// Writes the printing of lines over the bytes from `start` on, and reports where it ends. It takes no memory.
+#[inline]
+pub(crate) fn write_lines(out: &mut [u8], start: usize, lines: &[Line]) -> usize
+    requires { start + length (text.print_lines lines.now) ≤ length out.old }
+    ensures text { take result out.new ≡ take start out.old ++ text.print_lines lines.now }
+    ensures end { result ≡ start + length (text.print_lines lines.now) }
+{
+    let mut at = start;
+    'lines: for line in lines {
+        at = write_line(out, at, line);
+    }
+    at
 }
 
 /// Writes the printing of the lines that match over the bytes from `start` on, and reports where it ends. It takes no
@@ -71,39 +108,9 @@ pub(crate) fn write_matching(
 {
     let mut at = start;
     'lines: for line in lines {
-        if !matches(filter, line) {
-            continue;
+        if matches(filter, line) {
+            at = write_line(out, at, line);
         }
-        at = write_line(out, at, line);
     }
     at
-}
-
-// Puts a line.
-fn put_line(out: &mut Vec<u8>, line: &Line) -> Result<(), AllocError>
-    ensures { OnOk result (out.new.items ≡ out.old.items ++ text.print_line line.now) }
-{
-    let Some(len) = line_len(line) else {
-        return Err(AllocError);
-    };
-    out.reserve(len)?;
-    push_line(out, line);
-    Ok(())
-}
-
-/// Puts the printing of the lines that match. Room is taken for each as it comes.
-pub(crate) fn put_matching(
-    out: &mut Vec<u8>,
-    filter: Option<&Filter>,
-    lines: &[Line],
-) -> Result<(), AllocError>
-    ensures { OnOk result (out.new.items ≡ out.old.items ++ matching_text filter.entry lines.now) }
-{
-    'lines: for line in lines {
-        if !matches(filter, line) {
-            continue;
-        }
-        put_line(out, line)?;
-    }
-    Ok(())
 }
