@@ -1,10 +1,10 @@
 -- What became of a script, once all that was held is sent.
-use Rattle.std.proofs.Common.{◌≡◌, ◌+◌, ℕ, length, min, take, Bool, true, false, List, [], ◌∷◌, ◌++◌, Option, Some, None, Result, Ok, Err, append-nil, refl, sym, ap, subst, ◌∙◌, arith}
+use Rattle.std.proofs.Common.{◌≡◌, ℕ, length, take, true, false, List, [], ◌++◌, Option, Some, None, Result, Ok, Err, append-nil, refl, sym, ap, subst, ◌∙◌, arith}
 use Rattle.std.proofs.Math.Seq.{take-length}
 use Rattle.std.specs.Io.KnownBytes.{Appends, Consumes}
 use Rattle.pps_types.specs.Content.{Content}
 use Rattle.pps_types.specs.Text.{lines_of}
-use Rattle.pps_types.specs.Writing.{SendsPart, Holds}
+use Rattle.pps_types.specs.Writing.{SendsPart}
 use Rattle.pps_types.specs.Runs.{Answered, events_of}
 use Rattle.pps_types.specs.Stands.{RunsSeen}
 use Rattle.pps_types.proofs.KnownBytes.{Appends-same, Consumes-none, keeps_itself}
@@ -13,9 +13,9 @@ use Rattle.pps_types.proofs.Writing.{holds-part, holds-sent, part-more}
 use Rattle.pps_script.specs.declared.manner.Manner.{Manner}
 use Rattle.pps_script.specs.declared.fault.ScriptFault.{ScriptFault}
 use Rattle.pps_script.specs.declared.fault.ScriptFault.TheVariants.{BadLine, OutOfMemory, ReadFault, WriteFault}
-use Rattle.pps_script.specs.Script.{Script, script_of, answers_of}
-use Rattle.pps_script.specs.Served.{Serves, AnswersAll, AnswersUntil, AnswersWhole, AnswersFirst, Ran}
-use Rattle.pps_script.specs.Lines.{ServesLines, HoldsFirst, SendsFirst, ServesInput, ServesWhole, EndsInput, RunsInput, ends_cut_off}
+use Rattle.pps_script.specs.Script.{answers_of}
+use Rattle.pps_script.specs.Served.{Serves, AnswersWhole, AnswersFirst, Ran}
+use Rattle.pps_script.specs.Lines.{ServesLines, ServesWhole, EndsInput, RunsInput, ends_cut_off}
 
 serves-of : (from to : Option (List ℕ)) (old new : Content) (text : List ℕ) (answered : List Answered) → Consumes from to text → RunsSeen old answered new
     → Serves from to old new text answered

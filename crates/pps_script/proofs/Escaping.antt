@@ -1,17 +1,23 @@
 -- Writing escapes a chunk at a time: the bytes at its front that are shown as they are, and the byte behind them.
-use Rattle.std.proofs.Common.{◌≡◌, ℕ, ◌+◌, ◌≤◌, ◌<◌, true, false, not, cond, ltb, eqb, zero, suc, Bool, List, [], ◌∷◌, ◌++◌, length, map, get_or, take, drop, refl, sym, ap, subst, ◌∙◌, append_assoc, append-nil, add-one, take-add, length-take-le, arith}
+use Rattle.std.proofs.Common.{◌≡◌, ℕ, ◌+◌, ◌≤◌, ◌<◌, true, false, not, cond, eqb, zero, suc, Bool, List, [], ◌∷◌, ◌++◌, length, map, get_or, take, drop, refl, sym, ap, subst, ◌∙◌, append_assoc, append-nil, add-one, take-add, length-take-le, arith}
 use Rattle.std.proofs.lemmas.Bool.Decides.{nat_tests}
+use Rattle.std.proofs.lemmas.Bool.{agree_below, agree_below_at, not-false}
+use Rattle.std.proofs.Common.{◌%◌, ◌^◌, Fits, w8, ap₂}
+use Rattle.std.proofs.lemmas.List.{length-map}
 use Rattle.std.specs.List.{prefix_len}
 use Rattle.std.proofs.lemmas.List.{take_all, take_more, take-append-drop, take-take}
 use Rattle.std.proofs.Math.Seq.{take-append-add}
-use Rattle.std.proofs.lemmas.Simd.{first_set_mask_l, length-chunk, run_in_chunk_le, run_in_chunk_fails, take_more_put_chunk}
+use Rattle.std.proofs.lemmas.Simd.{map-map, chunk-fits, mask_l-mod, zip2_of_maps, zip2_splat, zip2_splat_left, first_set_mask_l, length-chunk, run_in_chunk_le, run_in_chunk_fails, take_more_put_chunk}
 use lib.Count.{count_trailing_zeros}
-use lib.Lanes.{chunk, put_chunk, mask_l}
+use lib.Lanes.{chunk, put_chunk, zip2, mask_l, top, Each1}
 use Rattle.std.proofs.lemmas.List.Concat.{flat_map-append}
 use Rattle.std.proofs.Common.{◌-◌, replicate}
 use Rattle.std.proofs.lemmas.List.{take-replicate, drop-replicate, length-append, length-replicate}
 use Rattle.std.proofs.Math.Seq.{take-append_seam}
 use Rattle.pps_script.specs.Escapes.{escaped_byte, escaped, is_plain}
+
+abbrev needs_escape : ℕ → Bool
+needs_escape b = not (is_plain b)
 
 escaped-plain : (b : ℕ) → is_plain b ≡ true → escaped_byte b ≡ b ∷ []
 escaped-plain b plain = grind (arith, nat_tests)
@@ -37,19 +43,38 @@ before-bits p bs bits r room of_bits is =
     is ∙ ap (λ m. cond (eqb m 0) 16 (count_trailing_zeros 64 m)) of_bits ∙ first_set_mask_l p (chunk 0 16 bs) 16 (length-chunk 0 16 bs (omega arith)) (omega arith) in
     (run_in_chunk_le p bs 0 16 r 0 (omega arith) counted, λ k less. run_in_chunk_fails p bs 0 16 r 0 (omega arith) counted k (omega arith) (omega arith))
 
-plain-of : (b : ℕ) → ltb b 32 ≡ false → ltb 126 b ≡ false → eqb b 92 ≡ false → is_plain b ≡ true
-plain-of b low high slash = grind (arith, nat_tests)
+-- tests that agree on all bytes
+map-agree : (p q : ℕ → Bool) → agree_below p q 256 ≡ true → (v : List ℕ) → Each1 (Fits w8) v → map p v ≡ map q v
+map-agree p q all [] fits = refl
+map-agree p q all (x ∷ xs) fits = ap₂ (λ b bs. b ∷ bs) (agree_below_at p q 256 x all fits.0.fits) (map-agree p q all xs fits.1)
 
-pub plain-front : (bs : List ℕ) (lows highs slashes low high slash r : ℕ) → 16 ≤ length bs
-    → lows ≡ mask_l (map (λ b. ltb b 32) (chunk 0 16 bs)) → highs ≡ mask_l (map (λ b. ltb 126 b) (chunk 0 16 bs)) → slashes ≡ mask_l (map (λ b. eqb b 92) (chunk 0 16 bs))
-    → low ≡ cond (eqb lows 0) 16 (count_trailing_zeros 64 lows) → high ≡ cond (eqb highs 0) 16 (count_trailing_zeros 64 highs) → slash ≡ cond (eqb slashes 0) 16 (count_trailing_zeros 64 slashes)
-    → r ≤ low → r ≤ high → r ≤ slash → (r ≤ 16) × (escaped (take r bs) ≡ take r bs)
-plain-front bs lows highs slashes low high slash r room of_lows of_highs of_slashes is_low is_high is_slash le_low le_high le_slash =
-    let first = before-bits (λ b. ltb b 32) bs lows low room of_lows is_low in
-    let second = before-bits (λ b. ltb 126 b) bs highs high room of_highs is_high in
-    let third = before-bits (λ b. eqb b 92) bs slashes slash room of_slashes is_slash in
-    let within : r ≤ 16 = omega (arith, first.0) in
-    (within, plain-run bs r (omega arith) (λ k less. plain-of (get_or bs k 0) (first.1 k (omega arith)) (second.1 k (omega arith)) (third.1 k (omega arith))))
+-- an operation on vectors that were computed lane by lane from one
+pub joined : (h : ℕ → ℕ → ℕ) (f g : ℕ → ℕ) (v : List ℕ) {a b : List ℕ} → a ≡ map f v → b ≡ map g v → zip2 h a b ≡ map (λ x. h (f x) (g x)) v
+joined h f g v p q = zip2_of_maps h f g v p q
+
+-- an operation on a vector and the same number in each lane
+pub splat-right : (h : ℕ → ℕ → ℕ) (v : List ℕ) (n y : ℕ) → length v ≡ n → zip2 h v (replicate n y) ≡ map (λ x. h x y) v
+splat-right h v n y long = zip2_splat h v n y long
+
+pub splat-left : (h : ℕ → ℕ → ℕ) (v : List ℕ) (n x : ℕ) → length v ≡ n → zip2 h (replicate n x) v ≡ map (λ y. h x y) v
+splat-left h v n x long = zip2_splat_left h x n v long
+
+-- lanes whose first bit is a test of the bytes that they were computed from
+lanes-pass : (p : ℕ → Bool) (v z : List ℕ) (f : ℕ → ℕ) → z ≡ map f v → length v ≡ 16 → Each1 (Fits w8) v
+    → agree_below (λ x. top 7 (f x)) p 256 ≡ true → mask_l (map (top 7) z) % 2 ^ 64 ≡ mask_l (map p v)
+lanes-pass p v z f is long fits all =
+    ap (λ l. mask_l l % 2 ^ 64) (ap (map (top 7)) is ∙ map-map (top 7) f v ∙ map-agree (λ x. top 7 (f x)) p all v fits)
+    ∙ mask_l-mod (map p v) 64 (omega (arith, length-map v p, long))
+
+-- the bytes before the first whose lane has its first bit
+pub plain-front : (bs : List ℕ) (r : ℕ) (z : List ℕ) (f : ℕ → ℕ) → (room : 16 ≤ length bs) → ((k : ℕ) → Fits w8 (get_or bs k 0))
+    → r ≡ cond (eqb (mask_l (map (top 7) z) % 2 ^ 64) 0) 16 (count_trailing_zeros 64 (mask_l (map (top 7) z) % 2 ^ 64))
+    → z ≡ map f (chunk 0 16 bs) → agree_below (λ x. top 7 (f x)) needs_escape 256 ≡ true → (r ≤ 16) × (escaped (take r bs) ≡ take r bs)
+plain-front bs r z f room fits is lanes all =
+    let v = chunk 0 16 bs in
+    let bits = lanes-pass needs_escape v z f lanes (length-chunk 0 16 bs (omega (arith, room))) (chunk-fits w8 0 16 bs fits) all in
+    let first = before-bits needs_escape bs _ r room bits is in
+    (first.0, plain-run bs r (omega (arith, first.0, room)) (λ k less. not-false _ (first.1 k less)))
 
 -- the front of a chunk that was copied whole
 pub put-front : (text bs : List ℕ) (at count : ℕ) → at + 16 ≤ length text → 16 ≤ length bs → count ≤ 16

@@ -5,6 +5,7 @@ pub mod Replies
 pub mod RoundTrip
 pub mod Spellings
 pub mod Unescaping
+pub mod NumberWords
 pub mod ValueLines
 pub mod Visible
 pub mod Pieces

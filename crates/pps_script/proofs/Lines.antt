@@ -1,12 +1,9 @@
 -- Lines served one after the other, and the answers to them.
-use Rattle.std.proofs.Common.{◌≡◌, ◌+◌, ◌⊎◌, ℕ, length, min, Bool, true, false, List, [], ◌∷◌, ◌++◌, Option, Some, None, Result, Ok, Err, append_assoc, append-nil, refl, sym, ap, subst, ◌∙◌, inl, inr, arith}
+use Rattle.std.proofs.Common.{◌≡◌, ◌+◌, ℕ, length, min, Bool, true, false, List, [], ◌∷◌, ◌++◌, Option, Some, None, Err, append_assoc, append-nil, refl, sym, ap, subst, ◌∙◌, inl, inr, arith}
 use Rattle.std.specs.Prelude.{option_map}
-use Rattle.std.specs.List.{flat_map}
 use Rattle.std.proofs.lemmas.Grind.{flat_map-append}
 use Rattle.std.proofs.lemmas.List.{map-append}
-use Rattle.std.specs.Io.KnownBytes.{Appends}
 use Rattle.pps_types.specs.declared.event.Event.{Event}
-use Rattle.pps_types.specs.Outcome.{Reply}
 use Rattle.pps_types.specs.Content.{Content}
 use Rattle.pps_types.specs.Device.{last_count}
 use Rattle.pps_types.specs.Writing.{SendsPart, Holds}
@@ -14,9 +11,8 @@ use Rattle.pps_types.specs.declared.exchange.AnswerFault.{AnswerFault}
 use Rattle.pps_types.specs.declared.exchange.AnswerFault.TheVariants as answers
 use Rattle.pps_types.specs.Exchange.{Answers}
 use Rattle.pps_types.specs.Runs.{Answered, events_of}
-use Rattle.pps_types.specs.Stands.{StepsSeen, RunsSeen}
 use Rattle.pps_engine.proofs.Runs.{runs-append}
-use Rattle.pps_types.proofs.Writing.{holds-then, holds-part, holds-same, part-more}
+use Rattle.pps_types.proofs.Writing.{holds-then, holds-part, holds-same}
 use Rattle.pps_script.specs.declared.manner.Manner.{Manner}
 use Rattle.pps_script.specs.ScriptLines.{line_of}
 use Rattle.pps_script.specs.declared.script_line.ScriptLine.{ScriptLine}
@@ -24,9 +20,9 @@ use Rattle.pps_script.specs.declared.script_line.ScriptLine.TheVariants.{Nothing
 use Rattle.pps_script.specs.declared.fault.ScriptFault.{ScriptFault}
 use Rattle.pps_script.specs.declared.fault.ScriptFault.TheVariants.{BadLine, OutOfMemory, ReadFault, WriteFault}
 use Rattle.pps_script.specs.Faults.{of_answer}
-use Rattle.pps_script.specs.Script.{Script, script, heard, or_nothing, with_line, printed, answers_of}
+use Rattle.pps_script.specs.Script.{script, heard, or_nothing, with_line, printed, answers_of}
 use Rattle.pps_script.specs.Served.{ReportsIf}
-use Rattle.pps_script.specs.Lines.{ServesLine, Unanswered, ServesLines, HoldsFirst, SendsFirst, EndsAt, EndsLines}
+use Rattle.pps_script.specs.Lines.{ServesLine, Unanswered, ServesLines, HoldsFirst, SendsFirst, EndsLines}
 use Rattle.pps_script.proofs.Scripts.{joined, script-good, script-bad, script-grows}
 
 events-append : (first second : List Answered) → events_of (first ++ second) ≡ events_of first ++ events_of second

@@ -1,5 +1,5 @@
 -- The lines of a text, served from its front, and of an input that comes in pieces.
-use Rattle.std.proofs.Common.{◌≡◌, ◌≢◌, ◌+◌, ◌-◌, ◌⊎◌, ℕ, length, min, take, Bool, true, false, List, [], ◌∷◌, ◌++◌, Option, Some, None, Result, Ok, Err, append_assoc, append-nil, refl, sym, ap, subst, ◌∙◌, inl, inr, arith}
+use Rattle.std.proofs.Common.{◌≡◌, ◌+◌, ◌-◌, ℕ, length, min, take, List, [], ◌∷◌, ◌++◌, Option, Some, None, Result, Ok, Err, append_assoc, append-nil, refl, sym, ap, subst, ◌∙◌, arith}
 use Rattle.std.proofs.lemmas.List.{length-append}
 use Rattle.std.proofs.Math.Seq.{take-append_seam}
 use Rattle.std.specs.Io.KnownBytes.{Appends, Consumes, IsAtEnd}
@@ -8,15 +8,15 @@ use Rattle.pps_types.specs.Content.{Content}
 use Rattle.pps_types.specs.Bytes.{split_at_first, pieces}
 use Rattle.pps_types.specs.Text.{lines_of, without_empty_end}
 use Rattle.pps_types.specs.Device.{last_count, counted_once_more}
-use Rattle.pps_types.specs.Writing.{SendsPart, Holds}
-use Rattle.pps_types.proofs.KnownBytes.{Appends-none, Consumes-none, Consumes-then, Consumes-same, keeps_itself}
+use Rattle.pps_types.specs.Writing.{SendsPart}
+use Rattle.pps_types.proofs.KnownBytes.{Consumes-none, Consumes-then, Consumes-same, keeps_itself}
 use Rattle.pps_types.proofs.Writing.{holds-part, holds-sent}
 use Rattle.pps_types.proofs.Cuts.{pieces-first, pieces-one}
 use Rattle.pps_script.specs.declared.manner.Manner.{Manner}
 use Rattle.pps_script.specs.declared.fault.ScriptFault.{ScriptFault}
 use Rattle.pps_script.specs.declared.fault.ScriptFault.TheVariants.{BadLine, OutOfMemory, ReadFault, WriteFault}
-use Rattle.pps_script.specs.Script.{script, whole_lines, answers_of}
-use Rattle.pps_script.specs.Lines.{ServesLines, HoldsFirst, SendsFirst, EndsLines, IsPart, AreFirst, ServesText, EndsText, ServesInput, ServesWhole, EndsInput, RunsInput}
+use Rattle.pps_script.specs.Script.{whole_lines, answers_of}
+use Rattle.pps_script.specs.Lines.{ServesLines, SendsFirst, EndsLines, IsPart, ServesText, EndsText, ServesInput, ServesWhole, EndsInput, RunsInput}
 use Rattle.pps_script.proofs.Pieces.{pieces-behind, none-behind, pieces-on, pieces-some, last-lines}
 use Rattle.pps_script.proofs.Lines.{serves-none, serves-then, ends-then, ends-more, held-of, serves-shown, ends-shown}
 

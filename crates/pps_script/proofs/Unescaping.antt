@@ -1,5 +1,5 @@
 -- Reading escapes one at a time, each behind the bytes before its backslash.
-use Rattle.std.proofs.Common.{◌≡◌, ℕ, ◌<◌, Bool, true, false, cond, List, [], ◌∷◌, ◌++◌, length, Option, Some, None, unwrap_or, refl, sym, ap, ◌∙◌, append_assoc, arith}
+use Rattle.std.proofs.Common.{◌≡◌, ℕ, ◌+◌, ◌<◌, Bool, true, false, cond, List, [], ◌∷◌, ◌++◌, length, Option, Some, None, unwrap_or, refl, sym, ap, ◌∙◌, append_assoc, arith}
 use Rattle.std.specs.Prelude.{option_map, option_and_then, ◌==◌}
 use Rattle.std.specs.Option.{option_to_list}
 use Rattle.pps_types.specs.Bytes.{split_at_first}
@@ -19,6 +19,9 @@ after_one bs one = option_and_then (λ o. option_map (λ rest. option_to_list o.
 
 second : {X : Type 0} (a b : X) (x y : List ℕ) → ◌≡◌ {A = Option (X × List ℕ)} (Some (a, x)) (Some (b, y)) → x ≡ y
 second {X} a b x y e = ap (λ o. (unwrap_or {T = X × List ℕ} o (a, x)).1) e
+
+first : {X : Type 0} (a b : X) (x y : List ℕ) → ◌≡◌ {A = Option (X × List ℕ)} (Some (a, x)) (Some (b, y)) → a ≡ b
+first {X} a b x y e = ap (λ o. (unwrap_or {T = X × List ℕ} o (a, x)).0) e
 
 behind-none : (o : Option (List ℕ)) → before [] o ≡ o
 behind-none None = refl
@@ -117,6 +120,19 @@ split-shorter (b ∷ bs) plain escape cut = by (b == 92) (split_at_first 92 bs) 
         let less = shorter parts.0 parts.1 refl in
         rw (second plain (b ∷ parts.0) escape parts.1 is) (omega arith)
 
+pub split-lengths : (text plain escape : List ℕ) → ◌≡◌ {A = Option (List ℕ × List ℕ)} (Some (plain, escape)) (split_at_first 92 text)
+    → length plain + 1 + length escape ≡ length text
+split-lengths [] plain escape cut = absurd (let h = cut in cc)
+split-lengths (b ∷ bs) plain escape cut = by (b == 92) (split_at_first 92 bs) (λ p e. split-lengths bs p e) cut
+  where
+    by : (slash : Bool) (rest : Option (List ℕ × List ℕ)) → ((p e : List ℕ) → ◌≡◌ {A = Option (List ℕ × List ℕ)} (Some (p, e)) rest → length p + 1 + length e ≡ length bs)
+        → ◌≡◌ {A = Option (List ℕ × List ℕ)} (Some (plain, escape)) (cond slash (Some ([], bs)) (option_map (λ parts. (b ∷ parts.0, parts.1)) rest)) → length plain + 1 + length escape ≡ length (b ∷ bs)
+    by true rest lengths is = rw (first plain [] escape bs is, second plain [] escape bs is) (omega arith)
+    by false None lengths is = absurd (let h = is in cc)
+    by false (Some parts) lengths is =
+        let all = lengths parts.0 parts.1 refl in
+        rw (first plain (b ∷ parts.0) escape parts.1 is, second plain (b ∷ parts.0) escape parts.1 is) (omega (arith, all))
+
 digits-shorter : (byte : ℕ) (bs behind : List ℕ) → ◌≡◌ {A = Option (ℕ × List ℕ)} (Some (byte, behind)) (digits_of bs) → length behind < length bs
 digits-shorter byte [] behind is = absurd (let h = is in cc)
 digits-shorter byte (high ∷ []) behind is = absurd (let h = is in cc)
@@ -126,7 +142,7 @@ digits-shorter byte (high ∷ low ∷ bs) behind is = by (hex_byte high low) is
     by None e = absurd (let h = e in cc)
     by (Some b) e = rw (second byte b behind bs e) (omega arith)
 
-escape-shorter : (byte : ℕ) (bs behind : List ℕ) → ◌≡◌ {A = Option (ℕ × List ℕ)} (Some (byte, behind)) (escape_of bs) → length behind < length bs
+pub escape-shorter : (byte : ℕ) (bs behind : List ℕ) → ◌≡◌ {A = Option (ℕ × List ℕ)} (Some (byte, behind)) (escape_of bs) → length behind < length bs
 escape-shorter byte [] behind is = absurd (let h = is in cc)
 escape-shorter byte (b ∷ bs) behind is = by (b == 110) (b == 92) (b == 120) is
   where

@@ -2,6 +2,7 @@ pub mod Answer
 pub mod Escapes
 pub mod Laws
 pub mod ScriptLines
+pub mod Digits
 pub mod ShownLines
 pub mod Spelled
 pub mod Script

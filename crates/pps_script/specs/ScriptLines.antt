@@ -32,6 +32,10 @@ word_and_rest text = unwrap_or (first_word text) (text, [])
 unfoldable pub number_to : ℕ → List ℕ → Option ℕ
 number_to most word = if same word (codes "0") then Some 0 else number_up_to 10 most word
 
+-- the number that the first word spells, and what comes after that word and its space
+abbrev pub number_word : ℕ → List ℕ → Option (ℕ × List ℕ)
+number_word most text = first_word text >>= (λ parts. option_map (λ number. (number, parts.1)) (number_to most parts.0))
+
 -- the number of a connection
 abbrev pub conn_of : List ℕ → Option ℕ
 conn_of word = number_to 65535 word
@@ -81,9 +85,11 @@ read_request text = do
   Some (asks.Read handle size)
 
 -- a handle, and bytes, if there are any
+abbrev pub handle_and_rest : List ℕ → Option (ℕ × List ℕ)
+handle_and_rest text = option_map (λ handle. (handle, (word_and_rest text).1)) (field_of (word_and_rest text).0)
+
 abbrev pub write_request : List ℕ → Option Request
-write_request text =
-    field_of (word_and_rest text).0 >>= (λ handle. option_map (asks.Write handle) (unescaped (word_and_rest text).1))
+write_request text = handle_and_rest text >>= (λ parts. option_map (asks.Write parts.0) (unescaped parts.1))
 
 abbrev pub close_request : List ℕ → Option Request
 close_request text = option_map asks.Close (field_of text)
@@ -111,6 +117,12 @@ word_of word =
     if same word (codes "list") then Some words.List else
     if same word (codes "notify") then Some words.Notify else None
 
+-- a path
+abbrev pub path_request : Word → List ℕ → Option Request
+path_request words.Unlink path = Some (asks.Unlink path)
+path_request words.Mkdir path = Some (asks.Mkdir path)
+path_request _ path = Some (asks.List path)
+
 -- a command, and what stands behind its space
 abbrev pub request_with : Word → List ℕ → Option Request
 request_with words.Open text = open_request text
@@ -136,6 +148,10 @@ request_in text (Some parts) = word_of parts.0 >>= (λ word. request_with word p
 -- what is asked for behind the connection
 abbrev pub request_of : List ℕ → Option Request
 request_of text = request_in text (first_word text)
+
+-- what a connection asks for
+abbrev pub asked : ℕ → Option Request → Option Event
+asked conn request = option_map (λ r. record { conn = conn; request = r }) request
 
 -- ---- lines
 

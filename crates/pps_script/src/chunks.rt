@@ -1,6 +1,5 @@
 //! Bytes as answers show them, written a chunk at a time.
-ghost use Rattle.std.specs.Prelude.{◌≡◌, ◌+◌, ◌*◌, ◌<◌, ◌≤◌, ◌++◌, ◌∷◌, [], ◌==◌, nat_lt, if◌then◌else◌, length, map, take};
-ghost use Rattle.std.specs.Simd.Lanes.{mask_l};
+ghost use Rattle.std.specs.Prelude.{◌≡◌, ◌+◌, ◌*◌, ◌<◌, ◌≤◌, ◌++◌, ◌∷◌, [], ◌==◌, if◌then◌else◌, length, take};
 ghost use lib.Count.{count_trailing_zeros};
 ghost use Rattle.pps_script.specs.Escapes as escapes;
 ghost use Rattle.pps_script.specs.Escapes.{escaped, escaped_byte};
@@ -19,31 +18,7 @@ const STEP_MAX: usize = 20;
 // The most bytes that are written for less than a chunk, and the spaces behind it.
 const FEW_MAX: usize = 76;
 
-// A bit for each byte that is below the space.
-#[inline(always)]
-fn low_bits(chunk: u8x16) -> u64
-    ensures { result ≡ mask_l (map (λ b. nat_lt b 32) chunk) }
-{
-    chunk.simd_lt(u8x16::splat(32)).to_bitmask()
-}
-
-// A bit for each byte that is above the tilde.
-#[inline(always)]
-fn high_bits(chunk: u8x16) -> u64
-    ensures { result ≡ mask_l (map (λ b. nat_lt 126 b) chunk) }
-{
-    chunk.simd_gt(u8x16::splat(126)).to_bitmask()
-}
-
-// A bit for each backslash.
-#[inline(always)]
-fn slash_bits(chunk: u8x16) -> u64
-    ensures { result ≡ mask_l (map (λ b. b == 92) chunk) }
-{
-    chunk.simd_eq(u8x16::splat(92)).to_bitmask()
-}
-
-// How many bytes of a chunk stand before its first bit.
+// How many bytes of a chunk come before its first bit.
 #[inline(always)]
 fn before_bits(bits: u64) -> usize
     ensures { result ≡ (if bits == 0 then 16 else count_trailing_zeros 64 bits) }
@@ -62,10 +37,10 @@ fn plain_front(bytes: &[u8]) -> usize
     ensures plain { escaped (take result bytes.now) ≡ take result bytes.now }
 {
     let chunk = u8x16::from_slice(bytes);
-    let low = before_bits(low_bits(chunk));
-    let high = before_bits(high_bits(chunk));
-    let slash = before_bits(slash_bits(chunk));
-    low.min(high).min(slash)
+    let low = chunk.simd_lt(u8x16::splat(b' '));
+    let high = chunk.simd_gt(u8x16::splat(b'~'));
+    let slash = chunk.simd_eq(u8x16::splat(b'\\'));
+    before_bits((low | high | slash).to_bitmask())
 }
 
 // Puts a byte behind what there is, and gives the end.
@@ -112,6 +87,17 @@ fn is_plain(byte: u8) -> bool
     b' ' <= byte && byte <= b'~' && byte != b'\\'
 }
 
+// Puts a backslash and a letter after what there is, and gives the end.
+#[inline(always)]
+fn put_escape(text: &mut [u8], at: usize, letter: u8) -> usize
+    requires { at + 2 ≤ length text.old }
+    ensures end { result ≡ at + 2 }
+    ensures text { take result text.new ≡ take at text.old ++ 92 ∷ letter ∷ [] }
+{
+    text[at..at + 2].copy_from_slice(&[b'\\', letter]);
+    at + 2
+}
+
 // Puts a byte as answers show it behind what there is, and gives the end.
 #[inline(always)]
 #[tactic(auto, using(crate::proofs::Regroup::regroup))]
@@ -120,17 +106,16 @@ fn put_shown(text: &mut [u8], at: usize, byte: u8) -> usize
     ensures within { result ≤ at + 4 }
     ensures text { take result text.new ≡ take at text.old ++ escaped_byte byte }
 {
+    if byte == b'\n' {
+        return put_escape(text, at, b'n');
+    }
     if is_plain(byte) {
         return put(text, at, byte);
     }
-    let behind = put(text, at, b'\\');
-    if byte == b'\n' {
-        return put(text, behind, b'n');
-    }
     if byte == b'\\' {
-        return put(text, behind, b'\\');
+        return put_escape(text, at, b'\\');
     }
-    let digits = put(text, behind, b'x');
+    let digits = put_escape(text, at, b'x');
     let low = put(text, digits, hex_digit(byte / 16));
     put(text, low, hex_digit(byte % 16))
 }

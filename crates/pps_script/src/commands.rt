@@ -1,10 +1,12 @@
 //! The commands of lines.
-ghost use Rattle.std.specs.Prelude.{◌≡◌, IfOk};
+ghost use Rattle.std.specs.Prelude.{◌≡◌, IfOk, option_map};
 ghost use Rattle.pps_script.specs.ScriptLines as script;
 
 use crate::escapes::read_escaped;
-use crate::words::{first_word, read_action, read_code, read_field, read_handle, read_mode};
-use pps_types::{Bytes, Request};
+use crate::words::{
+    first_handle, first_word, read_action, read_code, read_field, read_handle, read_mode,
+};
+use pps_types::{Bytes, Conn, Event, Handle, Request};
 use std::alloc::{AllocError, Global};
 
 /// The word of a command that something stands behind.
@@ -37,21 +39,30 @@ fn read_word(word: &[u8]) -> Option<Word>
     }
 }
 
-// A command that nothing stands behind.
-fn read_alone(word: &[u8]) -> Option<Request>
-    ensures { result ≡ script.request_alone word.now }
+// A command of one word.
+fn read_alone(conn: Conn, word: &[u8]) -> Option<Event>
+    ensures { result ≡ script.asked conn (script.request_alone word.now) }
 {
     match word {
-        b"attach" => Some(Request::Attach),
-        b"detach" => Some(Request::Detach),
-        b"receive" => Some(Request::Receive),
+        b"attach" => Some(Event {
+            conn,
+            request: Request::Attach,
+        }),
+        b"detach" => Some(Event {
+            conn,
+            request: Request::Detach,
+        }),
+        b"receive" => Some(Event {
+            conn,
+            request: Request::Receive,
+        }),
         _ => None,
     }
 }
 
 // A mode, and the text of an open.
-fn read_open(alloc: Global, text: &[u8]) -> Result<Option<Request>, AllocError>
-    ensures { IfOk result (λ read. read ≡ script.open_request text.now) }
+fn read_open(alloc: Global, conn: Conn, text: &[u8]) -> Result<Option<Event>, AllocError>
+    ensures { IfOk result (λ read. read ≡ script.asked conn (script.open_request text.now)) }
 {
     let Some((letters, text)) = first_word(text) else {
         return Ok(None);
@@ -60,108 +71,131 @@ fn read_open(alloc: Global, text: &[u8]) -> Result<Option<Request>, AllocError>
         return Ok(None);
     };
     let text = Bytes::from_slice(alloc, text)?;
-    Ok(Some(Request::Open { mode, text }))
+    let request = Request::Open { mode, text };
+    Ok(Some(Event { conn, request }))
 }
 
 // A handle and a size.
 #[inline(always)]
-fn read_read(text: &[u8]) -> Option<Request>
-    ensures { result ≡ script.read_request text.now }
+fn read_read(conn: Conn, text: &[u8]) -> Option<Event>
+    ensures { result ≡ script.asked conn (script.read_request text.now) }
 {
-    let (handle, size) = first_word(text)?;
-    let handle = read_handle(handle)?;
+    let Some((handle, size)) = first_handle(text) else {
+        return None;
+    };
     let size = read_field(size)?;
-    Some(Request::Read { handle, size })
+    let request = Request::Read { handle, size };
+    Some(Event { conn, request })
 }
 
-// What stands before the first space, and what stands behind it, if there is one.
+// A handle, and what comes after its space, if there is one.
 #[inline(always)]
-fn word_and_rest(text: &[u8]) -> (&[u8], &[u8])
-    ensures { (result.0.now, result.1.now) ≡ script.word_and_rest text.now }
+fn handle_and_rest(text: &[u8]) -> Option<(Handle, &[u8])>
+    ensures { option_map (λ parts. (parts.0, parts.1.now)) result ≡ script.handle_and_rest text.now }
 {
-    match first_word(text) {
-        Some(parts) => parts,
-        None => (text, &text[text.len()..]),
+    if let Some(parts) = first_handle(text) {
+        return Some(parts);
     }
+    let handle = read_handle(text)?;
+    Some((handle, &text[text.len()..]))
 }
 
 // A handle, and bytes, if there are any.
 #[inline(always)]
-fn read_write(alloc: Global, text: &[u8]) -> Result<Option<Request>, AllocError>
-    ensures { IfOk result (λ read. read ≡ script.write_request text.now) }
+fn read_write(alloc: Global, conn: Conn, text: &[u8]) -> Result<Option<Event>, AllocError>
+    ensures { IfOk result (λ read. read ≡ script.asked conn (script.write_request text.now)) }
 {
-    let (handle, escaped) = word_and_rest(text);
-    let Some(handle) = read_handle(handle) else {
+    let Some((handle, escaped)) = handle_and_rest(text) else {
         return Ok(None);
     };
     let Some(bytes) = read_escaped(alloc, escaped)? else {
         return Ok(None);
     };
-    Ok(Some(Request::Write { handle, bytes }))
+    let request = Request::Write { handle, bytes };
+    Ok(Some(Event { conn, request }))
 }
 
-fn read_close(text: &[u8]) -> Option<Request>
-    ensures { result ≡ script.close_request text.now }
+fn read_close(conn: Conn, text: &[u8]) -> Option<Event>
+    ensures { result ≡ script.asked conn (script.close_request text.now) }
 {
     let handle = read_handle(text)?;
-    Some(Request::Close { handle })
+    let request = Request::Close { handle };
+    Some(Event { conn, request })
 }
 
 // A handle, an action, a code and a value.
-fn read_notify(text: &[u8]) -> Option<Request>
-    ensures { result ≡ script.notify_request text.now }
+fn read_notify(conn: Conn, text: &[u8]) -> Option<Event>
+    ensures { result ≡ script.asked conn (script.notify_request text.now) }
 {
-    let (handle, behind) = first_word(text)?;
-    let handle = read_handle(handle)?;
+    let Some((handle, behind)) = first_handle(text) else {
+        return None;
+    };
     let (action, behind) = first_word(behind)?;
     let action = read_action(action)?;
     let (code, value) = first_word(behind)?;
     let code = read_code(code)?;
     let value = read_field(value)?;
-    Some(Request::Notify {
+    let request = Request::Notify {
         handle,
         action,
         code,
         value,
-    })
+    };
+    Some(Event { conn, request })
 }
 
-// A command, and what stands behind its space.
+// A path.
+fn read_path(
+    alloc: Global,
+    conn: Conn,
+    word: Word,
+    path: &[u8],
+) -> Result<Option<Event>, AllocError>
+    ensures { IfOk result (λ read. read ≡ script.asked conn (script.path_request word path.now)) }
+{
+    let path = Bytes::from_slice(alloc, path)?;
+    let request = match word {
+        Word::Unlink => Request::Unlink { path },
+        Word::Mkdir => Request::Mkdir { path },
+        _ => Request::List { path },
+    };
+    Ok(Some(Event { conn, request }))
+}
+
+// A command, and what comes after its space.
 #[inline(always)]
-fn read_with(alloc: Global, word: Word, text: &[u8]) -> Result<Option<Request>, AllocError>
-    ensures { IfOk result (λ read. read ≡ script.request_with word text.now) }
+fn read_with(
+    alloc: Global,
+    conn: Conn,
+    word: Word,
+    text: &[u8],
+) -> Result<Option<Event>, AllocError>
+    ensures { IfOk result (λ read. read ≡ script.asked conn (script.request_with word text.now)) }
 {
     match word {
-        Word::Open => read_open(alloc, text),
-        Word::Read => Ok(read_read(text)),
-        Word::Write => read_write(alloc, text),
-        Word::Close => Ok(read_close(text)),
-        Word::Unlink => {
-            let path = Bytes::from_slice(alloc, text)?;
-            Ok(Some(Request::Unlink { path }))
-        }
-        Word::Mkdir => {
-            let path = Bytes::from_slice(alloc, text)?;
-            Ok(Some(Request::Mkdir { path }))
-        }
-        Word::List => {
-            let path = Bytes::from_slice(alloc, text)?;
-            Ok(Some(Request::List { path }))
-        }
-        Word::Notify => Ok(read_notify(text)),
+        Word::Open => read_open(alloc, conn, text),
+        Word::Read => Ok(read_read(conn, text)),
+        Word::Write => read_write(alloc, conn, text),
+        Word::Close => Ok(read_close(conn, text)),
+        Word::Notify => Ok(read_notify(conn, text)),
+        Word::Unlink | Word::Mkdir | Word::List => read_path(alloc, conn, word, text),
     }
 }
 
-/// What is asked for behind the connection. `None` says that it is no command.
+/// What a connection asks for. `None` says that it is no command.
 #[inline(always)]
-pub(crate) fn read_request(alloc: Global, text: &[u8]) -> Result<Option<Request>, AllocError>
-    ensures { IfOk result (λ read. read ≡ script.request_of text.now) }
+pub(crate) fn read_event(
+    alloc: Global,
+    conn: Conn,
+    text: &[u8],
+) -> Result<Option<Event>, AllocError>
+    ensures { IfOk result (λ read. read ≡ script.asked conn (script.request_of text.now)) }
 {
-    let Some((word, behind)) = first_word(text) else {
-        return Ok(read_alone(text));
+    let Some((word, rest)) = first_word(text) else {
+        return Ok(read_alone(conn, text));
     };
     let Some(word) = read_word(word) else {
         return Ok(None);
     };
-    read_with(alloc, word, behind)
+    read_with(alloc, conn, word, rest)
 }

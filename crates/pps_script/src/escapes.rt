@@ -1,5 +1,5 @@
 //! Bytes as scripts and answers write them: with escapes, which begin with a backslash.
-ghost use Rattle.std.specs.Prelude.{◌≡◌, ◌<◌, ◌++◌, IfOk, IfSome, OnOk, option_map};
+ghost use Rattle.std.specs.Prelude.{◌≡◌, ◌+◌, ◌<◌, ◌≤◌, ◌++◌, ◌∷◌, [], IfOk, IfSome, OnOk, length, option_map, take};
 ghost use Rattle.pps_script.specs.Escapes as escapes;
 
 use crate::chunks::{ROOM, write_piece};
@@ -9,6 +9,9 @@ use std::alloc::{AllocError, Global};
 
 /// How many bytes of a command are gathered without memory: most writes are no longer.
 const IN_PLACE: usize = 64;
+
+/// The longest text whose bytes are gathered in an array.
+const FEW: usize = 32;
 
 /// Pushes the bytes as answers show them.
 pub(crate) fn push_escaped(out: &mut Vec<u8>, bytes: &[u8]) -> Result<(), AllocError>
@@ -75,8 +78,50 @@ fn into_bytes(alloc: Global, bytes: SmallVec<u8, IN_PLACE>) -> Result<Bytes, All
     }
 }
 
-/// Reads bytes as scripts write them. `None` says that an escape is malformed.
-pub(crate) fn read_escaped(alloc: Global, text: &[u8]) -> Result<Option<Bytes>, AllocError>
+// Puts bytes after so many, for which there is room.
+#[inline(always)]
+fn put_bytes(out: &mut [u8; FEW], len: usize, bytes: &[u8]) -> usize
+    requires { len + length bytes.now ≤ FEW }
+    ensures len { result ≡ len + length bytes.now }
+    ensures text { take result out.new ≡ take len out.old ++ bytes.now }
+{
+    out[len..len + bytes.len()].copy_from_slice(bytes);
+    len + bytes.len()
+}
+
+// Puts a byte after so many, if there is room.
+#[inline(always)]
+fn put_byte(out: &mut [u8; FEW], len: usize, byte: u8) -> usize
+    requires { len < FEW }
+    ensures len { result ≡ len + 1 }
+    ensures text { take result out.new ≡ take len out.old ++ byte ∷ [] }
+{
+    out[len] = byte;
+    len + 1
+}
+
+// Reads a text of few bytes, which are gathered in an array.
+fn read_few(alloc: Global, text: &[u8]) -> Result<Option<Bytes>, AllocError>
+    requires { length text.now ≤ FEW }
+    ensures { IfOk result (λ read. read ≡ escapes.unescaped text.now) }
+{
+    let mut bytes = [0; FEW];
+    let mut len = 0;
+    let mut rest = text;
+    'escapes: while let Some((plain, escape)) = split_at_first(b'\\', rest) {
+        len = put_bytes(&mut bytes, len, plain);
+        let Some((byte, behind)) = read_escape(escape) else {
+            return Ok(None);
+        };
+        len = put_byte(&mut bytes, len, byte);
+        rest = behind;
+    }
+    len = put_bytes(&mut bytes, len, rest);
+    Ok(Some(Bytes::from_slice(alloc, &bytes[..len])?))
+}
+
+// Reads a longer text.
+fn read_many(alloc: Global, text: &[u8]) -> Result<Option<Bytes>, AllocError>
     ensures { IfOk result (λ read. read ≡ escapes.unescaped text.now) }
 {
     let mut bytes = SmallVec::<u8, IN_PLACE>::with_capacity(alloc, text.len())?;
@@ -91,4 +136,15 @@ pub(crate) fn read_escaped(alloc: Global, text: &[u8]) -> Result<Option<Bytes>, 
     }
     bytes.extend_from_slice(rest)?;
     Ok(Some(into_bytes(alloc, bytes)?))
+}
+
+/// Reads bytes as scripts write them. `None` says that an escape is malformed.
+#[inline(always)]
+pub(crate) fn read_escaped(alloc: Global, text: &[u8]) -> Result<Option<Bytes>, AllocError>
+    ensures { IfOk result (λ read. read ≡ escapes.unescaped text.now) }
+{
+    if text.len() <= FEW {
+        return read_few(alloc, text);
+    }
+    read_many(alloc, text)
 }

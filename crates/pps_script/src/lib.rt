@@ -10,6 +10,7 @@ mod fault;
 mod laws;
 mod line;
 mod manner;
+mod numbers;
 mod script_line;
 mod serving;
 mod session;

@@ -80,10 +80,13 @@ pub(crate) fn serve_line(
     if says_nothing(line) {
         return Ok(());
     }
-    let Some(event) = read_command(alloc, line)? else {
-        return Err(LineFault::BadLine);
+    let read = read_command(alloc, line);
+    let event = match &read {
+        Err(_) => return Err(LineFault::OutOfMemory),
+        Ok(None) => return Err(LineFault::BadLine),
+        Ok(Some(event)) => event,
     };
-    let answer = engine.step(&event);
-    print_served(alloc, text, show, &event, &answer)?;
+    let answer = engine.step(event);
+    print_served(alloc, text, show, event, &answer)?;
     Ok(())
 }

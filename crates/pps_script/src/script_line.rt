@@ -3,8 +3,8 @@ ghost use Rattle.std.specs.Prelude.{◌≡◌, IfOk, ◌||◌};
 ghost use Rattle.pps_types.specs.Bytes.{is_empty, starts_with};
 ghost use Rattle.pps_script.specs.ScriptLines as script;
 
-use crate::commands::read_request;
-use crate::words::{first_word, read_conn};
+use crate::commands::read_event;
+use crate::words::first_conn;
 use pps_types::Event;
 use std::alloc::{AllocError, Global};
 
@@ -32,16 +32,10 @@ pub(crate) fn says_nothing(line: &[u8]) -> bool
 pub(crate) fn read_command(alloc: Global, line: &[u8]) -> Result<Option<Event>, AllocError>
     ensures { IfOk result (λ read. read ≡ script.command line.now) }
 {
-    let Some((conn, behind)) = first_word(line) else {
+    let Some((conn, rest)) = first_conn(line) else {
         return Ok(None);
     };
-    let Some(conn) = read_conn(conn) else {
-        return Ok(None);
-    };
-    let Some(request) = read_request(alloc, behind)? else {
-        return Ok(None);
-    };
-    Ok(Some(Event { conn, request }))
+    read_event(alloc, conn, rest)
 }
 
 /// Reads a line of a script, without its line feed. `None` says that it is a bad script line.

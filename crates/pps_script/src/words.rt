@@ -1,11 +1,9 @@
 //! The words of a line.
-ghost use Rattle.std.specs.Prelude.{◌≡◌, ◌≤◌, IfSome, option_map};
+ghost use Rattle.std.specs.Prelude.{◌≡◌, option_map};
 ghost use Rattle.pps_script.specs.ScriptLines as script;
 
-use pps_types::{Action, Conn, Handle, Mode, number_up_to, split_at_first};
-
-/// The most digits of a number.
-const DIGITS_MAX: usize = 10;
+use crate::numbers::{read_number, read_number_word};
+use pps_types::{Action, Conn, Handle, Mode, split_at_first};
 
 /// What stands before the first space, and what stands behind it.
 #[inline(always)]
@@ -15,25 +13,22 @@ pub(crate) fn first_word(text: &[u8]) -> Option<(&[u8], &[u8])>
     split_at_first(b' ', text)
 }
 
-// A number up to that size in decimal, without leading zeros.
+/// The number of a connection in the first word, and what comes after that word and its space.
 #[inline(always)]
-fn read_number(most: u32, word: &[u8]) -> Option<u32>
-    ensures value { result ≡ script.number_to most word.now }
-    ensures small { IfSome result (λ number. number ≤ most) }
+pub(crate) fn first_conn(text: &[u8]) -> Option<(Conn, &[u8])>
+    ensures { option_map (λ parts. (parts.0, parts.1.now)) result ≡ script.number_word 65535 text.now }
 {
-    if word == b"0".as_slice() {
-        return Some(0);
-    }
-    number_up_to(DIGITS_MAX, most, word)
+    let (number, rest) = read_number_word(65_535, text)?;
+    Some((Conn::new(number as u16), rest))
 }
 
-/// The number of a connection.
+/// The number of a handle in the first word, and what comes after that word and its space.
 #[inline(always)]
-pub(crate) fn read_conn(word: &[u8]) -> Option<Conn>
-    ensures { result ≡ script.conn_of word.now }
+pub(crate) fn first_handle(text: &[u8]) -> Option<(Handle, &[u8])>
+    ensures { option_map (λ parts. (parts.0, parts.1.now)) result ≡ script.number_word 4294967295 text.now }
 {
-    let number = read_number(65_535, word)?;
-    Some(Conn::new(number as u16))
+    let (number, rest) = read_number_word(u32::MAX, text)?;
+    Some((Handle::new(number), rest))
 }
 
 /// A size or a value.

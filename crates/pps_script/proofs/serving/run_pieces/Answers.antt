@@ -1,5 +1,4 @@
-use Rattle.std.proofs.Common.{◌≡◌, List, ℕ, [], false, length, take, arith, refl, sym, ap, subst, ◌∙◌, rules}
-use Rattle.std.specs.Prelude.{◌||◌}
+use Rattle.std.proofs.Common.{take, arith, refl, sym, ap, subst, ◌∙◌}
 use Rattle.std.proofs.lemmas.Result.{err_from_is_err_and}
 use Rattle.pps_types.specs.Device.{device_inner, device_failed, device_reads, device_stalls}
 use Rattle.pps_types.specs.Exchange.{input_of, output_of, held_in}

@@ -1,5 +1,5 @@
 use Rattle.pps_script.proofs.Unescaping.{unescaped-all, unescaped-bad, unescaped-more, rest-shorter}
-use Rattle.pps_script.proofs.escapes.read_escaped.Goals as goal
+use Rattle.pps_script.proofs.escapes.read_many.Goals as goal
 
 pub returns-in_default-read_escape : goal.returns-in_default-read_escape
 returns-in_default-read_escape c = unescaped-bad c.escapes.bytes.items c.escapes.rest.now c.in-Some.plain.now c.in-Some.escape.now _ c.escapes.invariant c.in-Some.ensures c.in_default-read_escape.ensures

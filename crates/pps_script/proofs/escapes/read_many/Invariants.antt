@@ -1,7 +1,7 @@
 use Rattle.std.proofs.Common.{◌≡◌, length}
 use Rattle.pps_script.specs.Escapes as escapes
 use Rattle.pps_script.proofs.Unescaping.{before}
-use Rattle.pps_script.proofs.escapes.read_escaped.Given as goal
+use Rattle.pps_script.proofs.escapes.read_many.Given as goal
 
 abbrev pub invariant-escapes : goal.invariant-escapes
 invariant-escapes l = before l.bytes.items (escapes.unescaped l.rest) ≡ escapes.unescaped l.text
