@@ -10,9 +10,9 @@ mod write;
 
 pub use limits::passes_limits;
 pub use print::{
-    client_header_len, header_len, line_len, print_header, print_line, push_client_header,
-    push_header, push_line, push_set, set_len,
+    client_header_len, header_len, line_len, print_header, print_line, push_attribute,
+    push_client_header, push_header, push_line, push_set, set_len,
 };
 pub use read::{WriteText, first_line, read_set, read_single, read_write, read_write_line};
 pub use show::show_value;
-pub use write::{write_client_header, write_header, write_line, write_set};
+pub use write::{write_attribute, write_client_header, write_header, write_line};

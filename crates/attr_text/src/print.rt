@@ -2,10 +2,10 @@
 ghost use Rattle.std.specs.Prelude.{◌≡◌, ◌+◌, ◌<◌, ◌≤◌, ◌^◌, ◌++◌, true, length, vec_len, vec_capacity, IfOk, IfSome, IfNone, OnErr, IsErrOf, if◌then◌else◌, codes, []};
 ghost use Rattle.std.specs.Option.{ForSome, option_to_list};
 ghost use Rattle.pps_types.specs.Text as text;
-ghost use Rattle.attr_text.specs.Printed.{set_text, header_text, client_header_text, HasRoomFor};
+ghost use Rattle.attr_text.specs.Printed.{set_text, attribute_text, header_text, client_header_text, HasRoomFor};
 
 use itoa::Buffer;
-use pps_types::{Handle, Line, Refusal};
+use pps_types::{AttributeContentRef, Handle, HeldLine, Refusal};
 use std::alloc::Global;
 
 /// The length of the printing of a line that sets an attribute, where it is a length. It takes no memory.
@@ -22,19 +22,12 @@ pub fn set_len(name: &[u8], enc: &[u8], value: &[u8], n: bool) -> Option<usize>
 
 /// The length of the printing of a line, where it is a length. It takes no memory.
 #[inline(always)]
-pub fn line_len(line: &Line) -> Option<usize>
+pub fn line_len(line: &HeldLine) -> Option<usize>
     ensures some { IfSome result (λ len. len ≡ length (text.print_line line.now)) }
     ensures none { IfNone result (2 ^ 64 ≤ length (text.print_line line.now)) }
 {
-    match line {
-        Line::Set {
-            name,
-            enc,
-            value,
-            n,
-        } => set_len(name.as_slice(), enc.as_slice(), value.as_slice(), *n),
-        Line::Del { name } => name.len().checked_add(2),
-    }
+    let marks = line.start().len() + 1;
+    marks.checked_add(line.text().len())
 }
 
 /// Pushes bytes for which there is room.
@@ -77,30 +70,34 @@ pub fn push_set(out: &mut Vec<u8>, name: &[u8], enc: &[u8], value: &[u8], n: boo
     out.push_reserved(b'\n');
 }
 
+/// Pushes the printing of an attribute, for which there is room. It takes no memory.
+#[tactic(auto, using(crate::proofs::Regroup::regroup))]
+pub fn push_attribute(out: &mut Vec<u8>, name: &[u8], content: &AttributeContentRef<'_>)
+    requires { HasRoomFor out.old (attribute_text name.now content.now) }
+    ensures items { out.new.items ≡ out.old.items ++ attribute_text name.now content.now }
+    ensures capacity { vec_capacity out.old ≤ vec_capacity out.new }
+{
+    push_bracket(out, content.n());
+    push_bytes(out, name);
+    out.push_reserved(b':');
+    push_bytes(out, content.text());
+    out.push_reserved(b'\n');
+}
+
 /// Pushes the printing of a line, for which there is room. It takes no memory.
 #[tactic(auto, using(crate::proofs::Regroup::regroup))]
-pub fn push_line(out: &mut Vec<u8>, line: &Line)
+pub fn push_line(out: &mut Vec<u8>, line: &HeldLine)
     requires { HasRoomFor out.old (text.print_line line.now) }
     ensures items { out.new.items ≡ out.old.items ++ text.print_line line.now }
     ensures capacity { vec_capacity out.old ≤ vec_capacity out.new }
 {
-    match line {
-        Line::Set {
-            name,
-            enc,
-            value,
-            n,
-        } => push_set(out, name.as_slice(), enc.as_slice(), value.as_slice(), *n),
-        Line::Del { name } => {
-            out.push_reserved(b'-');
-            push_bytes(out, name.as_slice());
-            out.push_reserved(b'\n');
-        }
-    }
+    push_bytes(out, line.start());
+    push_bytes(out, line.text());
+    out.push_reserved(b'\n');
 }
 
 /// The printing of a line.
-pub fn print_line(alloc: Global, line: &Line) -> Result<Vec<u8>, Refusal>
+pub fn print_line(alloc: Global, line: &HeldLine) -> Result<Vec<u8>, Refusal>
     ensures ok { IfOk result (λ printed. printed.items ≡ text.print_line line.now) }
     ensures err { OnErr result (IsErrOf result Refusal.OutOfMemory) }
 {

@@ -7,7 +7,7 @@ ghost use Rattle.attr_text.specs.ReadWrite.{first_line_of, lines_from, single_li
 
 use crate::parts::{is_encoding, split_at_colon, split_at_line_feed};
 use pps_types::limits::WRITE_MAX;
-use pps_types::{Bytes, Mark, Refusal, WriteLine, is_attribute_name};
+use pps_types::{Bytes, Mark, Refusal, WrittenLine, is_attribute_name};
 use std::alloc::{AllocError, Global};
 use std::marker::Model;
 
@@ -15,7 +15,7 @@ use std::marker::Model;
 #[derive(Debug, Drop)]
 pub struct WriteText {
     header: Option<Bytes>,
-    lines: Vec<WriteLine>,
+    lines: Vec<WrittenLine>,
 }
 
 impl Model for WriteText {
@@ -35,14 +35,14 @@ impl WriteText {
     }
 
     /// The lines that are not empty, in order.
-    pub fn lines(&self) -> &[WriteLine]
+    pub fn lines(&self) -> &[WrittenLine]
         ensures { result.now ≡ self.now.lines }
     {
         self.lines.as_slice()
     }
 
     /// The header and the lines. It takes no memory.
-    pub fn into_parts(self) -> (Option<Bytes>, Vec<WriteLine>)
+    pub fn into_parts(self) -> (Option<Bytes>, Vec<WrittenLine>)
         ensures header { result.0 ≡ self.header }
         ensures lines { result.1.items ≡ self.lines }
     {
@@ -52,40 +52,35 @@ impl WriteText {
 }
 
 /// Reads `name:encoding:value`, which stands behind a bracket of that meaning. `None` says that it is no such line.
-pub fn read_set(alloc: Global, mark: Mark, line: &[u8]) -> Result<Option<WriteLine>, AllocError>
+pub fn read_set(alloc: Global, mark: Mark, line: &[u8]) -> Result<Option<WrittenLine>, AllocError>
     ensures { IfOk result (λ read. read ≡ text.set_line mark line.now) }
 {
     let Some((name, rest)) = split_at_colon(line) else {
         return Ok(None);
     };
-    let Some((enc, value)) = split_at_colon(rest) else {
+    let Some((enc, _)) = split_at_colon(rest) else {
         return Ok(None);
     };
     if !is_attribute_name(name) || !is_encoding(enc) {
         return Ok(None);
     }
-    Ok(Some(WriteLine::Set {
-        name: Bytes::from_slice(alloc, name)?,
-        enc: Bytes::from_slice(alloc, enc)?,
-        value: Bytes::from_slice(alloc, value)?,
-        mark,
-    }))
+    let set = WrittenLine::set(alloc, line, name.len() as u8, enc.len() as u8, mark)?;
+    Ok(Some(set))
 }
 
 /// Reads what stands behind the `-` of a deletion. `None` says that it is no name.
-fn read_deletion(alloc: Global, name: &[u8]) -> Result<Option<WriteLine>, AllocError>
+fn read_deletion(alloc: Global, name: &[u8]) -> Result<Option<WrittenLine>, AllocError>
     ensures { IfOk result (λ read. read ≡ text.deletion_line name.now) }
 {
     if !is_attribute_name(name) {
         return Ok(None);
     }
-    Ok(Some(WriteLine::Del {
-        name: Bytes::from_slice(alloc, name)?,
-    }))
+    let deletion = WrittenLine::deletion(alloc, name)?;
+    Ok(Some(deletion))
 }
 
 /// Reads what stands behind the `[` of a line. `None` says that the line is malformed.
-fn read_bracketed(alloc: Global, behind: &[u8]) -> Result<Option<WriteLine>, AllocError>
+fn read_bracketed(alloc: Global, behind: &[u8]) -> Result<Option<WrittenLine>, AllocError>
     ensures { IfOk result (λ read. read ≡ text.write_line (codes "[" ++ behind.now)) }
 {
     match behind {
@@ -97,7 +92,7 @@ fn read_bracketed(alloc: Global, behind: &[u8]) -> Result<Option<WriteLine>, All
 
 /// Reads a line of a text, without its line feed: it sets or deletes an attribute. `None` says that it is malformed, as an
 /// empty one is.
-pub fn read_write_line(alloc: Global, line: &[u8]) -> Result<Option<WriteLine>, AllocError>
+pub fn read_write_line(alloc: Global, line: &[u8]) -> Result<Option<WrittenLine>, AllocError>
     ensures { IfOk result (λ read. read ≡ text.write_line line.now) }
 {
     match line {
@@ -122,7 +117,7 @@ pub fn first_line(bytes: &[u8]) -> (&[u8], &[u8])
 ///
 /// It is the short way for the commonest write, without memory for a list of lines.
 #[inline]
-pub fn read_single(alloc: Global, bytes: &[u8]) -> Result<Option<WriteLine>, AllocError>
+pub fn read_single(alloc: Global, bytes: &[u8]) -> Result<Option<WrittenLine>, AllocError>
     ensures line { IfOk result (λ read. read ≡ single_line bytes.now) }
     ensures text { IfOk result (λ read. IfSome read (IsSingle bytes.now)) }
 {
@@ -134,7 +129,7 @@ pub fn read_single(alloc: Global, bytes: &[u8]) -> Result<Option<WriteLine>, All
 }
 
 /// Reads the lines of the bytes, the first of which has that number.
-fn read_lines(alloc: Global, first: u32, bytes: &[u8]) -> Result<Vec<WriteLine>, Refusal>
+fn read_lines(alloc: Global, first: u32, bytes: &[u8]) -> Result<Vec<WrittenLine>, Refusal>
     requires { first + length bytes.now < 2 ^ 32 }
     ensures ok { IfOk result (λ lines. lines_from first bytes.now ≡ Ok lines.items) }
     ensures err { IfErr result (λ refusal. IsLinesRefusal first bytes.now refusal) }

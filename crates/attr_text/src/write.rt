@@ -2,11 +2,11 @@
 ghost use Rattle.std.specs.Prelude.{◌≡◌, ◌+◌, ◌≤◌, ◌++◌, ◌∷◌, [], true, length, if◌then◌else◌, codes};
 ghost use Rattle.std.specs.Option.{ForSome, option_to_list};
 ghost use Rattle.pps_types.specs.Text as text;
-ghost use Rattle.attr_text.specs.Printed.{set_text, header_text, client_header_text};
+ghost use Rattle.attr_text.specs.Printed.{attribute_text, header_text, client_header_text};
 ghost use Rattle.attr_text.specs.Written.{overwritten};
 
 use itoa::Buffer;
-use pps_types::{Handle, Line};
+use pps_types::{AttributeContentRef, Handle, HeldLine};
 
 // Writes a byte from `at` on, and says where it ends.
 #[inline]
@@ -83,48 +83,35 @@ fn write_bracket(out: &mut [u8], at: usize, n: bool) -> usize
     at
 }
 
-/// Writes the printing of a line that sets an attribute over what stands from `at` on, and says where it ends. It
-/// takes no memory.
+/// Writes the printing of an attribute over the bytes from `at` on, and reports where it ends. It takes no memory.
 ///
-/// Where many lines are printed this is quicker than [`push_set`](crate::push_set), since nothing asks for room.
+/// Where many attributes are printed this is quicker than [`push_attribute`](crate::push_attribute), since nothing asks
+/// for room.
 #[inline(always)]
-pub fn write_set(out: &mut [u8], at: usize, name: &[u8], enc: &[u8], value: &[u8], n: bool) -> usize
-    requires { at + length (set_text name.now enc.now value.now n) ≤ length out.old }
-    ensures text { out.new ≡ overwritten out.old at (set_text name.now enc.now value.now n) }
-    ensures end { result ≡ at + length (set_text name.now enc.now value.now n) }
+pub fn write_attribute(
+    out: &mut [u8],
+    at: usize,
+    name: &[u8],
+    content: &AttributeContentRef<'_>,
+) -> usize
+    requires { at + length (attribute_text name.now content.now) ≤ length out.old }
+    ensures text { out.new ≡ overwritten out.old at (attribute_text name.now content.now) }
+    ensures end { result ≡ at + length (attribute_text name.now content.now) }
 {
-    let at = write_bracket(out, at, n);
+    let at = write_bracket(out, at, content.n());
     let at = write_name(out, at, name);
-    let at = write_ended(out, at, enc, b':');
-    write_ended(out, at, value, b'\n')
+    write_ended(out, at, content.text(), b'\n')
 }
 
 /// Writes the printing of a line over the bytes from `at` on, and reports where it ends. It takes no memory.
 #[inline]
-pub fn write_line(out: &mut [u8], at: usize, line: &Line) -> usize
+pub fn write_line(out: &mut [u8], at: usize, line: &HeldLine) -> usize
     requires { at + length (text.print_line line.now) ≤ length out.old }
     ensures text { out.new ≡ overwritten out.old at (text.print_line line.now) }
     ensures end { result ≡ at + length (text.print_line line.now) }
 {
-    match line {
-        Line::Set {
-            name,
-            enc,
-            value,
-            n,
-        } => write_set(
-            out,
-            at,
-            name.as_slice(),
-            enc.as_slice(),
-            value.as_slice(),
-            *n,
-        ),
-        Line::Del { name } => {
-            let named = write_byte(out, at, b'-');
-            write_ended(out, named, name.as_slice(), b'\n')
-        }
-    }
+    let started = write_bytes(out, at, line.start());
+    write_ended(out, started, line.text(), b'\n')
 }
 
 // Writes the mark of a header, if there is one, and `@`.

@@ -18,7 +18,7 @@ use crate::writer::{Writer, writer_of};
 use attr_text::{WriteText, read_single, read_write};
 use name_table::NamedObject;
 use pps_types::limits::WRITE_MAX;
-use pps_types::{Bytes, Conn, Handle, HandleKind, Kind, Lines, ObjId, Refusal, WriteLine};
+use pps_types::{Bytes, Conn, Handle, HandleKind, Kind, Lines, ObjId, Refusal, WrittenLine};
 use server_queue::Entry;
 use service_state::{Tables, record_of};
 use std::alloc::{AllocError, Global};
@@ -201,14 +201,13 @@ fn text_draft(
 
 // What a line alone comes to that is written through an object's handle.
 #[inline(always)]
-fn line_draft(alloc: Global, object: &NamedObject, line: WriteLine) -> Result<Draft, AllocError>
+fn line_draft(object: &NamedObject, line: WrittenLine) -> Result<Draft, AllocError>
     ensures { IfOk result (IsLineDraft object.now line) }
 {
-    let mut lines = Vec::with_capacity(alloc, 1)?;
-    lines.push_reserved(object.attributes().resolve_one(line));
+    let line = object.attributes().resolve_one(line)?;
     Ok(Draft {
         object: object.number(),
-        kind: Kind::Change(Lines::new(lines)),
+        kind: Kind::Change(Lines::one(line)),
         has_lines: true,
     })
 }
@@ -231,7 +230,7 @@ fn draft_of(
     if let HandleKind::Object { .. } = writer.kind {
         let single = read_single(alloc, bytes.as_slice())?;
         if let Some(line) = single {
-            let draft = line_draft(alloc, writer.object, line)?;
+            let draft = line_draft(writer.object, line)?;
             return Ok(draft);
         }
     }

@@ -5,11 +5,14 @@ ghost use Rattle.pps_types.specs.Plan as planning;
 ghost use Rattle.handle_requests.specs.Addressed.{addressee_of};
 
 use crate::address::Recipient;
-use pps_types::{Handle, Kind, Line, Lines, WriteLine};
+use pps_types::{Handle, HeldLine, Kind, Lines, WrittenLine};
 use std::alloc::{AllocError, Global};
 
 /// The lines of a message.
-pub(crate) fn message_lines(alloc: Global, lines: Vec<WriteLine>) -> Result<Vec<Line>, AllocError>
+pub(crate) fn message_lines(
+    alloc: Global,
+    lines: Vec<WrittenLine>,
+) -> Result<Vec<HeldLine>, AllocError>
     ensures { IfOk result (λ told. told.items ≡ map history.message_line lines.items) }
 {
     let mut told = Vec::with_capacity(alloc, lines.len())?;
@@ -20,7 +23,7 @@ pub(crate) fn message_lines(alloc: Global, lines: Vec<WriteLine>) -> Result<Vec<
 }
 
 /// The message of a server.
-pub(crate) fn sent(to: Recipient, lines: Vec<Line>) -> Kind
+pub(crate) fn sent(to: Recipient, lines: Vec<HeldLine>) -> Kind
     ensures { result ≡ planning.sent (addressee_of to) lines.items }
 {
     match to {

@@ -14,7 +14,8 @@ use Rattle.pps_types.specs.OpenText.{path_text}
 use Rattle.pps_types.specs.Image.{SavedLine, SavedDirectory, SavedObject, as_line, print_path, Loaded, Position, Between, Behind, plain_number, may_follow, with_entry, directory_line, in_object, object_of, object_line, end_line, set_of, attribute_line}
 use Rattle.image_laws.specs.Images.{is_plain, is_saved_line, IsImageLine, is_new, IsSavedPath, object_head}
 use Rattle.image_laws.proofs.Numbers.{plain_number-only}
-use Rattle.image_laws.proofs.Paths.{path_text-only, split-only, prefix-only, plain-end}
+use Rattle.pps_types.proofs.Cuts.{split-only}
+use Rattle.image_laws.proofs.Paths.{path_text-only, prefix-only, plain-end}
 use Rattle.image_laws.proofs.Options.{and-then-some, if-some}
 use Rattle.image_laws.proofs.Entries.{line_body, follow-parts}
 

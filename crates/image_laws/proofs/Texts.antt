@@ -16,7 +16,8 @@ use Rattle.service_laws.proofs.Finds.{OfSome}
 use Rattle.service_laws.proofs.BoundedTexts.{OfOk, some-or, some-then}
 use Rattle.image_laws.specs.Images.{is_plain, are_plain, is_saved_line, IsSavedPath}
 use Rattle.image_laws.proofs.Lines.{pieces-plain}
-use Rattle.image_laws.proofs.Paths.{path_text-only, split-only, prefix-only, plain-end}
+use Rattle.pps_types.proofs.Cuts.{split-only}
+use Rattle.image_laws.proofs.Paths.{path_text-only, prefix-only, plain-end}
 
 -- ---- paths
 

@@ -21,7 +21,7 @@ use crate::named::{NamedDirectory, NamedObject};
 use alloc_tree::{Lent, Member, Tree};
 use number_table::{Iter, Table};
 use object_state::Object;
-use pps_types::{Bytes, DirId, Found, Handle, Line, ObjId, Refusal};
+use pps_types::{Bytes, DirId, Found, Handle, HeldLine, ObjId, Refusal};
 use std::alloc::{AllocError, Global};
 use std::marker::Model;
 
@@ -253,7 +253,7 @@ impl Names {
     ///
     /// It is TooLarge exactly where the object would pass a limit of objects after all of these lines. Else OutOfMemory
     /// is the only error. Where there is no such object, nothing is wanted.
-    pub fn change_ready(&mut self, object: ObjId, lines: &[Line]) -> Result<(), Refusal>
+    pub fn change_ready(&mut self, object: ObjId, lines: &[HeldLine]) -> Result<(), Refusal>
         ensures refusal { IfSome (placed_at object self.old) (λ x.
             IsRefusedAs result (change_refusal lines.now x)) }
         ensures ok { OnOk result (AreReadyFor object lines.now self.new) }
@@ -266,7 +266,7 @@ impl Names {
     }
 
     /// Changes an object by these lines, which were made ready for it. It takes no memory.
-    pub fn change(&mut self, object: ObjId, lines: &[Line])
+    pub fn change(&mut self, object: ObjId, lines: &[HeldLine])
         requires { AreReadyIn object lines.now self.old }
         ensures standing { HasHappened object (Change lines.now) self.old self.new }
     {

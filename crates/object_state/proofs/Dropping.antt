@@ -8,7 +8,7 @@ use Rattle.std.proofs.lemmas.List.Edits.{swap_is, swapped_from_swap}
 use Rattle.std.proofs.lemmas.List.Filters.{FiltersInPlace, FiltersInPlace-more_swap, FiltersInPlace-more_no}
 use Rattle.std.proofs.lemmas.Option.{slice_get-get_or}
 use Rattle.pps_types.specs.History.{persistent, text_length}
-use Rattle.object_state.specs.declared.content.Content.{Content}
+use Rattle.pps_types.specs.AttributeContent.{Content}
 use Rattle.object_state.specs.Effect.{bytes_of}
 use Rattle.object_state.specs.Entries.{attribute_of, attributes_of, line_length, persistent_length}
 use Rattle.object_state.proofs.Printing.{printed-content, text_length-cons}

@@ -8,7 +8,7 @@ use lib.Pointwise.{pointwise}
 use Rattle.indexmap.specs.IndexMap.{insert_entry}
 use Rattle.pps_types.specs.Bytes.{same}
 use Rattle.pps_types.specs.History.{Attribute, put, persistent, text_length}
-use Rattle.object_state.specs.declared.content.Content.{Content}
+use Rattle.pps_types.specs.AttributeContent.{Content}
 use Rattle.object_state.specs.Entries.{attribute_of, attributes_of, line_length}
 use Rattle.object_state.specs.Effect.{printed_length, of_named, length_at, bytes_of, AreDistinct}
 use Rattle.pps_types.proofs.SameBytes.{same-is, same-sym}

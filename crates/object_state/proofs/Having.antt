@@ -7,7 +7,7 @@ use lib.Pointwise.{pointwise}
 use Rattle.pps_types.specs.Bytes.{same}
 use Rattle.pps_types.specs.History.{Attribute}
 use Rattle.pps_types.proofs.SameBytes.{same-sym}
-use Rattle.object_state.specs.declared.content.Content.{Content}
+use Rattle.pps_types.specs.AttributeContent.{Content}
 use Rattle.object_state.specs.Entries.{attributes_of}
 
 pub has-key : (k : List ℕ) (es : List (List ℕ × Content)) → is_some (lookup (pointwise nat_eq k) es) ≡ list_any (λ (a : Attribute). same a.name k) (attributes_of es)

@@ -7,3 +7,4 @@ pub mod Dropping
 pub mod Having
 pub mod ByOrder
 pub mod Unmarked
+pub mod MarkedLines

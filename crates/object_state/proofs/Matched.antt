@@ -17,7 +17,7 @@ use Rattle.pps_types.specs.History.{Attribute, line_of}
 use Rattle.pps_types.specs.Text.{print_line}
 use Rattle.pps_filter.specs.declared.filter.Part.{Part as HeldPart}
 use Rattle.pps_filter.specs.Seen.{part_seen, parts_seen}
-use Rattle.object_state.specs.declared.content.Content.{Content}
+use Rattle.pps_types.specs.AttributeContent.{Content}
 use Rattle.object_state.specs.Entries.{attribute_of, attributes_of}
 use Rattle.object_state.specs.Held.{print_matching}
 use Rattle.object_state.specs.Places.{IsPlaceOf, IsFirstPlace, IsReached}

@@ -4,7 +4,7 @@ use Rattle.std.specs.Prelude.{filter}
 use Rattle.pps_types.specs.Filter.{Part, matches}
 use Rattle.pps_types.specs.History.{Attribute, line_of, text_length}
 use Rattle.pps_types.specs.Text.{print_line, print_lines}
-use Rattle.object_state.specs.declared.content.Content.{Content}
+use Rattle.pps_types.specs.AttributeContent.{Content}
 use Rattle.object_state.specs.Entries.{attribute_of, line_length}
 use Rattle.object_state.specs.Effect.{printed_length}
 use Rattle.object_state.specs.Held.{print_matching}

@@ -4,7 +4,7 @@ use Rattle.std.specs.Option.{option_map_or}
 use Rattle.indexmap.specs.IndexMap.{IndexMap}
 use Rattle.pps_types.specs.Bytes.{same}
 use Rattle.pps_types.specs.History.{Attribute, put}
-use Rattle.object_state.specs.declared.content.Content.{Content}
+use Rattle.pps_types.specs.AttributeContent.{Content}
 
 abbrev pub attribute_of : List ℕ × Content → Attribute
 attribute_of e = record { name = e.0; enc = e.1.enc; value = e.1.value; n = e.1.n }

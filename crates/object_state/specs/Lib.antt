@@ -10,3 +10,5 @@ pub mod Printed
 pub mod HeldView
 pub mod Short
 pub mod Marks
+pub mod LineParts
+pub mod MarkBefore

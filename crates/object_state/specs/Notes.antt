@@ -3,7 +3,7 @@ use Rattle.std.specs.Prelude.{◌≡◌, ℕ, List, Bool, if◌then◌else◌, O
 use Rattle.indexmap.specs.IndexMap.{IndexMap}
 use Rattle.pps_types.specs.Bytes.{same}
 use Rattle.pps_types.specs.History.{is_marked}
-use Rattle.object_state.specs.declared.content.Content.{Content}
+use Rattle.pps_types.specs.AttributeContent.{Content}
 use Rattle.object_state.specs.Effect.{length_at, noted_in, noted_or}
 use Rattle.object_state.specs.Entries.{attributes_in}
 

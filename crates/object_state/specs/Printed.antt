@@ -4,7 +4,7 @@ use Rattle.indexmap.specs.IndexMap.{IndexMap}
 use Rattle.pps_types.specs.Filter.{Part}
 use Rattle.pps_types.specs.History.{line_of}
 use Rattle.pps_types.specs.Text.{print_line}
-use Rattle.object_state.specs.declared.content.Content.{Content}
+use Rattle.pps_types.specs.AttributeContent.{Content}
 use Rattle.object_state.specs.Entries.{attribute_of, attributes_in}
 use Rattle.object_state.specs.Held.{print_matching}
 

@@ -1,12 +1,13 @@
--- Lines whose texts are short, so that copies of them take no memory.
-use Rattle.std.specs.Prelude.{◌≡◌, Bool, ◌&&◌, List, Vec, Option, None, Some, if◌then◌else◌, option_map}
+-- Lines whose texts are short, so that copies of their parts take no memory.
+use Rattle.std.specs.Prelude.{◌≡◌, Bool, ◌&&◌, ◌++◌, codes, List, Vec, Option, None, Some, if◌then◌else◌, option_map}
 use Rattle.std.specs.List.{list_all}
 use Rattle.pps_types.specs.HeldBytes.{is_short}
 use Rattle.pps_types.specs.declared.line.Line.{Line}
 use Rattle.pps_types.specs.declared.line.Line.TheVariants.{Set, Del}
 
+-- an encoding and a value are kept in one text
 abbrev pub is_short_line : Line → Bool
-is_short_line (Set name enc value n) = is_short name && is_short enc && is_short value
+is_short_line (Set name enc value n) = is_short name && is_short (enc ++ codes ":" ++ value)
 is_short_line (Del name) = is_short name
 
 abbrev pub are_short : List Line → Bool

@@ -9,13 +9,14 @@ ghost use Rattle.object_state.specs.Entries.{attribute_of, attributes_in, persis
 ghost use Rattle.object_state.specs.Limits.{after_lines};
 ghost use Rattle.object_state.specs.Short.{is_short_line, are_short, AreCopiesFor};
 
-use crate::content::{Attributes, Content};
+use crate::content::{Attributes, line_len};
+use crate::lines::{LineCopy, Parts};
 use pps_filter::Name;
-use pps_types::Line;
+use pps_types::{AttributeContent, Bytes, HeldLine, LineRef};
 
 /// Puts an attribute in the place of the one of that name, or last, for which there is room.
 #[inline(always)]
-fn set(map: &mut Attributes, text_len: usize, name: Name, content: Content) -> usize
+fn set(map: &mut Attributes, text_len: usize, name: Name, content: AttributeContent) -> usize
     requires room { 0 < spare map.old }
     requires kept { text_len ≡ history.text_length (attributes_in map.old) }
     requires fits { text_len + printed_length (attribute_of (name, content)) < 2 ^ 64 }
@@ -24,10 +25,10 @@ fn set(map: &mut Attributes, text_len: usize, name: Name, content: Content) -> u
     ensures room { spare map.old ≤ spare map.new + 1 }
 {
     let name_len = name.len();
-    let line_len = content.line_len(name_len);
+    let len = line_len(&content, name_len);
     match map.insert(name, content).unwrap() {
-        None => text_len + line_len,
-        Some(replaced) => text_len + line_len - replaced.line_len(name_len),
+        None => text_len + len,
+        Some(replaced) => text_len + len - line_len(&replaced, name_len),
     }
 }
 
@@ -43,11 +44,11 @@ fn delete(map: &mut Attributes, text_len: usize, name: &Name) -> usize
     let _len = map.len();
     match map.shift_remove(name) {
         None => text_len,
-        Some(deleted) => text_len - deleted.line_len(name.len()),
+        Some(deleted) => text_len - line_len(&deleted, name.len()),
     }
 }
 
-fn apply_line(map: &mut Attributes, text_len: usize, line: Line) -> usize
+fn apply_line(map: &mut Attributes, text_len: usize, line: LineCopy) -> usize
     requires room { 0 < spare map.old }
     requires kept { text_len ≡ history.text_length (attributes_in map.old) }
     requires fits { text_len + length (text.print_line line) < 2 ^ 64 }
@@ -55,19 +56,15 @@ fn apply_line(map: &mut Attributes, text_len: usize, line: Line) -> usize
     ensures kept { result ≡ history.text_length (attributes_in map.new) }
     ensures room { spare map.old ≤ spare map.new + 1 }
 {
-    match line {
-        Line::Set {
-            name,
-            enc,
-            value,
-            n,
-        } => set(map, text_len, Name::new(name), Content { enc, value, n }),
-        Line::Del { name } => delete(map, text_len, &Name::new(name)),
+    let LineCopy { parts } = line;
+    match parts {
+        Parts::Set { name, content } => set(map, text_len, name, content),
+        Parts::Del { name } => delete(map, text_len, &name),
     }
 }
 
 // Each line takes effect, one after the other.
-fn apply_lines(map: &mut Attributes, text_len: usize, lines: Vec<Line>) -> usize
+fn apply_lines(map: &mut Attributes, text_len: usize, lines: Vec<LineCopy>) -> usize
     requires room { length lines.items ≤ spare map.old }
     requires kept { text_len ≡ history.text_length (attributes_in map.old) }
     requires fits { text_len + length (text.print_lines lines.items) < 2 ^ 64 }
@@ -83,7 +80,7 @@ fn apply_lines(map: &mut Attributes, text_len: usize, lines: Vec<Line>) -> usize
 
 // A line takes effect. Its texts are short, and are copied.
 #[inline(always)]
-fn apply_copy(map: &mut Attributes, text_len: usize, line: &Line) -> usize
+fn apply_copy(map: &mut Attributes, text_len: usize, line: &HeldLine) -> usize
     requires short { is_short_line line.now ≡ true }
     requires room { 0 < spare map.old }
     requires kept { text_len ≡ history.text_length (attributes_in map.old) }
@@ -92,26 +89,17 @@ fn apply_copy(map: &mut Attributes, text_len: usize, line: &Line) -> usize
     ensures kept { result ≡ history.text_length (attributes_in map.new) }
     ensures room { spare map.old ≤ spare map.new + 1 }
 {
-    match line {
-        Line::Set {
-            name,
-            enc,
-            value,
-            n,
-        } => {
-            let content = Content {
-                enc: enc.short_copy(),
-                value: value.short_copy(),
-                n: *n,
-            };
-            set(map, text_len, Name::new(name.short_copy()), content)
+    match line.parts() {
+        LineRef::Set { name, content } => {
+            let name = Name::new(Bytes::short(name));
+            set(map, text_len, name, content.short_copy())
         }
-        Line::Del { name } => delete(map, text_len, &Name::new(name.short_copy())),
+        LineRef::Del { name } => delete(map, text_len, &Name::new(Bytes::short(name))),
     }
 }
 
 // Each line takes effect, one after the other. Their texts are short, and are copied.
-fn apply_short(map: &mut Attributes, text_len: usize, lines: &[Line]) -> usize
+fn apply_short(map: &mut Attributes, text_len: usize, lines: &[HeldLine]) -> usize
     requires short { are_short lines.now ≡ true }
     requires room { length lines.now ≤ spare map.old }
     requires kept { text_len ≡ history.text_length (attributes_in map.old) }
@@ -130,8 +118,8 @@ fn apply_short(map: &mut Attributes, text_len: usize, lines: &[Line]) -> usize
 pub(crate) fn apply_ready(
     map: &mut Attributes,
     text_len: usize,
-    copies: Option<Vec<Line>>,
-    lines: &[Line],
+    copies: Option<Vec<LineCopy>>,
+    lines: &[HeldLine],
 ) -> usize
     requires copies { AreCopiesFor lines.now copies }
     requires room { length lines.now ≤ spare map.old }
@@ -152,10 +140,10 @@ fn persistent_len(map: &Attributes, place: usize) -> Option<usize>
     ensures { result ≡ persistent_length map.now.entries place }
 {
     let (name, content) = map.get_index(place)?;
-    if content.n {
+    if content.n() {
         return None;
     }
-    Some(content.line_len(name.len()))
+    Some(line_len(content, name.len()))
 }
 
 // Moves the attribute in that place to the place behind those that are kept.

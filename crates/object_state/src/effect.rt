@@ -7,11 +7,11 @@ ghost use Rattle.object_state.specs.Entries.{attributes_in};
 ghost use Rattle.object_state.specs.Limits.{lines_pass_limits};
 ghost use Rattle.object_state.specs.Notes.{Notes, length_then};
 
-use crate::content::Attributes;
+use crate::content::{Attributes, line_len as content_line_len};
 use crate::noted::{Noted, OrderedName};
 use attr_text::{line_len, passes_limits};
 use pps_filter::Name;
-use pps_types::Line;
+use pps_types::{Bytes, HeldLine, LineRef};
 use std::alloc::{AllocError, Global};
 
 /// How many attributes there would be, how long their printed lines would be together, and, of each name that a line
@@ -40,7 +40,7 @@ fn len_before(map: &Attributes, name: &Name) -> Option<usize>
 {
     match map.get(name) {
         None => None,
-        Some(content) => Some(content.line_len(name.len())),
+        Some(content) => Some(content_line_len(content, name.len())),
     }
 }
 
@@ -68,7 +68,12 @@ impl Effect {
         Ok(())
     }
 
-    fn note_line(&mut self, map: &Attributes, line: &Line) -> Result<(), AllocError>
+    fn note_line(
+        &mut self,
+        alloc: Global,
+        map: &Attributes,
+        line: &HeldLine,
+    ) -> Result<(), AllocError>
         requires text { history.text_length (attributes_in map.now) < 2 ^ 64 }
         requires counts { self.old.count + 1 < 2 ^ 64 }
         requires fits { self.old.text_len + length (text.print_line line.now) < 2 ^ 64 }
@@ -76,14 +81,14 @@ impl Effect {
             → Foretells (noted_in self.old.noted) self.old.count self.old.text_len (attributes_in map.now) after
             → Foretells (noted_in self.new.noted) self.new.count self.new.text_len (attributes_in map.now) (history.apply_line after line.now)) }
     {
-        match line {
-            Line::Set { name, .. } => {
-                let name = OrderedName::new(name.copy()?);
+        match line.parts() {
+            LineRef::Set { name, .. } => {
+                let name = OrderedName::new(Bytes::from_slice(alloc, name)?);
                 self.note(map, name, line_len(line))?;
                 Ok(())
             }
-            Line::Del { name } => {
-                let name = OrderedName::new(name.copy()?);
+            LineRef::Del { name } => {
+                let name = OrderedName::new(Bytes::from_slice(alloc, name)?);
                 self.note(map, name, None)?;
                 Ok(())
             }
@@ -96,7 +101,7 @@ pub(crate) fn would_pass_limits(
     alloc: Global,
     map: &Attributes,
     text_len: usize,
-    lines: &[Line],
+    lines: &[HeldLine],
 ) -> Result<bool, AllocError>
     requires kept { text_len ≡ history.text_length (attributes_in map.now) }
     requires fits { text_len + length (text.print_lines lines.now) < 2 ^ 64 }
@@ -109,7 +114,7 @@ pub(crate) fn would_pass_limits(
         text_len,
     };
     'lines: for line in lines {
-        effect.note_line(map, line)?;
+        effect.note_line(alloc, map, line)?;
     }
     Ok(passes_limits(effect.count, effect.text_len))
 }

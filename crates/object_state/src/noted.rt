@@ -56,13 +56,6 @@ impl OrderedName {
         }
     }
 
-    pub(crate) fn into_bytes(self) -> Bytes
-        ensures { result ≡ self }
-    {
-        let OrderedName { name, .. } = self;
-        name.into_bytes()
-    }
-
     pub(crate) fn as_name(&self) -> &Name
         ensures { result.now ≡ self.now }
     {

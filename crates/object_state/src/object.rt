@@ -4,6 +4,8 @@ ghost use Rattle.std.specs.List.{list_any};
 ghost use Rattle.pps_types.specs.Bytes.{same};
 ghost use Rattle.pps_types.specs.History.{text_length, persistent, resolve, resolved};
 ghost use Rattle.pps_types.specs.Names as names;
+ghost use Rattle.object_state.specs.Entries.{attribute_of};
+ghost use Rattle.object_state.specs.Lent.{lent};
 ghost use Rattle.object_state.specs.Held.{matching_text, AppliesLines, IsReadyFor};
 ghost use Rattle.object_state.specs.Limits.{lines_pass_limits, length_with, IsLimitRefusal};
 ghost use Rattle.object_state.specs.Short.{AreCopiesFor};
@@ -12,14 +14,14 @@ use crate::changes::{apply_ready, drop_nonpersistent};
 use crate::content::Attributes;
 use crate::effect::would_pass_limits;
 use crate::lent::AttributeRef;
-use crate::lines::{copies_for, len_with, set_marks};
+use crate::lines::{LineCopy, copies_for, len_with, set_marks};
 use crate::marks::{resolve, resolve_one};
 use crate::print::{matching_len, push_all, push_matching};
 use crate::room::make_room;
 use attr_text::passes_limits;
 use indexmap::IndexMap;
 use pps_filter::{Filter, Name};
-use pps_types::{Line, Refusal, WriteLine};
+use pps_types::{AttributeContent, HeldLine, Refusal, WrittenLine};
 use std::alloc::{AllocError, Global};
 use std::marker::Model;
 
@@ -28,6 +30,19 @@ fn are_same(map: &Attributes, other: &Attributes) -> bool
     ensures { IsTrue result ↔ (map.now.entries ≡ other.now.entries) }
 {
     map.as_slice() == other.as_slice()
+}
+
+// An attribute, as it is lent.
+fn lend<'a>(name: &'a Name, content: &'a AttributeContent) -> AttributeRef<'a>
+    ensures { lent result ≡ attribute_of (name.now, content.now) }
+{
+    let content = content.lend();
+    AttributeRef {
+        name: name.as_slice(),
+        enc: content.enc(),
+        value: content.value(),
+        n: content.n(),
+    }
 }
 
 /// The attributes of one object, in the order in which they were created.
@@ -40,7 +55,7 @@ pub struct Object {
     // Whether an attribute may be nonpersistent. If not, no mark needs to be looked up.
     has_marks: bool,
     // Of the lines that were made ready, if some of their texts are too long to be copied without memory.
-    copies: Option<Vec<Line>>,
+    copies: Option<Vec<LineCopy>>,
 }
 
 impl Model for Object {
@@ -56,8 +71,6 @@ impl Model for Object {
 }
 
 impl Object {
-    ghost use Rattle.object_state.specs.Lent.{lent};
-
     /// An object without attributes. It takes no memory.
     pub fn new(alloc: Global) -> Object
         ensures attributes { result.attributes ≡ [] }
@@ -91,12 +104,7 @@ impl Object {
         ensures { option_map lent result ≡ slice_get self.now.attributes index }
     {
         let (name, content) = self.map.get_index(index)?;
-        Some(AttributeRef {
-            name: name.as_slice(),
-            enc: content.enc.as_slice(),
-            value: content.value.as_slice(),
-            n: content.n,
-        })
+        Some(lend(name, content))
     }
 
     /// Whether there is an attribute of that name.
@@ -177,7 +185,7 @@ impl Object {
     ///
     /// Without a bracket an attribute stays persistent or nonpersistent, as it was just before its line, and a new one
     /// is persistent (QNX PPS guide, on persistence). OutOfMemory is the only error.
-    pub fn resolve(&self, lines: Vec<WriteLine>) -> Result<Vec<Line>, Refusal>
+    pub fn resolve(&self, lines: Vec<WrittenLine>) -> Result<Vec<HeldLine>, Refusal>
         ensures ok { IfOk result (λ made. made.items ≡ resolve self.now.attributes lines.items) }
         ensures err { IsOkUnless result Refusal.OutOfMemory }
     {
@@ -185,21 +193,22 @@ impl Object {
         Ok(resolve(alloc, &self.map, lines)?)
     }
 
-    /// What a line of a write comes to that has no other line with it, as [`resolve`](Object::resolve) says. It takes no
-    /// memory. Its mark is looked up only if there may be nonpersistent attributes.
+    /// What a line of a write comes to that has no other line with it, as [`resolve`](Object::resolve) says. Its
+    /// mark is looked up, and memory taken for that, only if there may be nonpersistent attributes.
     #[inline]
-    pub fn resolve_one(&self, line: WriteLine) -> Line
-        ensures { result ≡ resolved self.now.attributes line }
+    pub fn resolve_one(&self, line: WrittenLine) -> Result<HeldLine, AllocError>
+        ensures { IfOk result (λ made. made ≡ resolved self.now.attributes line) }
     {
         if !self.has_marks {
-            return line.into_line();
+            return Ok(line.into_line());
         }
-        resolve_one(&self.map, line)
+        let alloc: Global = *self.map.allocator();
+        resolve_one(alloc, &self.map, line)
     }
 
     // Whether the attributes would pass a limit with these lines, which with the text are that long. Where they are few
     // and short enough, nothing is simulated.
-    fn is_too_large(&self, lines: &[Line], whole_len: usize) -> Result<bool, AllocError>
+    fn is_too_large(&self, lines: &[HeldLine], whole_len: usize) -> Result<bool, AllocError>
         requires { whole_len ≡ length_with self.now.attributes lines.now }
         ensures { IfOk result (λ passes. passes ≡ lines_pass_limits self.now.attributes lines.now) }
     {
@@ -211,7 +220,7 @@ impl Object {
     }
 
     // The copies that are held of lines that do not pass a limit.
-    fn checked_copies(&self, lines: &[Line]) -> Result<Option<Vec<Line>>, Refusal>
+    fn checked_copies(&self, lines: &[HeldLine]) -> Result<Option<Vec<LineCopy>>, Refusal>
         ensures refusal { IsLimitRefusal (names.refusal_of result) self.now.attributes lines.now }
         ensures ok { IfOk result (AreCopiesFor lines.now) }
         ensures len { OnOk result (length_with self.now.attributes lines.now < 2 ^ 64) }
@@ -232,7 +241,7 @@ impl Object {
     ///
     /// It is TooLarge exactly where the object would have more than 1,024 attributes, or more than 65,536 bytes of
     /// printed lines, after all of these lines. Else OutOfMemory is the only error.
-    pub fn apply_ready(&mut self, lines: &[Line]) -> Result<(), Refusal>
+    pub fn apply_ready(&mut self, lines: &[HeldLine]) -> Result<(), Refusal>
         ensures refusal { IsLimitRefusal (names.refusal_of result) self.old.attributes lines.now }
         ensures ok { OnOk result (IsReadyFor lines.now self.new) }
         ensures same { self.new.attributes ≡ self.old.attributes }
@@ -250,7 +259,7 @@ impl Object {
     /// A line that sets an absent attribute makes it the last, one that sets an attribute that is there changes it in
     /// its place, and a deletion leaves the others in their order (QNX PPS guide, on changing attributes). It is refused
     /// as [`apply_ready`](Object::apply_ready) is.
-    pub fn apply(&mut self, lines: &[Line]) -> Result<(), Refusal>
+    pub fn apply(&mut self, lines: &[HeldLine]) -> Result<(), Refusal>
         ensures refusal { IsLimitRefusal (names.refusal_of result) self.old.attributes lines.now }
         ensures attributes { OnOk result (AppliesLines lines.now self.old self.new) }
         ensures err { OnErr result (self.new.attributes ≡ self.old.attributes) }
@@ -263,7 +272,7 @@ impl Object {
 
     /// Applies these lines, which were made ready. It takes no memory: short lines are copied as they are applied, and of
     /// others the copies are there.
-    pub fn apply_commit(&mut self, lines: &[Line])
+    pub fn apply_commit(&mut self, lines: &[HeldLine])
         requires { IsReadyFor lines.now self.old }
         ensures attributes { AppliesLines lines.now self.old self.new }
         ensures copies { self.new.copies ≡ None }

@@ -13,7 +13,7 @@ fn place_of(map: &Attributes, part: &Part) -> Option<usize>
 {
     let place = map.get_index_of(part.name())?;
     let (_, content) = map.get_index(place)?;
-    if part.is_met_by(content.value.as_slice()) {
+    if part.is_met_by(content.lend().value()) {
         return Some(place);
     }
     None

@@ -5,10 +5,11 @@ ghost use Rattle.object_state.specs.Entries.{attributes_in};
 ghost use Rattle.object_state.specs.Held.{print_all};
 ghost use Rattle.object_state.specs.Printed.{print_entry, print_filtered};
 
-use crate::content::{Attributes, Content};
+use crate::content::{Attributes, line_len};
 use crate::places::first_place;
-use attr_text::{push_set, write_set};
+use attr_text::{push_attribute, write_attribute};
 use pps_filter::{Filter, Name};
+use pps_types::AttributeContent;
 
 /// How long the printed lines of those that match are.
 pub(crate) fn matching_len(map: &Attributes, filter: &Filter) -> usize
@@ -18,41 +19,28 @@ pub(crate) fn matching_len(map: &Attributes, filter: &Filter) -> usize
     let mut total = 0;
     let mut place = first_place(map, filter, 0);
     'places: while let Some((name, content)) = map.get_index(place) {
-        total += content.line_len(name.len());
+        total += line_len(content, name.len());
         place = first_place(map, filter, place + 1);
     }
     total
 }
 
 // Pushes the printed line of the attribute, for which there is room.
-fn push_entry(out: &mut Vec<u8>, name: &Name, content: &Content)
+fn push_entry(out: &mut Vec<u8>, name: &Name, content: &AttributeContent)
     requires { vec_len out.old + length (print_entry name.now content.now) ≤ vec_capacity out.old }
     ensures items { out.new.items ≡ out.old.items ++ print_entry name.now content.now }
     ensures capacity { vec_capacity out.old ≤ vec_capacity out.new }
 {
-    push_set(
-        out,
-        name.as_slice(),
-        content.enc.as_slice(),
-        content.value.as_slice(),
-        content.n,
-    );
+    push_attribute(out, name.as_slice(), &content.lend());
 }
 
 // Writes the printed line of the attribute over what stands from `at` on, and says where it ends.
-fn write_entry(out: &mut [u8], at: usize, name: &Name, content: &Content) -> usize
+fn write_entry(out: &mut [u8], at: usize, name: &Name, content: &AttributeContent) -> usize
     requires { at + length (print_entry name.now content.now) ≤ length out.old }
     ensures text { out.new ≡ overwritten out.old at (print_entry name.now content.now) }
     ensures end { result ≡ at + length (print_entry name.now content.now) }
 {
-    write_set(
-        out,
-        at,
-        name.as_slice(),
-        content.enc.as_slice(),
-        content.value.as_slice(),
-        content.n,
-    )
+    write_attribute(out, at, name.as_slice(), &content.lend())
 }
 
 // Writes the printed lines of all attributes over what stands from `start` on.

@@ -3,15 +3,16 @@ ghost use Rattle.std.specs.Prelude.{◌≡◌, true};
 ghost use Rattle.std.specs.Option.{ForSome};
 ghost use Rattle.pps_types.specs.Text as text;
 
+use crate::lines::held;
 use crate::page::Page;
 use crate::slip::Slip;
 use crate::words::Words;
 use attr_text::{
     client_header_len, header_len, line_len, passes_limits, print_header, print_line,
     push_client_header, push_header, push_line, push_set, read_write, set_len, show_value,
-    write_set,
+    write_line,
 };
-use pps_types::{Line, Mark, Refusal, Shown, WriteLine};
+use pps_types::{HeldLine, Line, LineRef, Mark, Refusal, Shown, WrittenLine};
 use std::alloc::{AllocError, Global};
 
 /// The mark before a header.
@@ -69,27 +70,23 @@ pub(crate) fn answer(words: &mut Words<'_>, page: &mut Page) -> Result<(), Slip>
 }
 
 // A line of a write: what it sets or removes.
-fn put_line(line: &WriteLine, page: &mut Page) -> Result<(), AllocError> {
-    match line {
-        WriteLine::Set {
-            name,
-            enc,
-            value,
-            mark,
-        } => {
+fn put_line(line: &WrittenLine, page: &mut Page) -> Result<(), AllocError> {
+    match line.parts() {
+        LineRef::Set { name, content } => {
             page.line(b"set")?;
-            page.text(name.as_slice())?;
-            page.text(enc.as_slice())?;
-            page.text(value.as_slice())?;
-            page.word(match mark {
-                Mark::Keep => b"keep".as_slice(),
-                Mark::On => b"on",
-                Mark::Off => b"off",
+            page.text(name)?;
+            page.text(content.enc())?;
+            page.text(content.value())?;
+            page.word(match line.mark() {
+                Some(Mark::Keep) => b"keep".as_slice(),
+                Some(Mark::On) => b"on",
+                Some(Mark::Off) => b"off",
+                None => b"none",
             })
         }
-        WriteLine::Del { name } => {
+        LineRef::Del { name } => {
             page.line(b"removal")?;
-            page.text(name.as_slice())
+            page.text(name)
         }
     }
 }
@@ -143,7 +140,7 @@ fn put_pushed(len: usize, text: &[u8], page: &mut Page) -> Result<(), AllocError
 }
 
 // A line, printed, and pushed after a `.`.
-fn put_both(alloc: Global, line: &Line, page: &mut Page) -> Result<(), Slip> {
+fn put_both(alloc: Global, line: &HeldLine, page: &mut Page) -> Result<(), Slip> {
     put_printed(print_line(alloc, line), page)?;
     let len = line_len(line).ok_or(Slip::NoRoom)?;
     let mut out = Vec::from_slice(alloc, b".")?;
@@ -175,6 +172,7 @@ fn answer_set(words: &mut Words<'_>, page: &mut Page) -> Result<(), Slip> {
         value,
         n,
     };
+    let line = held(words.alloc(), &line)?;
     put_both(words.alloc(), &line, page)?;
     put_pushed(len, out.as_slice(), page)?;
     Ok(())
@@ -185,6 +183,7 @@ fn answer_removal(words: &mut Words<'_>, page: &mut Page) -> Result<(), Slip> {
     let line = Line::Del {
         name: words.bytes()?,
     };
+    let line = held(words.alloc(), &line)?;
     put_both(words.alloc(), &line, page)
 }
 
@@ -192,17 +191,19 @@ fn answer_removal(words: &mut Words<'_>, page: &mut Page) -> Result<(), Slip> {
 fn answer_over(words: &mut Words<'_>, page: &mut Page) -> Result<(), Slip> {
     let at = words.size()?;
     let mut place = words.text()?;
-    let name = words.text()?;
-    let enc = words.text()?;
-    let value = words.text()?;
-    let n = words.flag()?;
-    let (name, enc, value) = (name.as_slice(), enc.as_slice(), value.as_slice());
-    let len = set_len(name, enc, value, n).ok_or(Slip::NoRoom)?;
+    let line = Line::Set {
+        name: words.bytes()?,
+        enc: words.bytes()?,
+        value: words.bytes()?,
+        n: words.flag()?,
+    };
+    let line = held(words.alloc(), &line)?;
+    let len = line_len(&line).ok_or(Slip::NoRoom)?;
     let end = at.checked_add(len).ok_or(Slip::NoRoom)?;
     if place.len() < end {
         return Err(Slip::NoRoom);
     }
-    let end = write_set(place.as_mut_slice(), at, name, enc, value, n);
+    let end = write_line(place.as_mut_slice(), at, &line);
     page.line(b"ends")?;
     page.size(end)?;
     page.text(place.as_slice())?;

@@ -6,7 +6,7 @@ use crate::words::Words;
 use attr_text::read_write;
 use pps_block::{Block, is_visible};
 use pps_filter::{Filter, read_filter};
-use pps_types::{Handle, HandleKind, Kind, Line, Lines, WriteLine};
+use pps_types::{Handle, HandleKind, Kind, Lines};
 use std::alloc::{AllocError, Global};
 
 /// The number of the handle that is asked. It matters for a client alone.
@@ -15,32 +15,14 @@ const NUMBER: u32 = 7;
 /// The name of the object that the block is of.
 const OBJECT: [u8; 1] = *b"s";
 
-// The line of a record that a line of a write is, without a mark.
-fn line_of(line: WriteLine) -> Line {
-    match line {
-        WriteLine::Set {
-            name,
-            enc,
-            value,
-            ..
-        } => Line::Set {
-            name,
-            enc,
-            value,
-            n: false,
-        },
-        WriteLine::Del { name } => Line::Del { name },
-    }
-}
-
-// The lines of the next text.
+// The lines of the next text, as a record holds them, without marks.
 fn read_lines(words: &mut Words<'_>) -> Result<Lines, Slip> {
     let text = words.text()?;
     let read = read_write(words.alloc(), text.as_slice())?;
     let (_, written) = read.into_parts();
     let mut lines = Vec::new(words.alloc());
     for line in written {
-        lines.push(line_of(line))?;
+        lines.push(line.into_line().with_mark(false))?;
     }
     Ok(Lines::new(lines))
 }

@@ -1,5 +1,6 @@
 //! Rows of filters: reading them, what they match, and where pieces end.
 
+use crate::lines::held;
 use crate::page::Page;
 use crate::slip::Slip;
 use crate::words::Words;
@@ -42,6 +43,7 @@ fn answer_match(words: &mut Words<'_>, page: &mut Page) -> Result<(), Slip> {
     page.line(b"is")?;
     match read_filter(words.alloc(), text.as_slice()) {
         Ok(filter) => {
+            let line = held(words.alloc(), &line)?;
             page.flag(filter.matches(&line))?;
             page.flag(matches(Some(&filter), &line))?;
             page.flag(matches(None, &line))?;

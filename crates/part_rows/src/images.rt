@@ -4,7 +4,7 @@ use crate::page::Page;
 use crate::slip::Slip;
 use crate::words::Words;
 use pps_persist::{EntryLine, read_attribute, read_beginning, read_entry_line};
-use pps_types::Line;
+use pps_types::LineRef;
 
 /// Answers a row of the crate `pps_persist`.
 pub(crate) fn answer(words: &mut Words<'_>, page: &mut Page) -> Result<(), Slip> {
@@ -57,23 +57,19 @@ fn answer_entry(words: &mut Words<'_>, page: &mut Page) -> Result<(), Slip> {
 // A line that sets an attribute, and whether it is nonpersistent.
 fn answer_attribute(words: &mut Words<'_>, page: &mut Page) -> Result<(), Slip> {
     let line = words.text()?;
-    match read_attribute(words.alloc(), line.as_slice())? {
-        Some(
-            Line::Set {
-                name,
-                enc,
-                value,
-                n,
-            },
-        ) => {
+    let Some(held) = read_attribute(words.alloc(), line.as_slice())? else {
+        page.word(b"none")?;
+        return Ok(());
+    };
+    match held.parts() {
+        LineRef::Set { name, content } => {
             page.word(b"set")?;
-            page.text(name.as_slice())?;
-            page.text(enc.as_slice())?;
-            page.text(value.as_slice())?;
-            page.flag(n)?;
+            page.text(name)?;
+            page.text(content.enc())?;
+            page.text(content.value())?;
+            page.flag(content.n())?;
         }
-        Some(Line::Del { name: _name }) => page.word(b"removal")?,
-        None => page.word(b"none")?,
+        LineRef::Del { name: _name } => page.word(b"removal")?,
     }
     Ok(())
 }

@@ -6,6 +6,7 @@ mod attributes;
 mod blocks;
 mod filters;
 mod images;
+mod lines;
 mod opens;
 mod outcomes;
 mod page;

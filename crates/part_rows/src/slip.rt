@@ -17,6 +17,8 @@ pub(crate) enum Slip {
     BadText,
     #[error("a number is malformed or too large")]
     BadNumber,
+    #[error("a name or an encoding is too long")]
+    TooLong,
     #[error("the place is too small")]
     NoRoom,
     #[error("a text that the row needs is refused")]

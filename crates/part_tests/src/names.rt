@@ -1,8 +1,9 @@
 //! Each public function on its happy path.
 ghost use Rattle.std.specs.Prelude.{◌≡◌, ◌∷◌, [], IfOk};
 
+use crate::samples::set_line;
 use name_table::{Names, last_name, members_are_listed, moves_are_told, parent};
-use pps_types::{Bytes, DirId, Found, Line, ObjId, Refusal};
+use pps_types::{Bytes, DirId, Found, HeldLine, ObjId, Refusal};
 use std::alloc::{AllocError, Global};
 use std::process::Abort;
 use std::test::Fail;
@@ -92,13 +93,8 @@ fn path_of(alloc: Global, name: &[u8]) -> Result<Vec<Bytes>, AllocError>
     Ok(path)
 }
 
-fn line(alloc: Global, name: &[u8], n: bool) -> Result<Line, AllocError> {
-    Ok(Line::Set {
-        name: Bytes::from_slice(alloc, name)?,
-        enc: Bytes::new(Vec::new(alloc)),
-        value: Bytes::from_slice(alloc, b"1")?,
-        n,
-    })
+fn line(alloc: Global, name: &[u8], n: bool) -> Result<HeldLine, Refusal> {
+    set_line(alloc, name, b"", b"1", n)
 }
 
 /// Creates an object of one name, if there is place for it.

@@ -4,7 +4,7 @@ use crate::samples::{assert_met, deletion, set_line};
 use attr_text::{read_single, read_write};
 use object_state::{AttributeRef, Object};
 use pps_filter::{Name, read_filter};
-use pps_types::{Bytes, Line, Refusal};
+use pps_types::{Bytes, HeldLine, Refusal};
 use std::alloc::{AllocError, Global};
 use std::process::Abort;
 use std::test::Fail;
@@ -86,7 +86,7 @@ fn commit_alone(alloc: Global, object: &mut Object, text: &[u8]) -> Result<(), R
     let Some(line) = read_single(alloc, text)? else {
         return Err(Refusal::BadText { line: 1 });
     };
-    let lines = [object.resolve_one(line)];
+    let lines = [object.resolve_one(line)?];
     object.apply_ready(&lines)?;
     object.apply_commit(&lines);
     Ok(())
@@ -109,21 +109,21 @@ enum Change {
     Del(u32),
 }
 
-fn set(alloc: Global, number: u32, len: usize, n: bool) -> Result<Line, AllocError> {
+fn set(alloc: Global, number: u32, len: usize, n: bool) -> Result<HeldLine, Refusal> {
     let value = vec![in alloc; b'v'; len]?;
     set_line(alloc, &numbered(number), b"", value.as_slice(), n)
 }
 
-fn line_of(alloc: Global, change: Change) -> Result<Line, AllocError> {
+fn line_of(alloc: Global, change: Change) -> Result<HeldLine, Refusal> {
     match change {
         Change::Set(number, len) => set(alloc, number, len, false),
         Change::SetNonpersistent(number, len) => set(alloc, number, len, true),
-        Change::Del(number) => deletion(alloc, &numbered(number)),
+        Change::Del(number) => Ok(deletion(alloc, &numbered(number))?),
     }
 }
 
 /// Lines that set the attributes of the numbers below the end, and then these.
-fn lines_of(alloc: Global, end: u32, changes: &[Change]) -> Result<Vec<Line>, AllocError> {
+fn lines_of(alloc: Global, end: u32, changes: &[Change]) -> Result<Vec<HeldLine>, Refusal> {
     let mut lines = Vec::new(alloc);
     for number in 0..end {
         lines.push(set(alloc, number, 1, false)?)?;

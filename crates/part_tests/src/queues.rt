@@ -7,8 +7,8 @@ use std::alloc::{AllocError, Global};
 use std::process::Abort;
 use std::test::Fail;
 
-fn lines(alloc: Global) -> Result<Lines, AllocError> {
-    one_line(alloc, set_line(alloc, b"a", b"n", b"1", false)?)
+fn lines(alloc: Global) -> Result<Lines, Refusal> {
+    Ok(one_line(alloc, set_line(alloc, b"a", b"n", b"1", false)?)?)
 }
 
 fn entry(alloc: Global, kind: Kind) -> Result<Entry, AllocError> {
@@ -26,7 +26,7 @@ enum Said {
 }
 
 /// The kind of a record that says so.
-fn kind_of(alloc: Global, said: Said) -> Result<Kind, AllocError> {
+fn kind_of(alloc: Global, said: Said) -> Result<Kind, Refusal> {
     Ok(match said {
         Said::Opened(handle) => Kind::Opened(Handle::new(handle)),
         Said::Closed(handle) => Kind::Closed(Handle::new(handle)),

@@ -1,8 +1,9 @@
+use crate::samples::{one_line, set_line};
 use object_state::Object;
 use open_options::HandleOptions;
-use pps_types::{Bytes, Conn, Handle, HandleKind, Kind, Line, Lines, ObjId, Record, Refusal};
+use pps_types::{Bytes, Conn, Handle, HandleKind, HeldLine, Kind, ObjId, Record, Refusal};
 use server_queue::Entry;
-use std::alloc::{AllocError, Global};
+use std::alloc::Global;
 use std::process::Abort;
 use std::test::Fail;
 use sub_reader::{Opening, Pulse};
@@ -26,25 +27,18 @@ fn opening(kind: HandleKind) -> Opening {
 }
 
 /// A line that sets an attribute to a number.
-fn line(alloc: Global) -> Result<Line, AllocError> {
-    Ok(Line::Set {
-        name: Bytes::from_slice(alloc, b"a")?,
-        enc: Bytes::from_slice(alloc, b"n")?,
-        value: Bytes::from_slice(alloc, b"1")?,
-        n: false,
-    })
+fn line(alloc: Global) -> Result<HeldLine, Refusal> {
+    set_line(alloc, b"a", b"n", b"1", false)
 }
 
 /// A change of object 1 by the handle of that number.
-fn change(alloc: Global, writer: u32) -> Result<Entry, AllocError> {
-    let mut lines = Vec::new(alloc);
-    lines.push(line(alloc)?)?;
+fn change(alloc: Global, writer: u32) -> Result<Entry, Refusal> {
     let made = Record {
         object: ObjId::new(1),
-        kind: Kind::Change(Lines::new(lines)),
+        kind: Kind::Change(one_line(alloc, line(alloc)?)?),
         writer: Some(Handle::new(writer)),
     };
-    Entry::new(alloc, 7, Bytes::from_slice(alloc, b"gps")?, made)
+    Ok(Entry::new(alloc, 7, Bytes::from_slice(alloc, b"gps")?, made)?)
 }
 
 /// The late reply to a read of that size by handle 4 on object 1, behind two changes, one by the handle itself.
@@ -112,7 +106,7 @@ fn late_replies_are_as_wanted(rt: HostRuntime) -> Result<(), Fail> {
 }
 
 /// Three changes of object 1 by others.
-fn three_changes(alloc: Global) -> Result<[Entry; 3], AllocError> {
+fn three_changes(alloc: Global) -> Result<[Entry; 3], Refusal> {
     Ok([change(alloc, 9)?, change(alloc, 9)?, change(alloc, 5)?])
 }
 

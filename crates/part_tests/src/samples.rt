@@ -1,6 +1,6 @@
 //! What tests of all parts are made from.
 
-use pps_types::{Bytes, Handle, Kind, Line, Lines, ObjId, Record, Refusal, SharedBytes};
+use pps_types::{Bytes, Handle, HeldLine, Kind, Line, Lines, ObjId, Record, Refusal, SharedBytes};
 use std::alloc::{AllocError, Global};
 use std::process::Abort;
 
@@ -21,30 +21,29 @@ pub(crate) fn path(alloc: Global, names: &[&[u8]]) -> Result<Vec<Bytes>, AllocEr
     Ok(path)
 }
 
-/// A line that sets an attribute, nonpersistent where so.
+/// A line that sets an attribute, nonpersistent where so. It is refused where its name or its encoding is too long for one.
 pub(crate) fn set_line(
     alloc: Global,
     name: &[u8],
     enc: &[u8],
     value: &[u8],
     n: bool,
-) -> Result<Line, AllocError> {
-    Ok(Line::Set {
+) -> Result<HeldLine, Refusal> {
+    let line = Line::Set {
         name: bytes(alloc, name)?,
         enc: bytes(alloc, enc)?,
         value: bytes(alloc, value)?,
         n,
-    })
+    };
+    HeldLine::from_line(alloc, &line)?.ok_or(Refusal::BadText { line: 1 })
 }
 
 /// A line that deletes an attribute.
-pub(crate) fn deletion(alloc: Global, name: &[u8]) -> Result<Line, AllocError> {
-    Ok(Line::Del {
-        name: bytes(alloc, name)?,
-    })
+pub(crate) fn deletion(alloc: Global, name: &[u8]) -> Result<HeldLine, AllocError> {
+    HeldLine::deletion(alloc, name)
 }
 
-pub(crate) fn one_line(alloc: Global, line: Line) -> Result<Lines, AllocError> {
+pub(crate) fn one_line(alloc: Global, line: HeldLine) -> Result<Lines, AllocError> {
     let mut lines = Vec::new(alloc);
     lines.push(line)?;
     Ok(Lines::new(lines))

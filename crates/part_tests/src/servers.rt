@@ -38,7 +38,7 @@ enum Said {
 }
 
 /// The kind of a record that says so.
-fn kind_of(alloc: Global, said: Said) -> Result<Kind, AllocError> {
+fn kind_of(alloc: Global, said: Said) -> Result<Kind, Refusal> {
     Ok(match said {
         Said::FromClient(handle) => Kind::FromClient(Handle::new(handle), lines(alloc)?),
         Said::ToClient(handle) => Kind::ToClient(Handle::new(handle), lines(alloc)?),
@@ -59,17 +59,17 @@ fn writer_of(said: Said) -> Option<Handle> {
 }
 
 /// A record of object 1, in directory 7.
-fn entry(alloc: Global, said: Said) -> Result<Entry, AllocError> {
+fn entry(alloc: Global, said: Said) -> Result<Entry, Refusal> {
     let made = Record {
         object: ObjId::new(1),
         kind: kind_of(alloc, said)?,
         writer: writer_of(said),
     };
-    Entry::new(alloc, 7, Bytes::from_slice(alloc, b"srv")?, made)
+    Ok(Entry::new(alloc, 7, Bytes::from_slice(alloc, b"srv")?, made)?)
 }
 
 /// Offers a record to the handles.
-fn offer(alloc: Global, service: &mut ServerHandles, said: Said) -> Result<(), AllocError> {
+fn offer(alloc: Global, service: &mut ServerHandles, said: Said) -> Result<(), Refusal> {
     let made = entry(alloc, said)?;
     service.reserve(std::slice::from_ref(&made))?;
     let shares = service.shares(alloc, made)?;
@@ -94,7 +94,7 @@ fn wakes(
     service: &ServerHandles,
     said: Said,
     handle: Option<u32>,
-) -> Result<bool, AllocError> {
+) -> Result<bool, Refusal> {
     let made = entry(alloc, said)?;
     let woken = service.woken_by(alloc, std::slice::from_ref(&made))?;
     Ok(is_alone(woken.as_slice(), handle))

@@ -1,9 +1,10 @@
 //! What tests by steps share.
 ghost use Rattle.std.specs.Prelude.{◌≡◌};
 
+use crate::samples::{one_line, set_line};
 use open_options::HandleOptions;
-use pps_types::{Bytes, Conn, Handle, HandleKind, Line, Lines};
-use std::alloc::{AllocError, Global};
+use pps_types::{Conn, Handle, HandleKind, Lines, Refusal};
+use std::alloc::Global;
 use std::process::Abort;
 use sub_reader::Opening;
 
@@ -32,15 +33,8 @@ pub(crate) fn limit_of(opening: Option<&Opening>) -> Option<u32> {
 }
 
 /// One line, which sets an attribute.
-pub(crate) fn lines(alloc: Global) -> Result<Lines, AllocError> {
-    let mut lines = Vec::new(alloc);
-    lines.push(Line::Set {
-        name: Bytes::from_slice(alloc, b"a")?,
-        enc: Bytes::from_slice(alloc, b"n")?,
-        value: Bytes::from_slice(alloc, b"1")?,
-        n: false,
-    })?;
-    Ok(Lines::new(lines))
+pub(crate) fn lines(alloc: Global) -> Result<Lines, Refusal> {
+    Ok(one_line(alloc, set_line(alloc, b"a", b"n", b"1", false)?)?)
 }
 
 /// Whether that handle is woken alone, or nobody.

@@ -41,7 +41,7 @@ fn entry(
 }
 
 /// Offers so many changes of object 1 by nobody here.
-fn offer_changes(alloc: Global, target: &mut Subscribers, count: usize) -> Result<(), AllocError> {
+fn offer_changes(alloc: Global, target: &mut Subscribers, count: usize) -> Result<(), Refusal> {
     'changes: for _ in 0..count {
         let made = entry(alloc, 1, Kind::Change(lines(alloc)?), None)?;
         target.reserve(1)?;
@@ -98,7 +98,7 @@ fn offer_one(
 }
 
 /// Whether a change of object 1 wakes that handle alone, or nobody.
-fn wakes(alloc: Global, target: &Subscribers, handle: Option<u32>) -> Result<bool, AllocError> {
+fn wakes(alloc: Global, target: &Subscribers, handle: Option<u32>) -> Result<bool, Refusal> {
     let made = [entry(alloc, 1, Kind::Change(lines(alloc)?), None)?];
     let woken = target.woken_by(alloc, &made)?;
     Ok(is_alone(woken.as_slice(), handle))

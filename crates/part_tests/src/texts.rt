@@ -1,6 +1,7 @@
+use crate::samples::set_line;
 use object_state::Object;
 use pps_filter::read_filter;
-use pps_types::{Bytes, HandleKind, Kind, Line, Lines, Refusal};
+use pps_types::{HandleKind, HeldLine, Kind, Lines, Refusal};
 use server_queue::GivenBlocks;
 use std::alloc::{AllocError, Global};
 use std::process::Abort;
@@ -11,13 +12,8 @@ use whole_texts::{
 };
 
 /// A line that sets an attribute, without an encoding.
-fn line(alloc: Global, name: &[u8], value: &[u8]) -> Result<Line, AllocError> {
-    Ok(Line::Set {
-        name: Bytes::from_slice(alloc, name)?,
-        enc: Bytes::from_slice(alloc, b"")?,
-        value: Bytes::from_slice(alloc, value)?,
-        n: false,
-    })
+fn line(alloc: Global, name: &[u8], value: &[u8]) -> Result<HeldLine, Refusal> {
+    set_line(alloc, name, b"", value, false)
 }
 
 /// An object with two attributes.

@@ -17,7 +17,7 @@ ghost use Rattle.path_requests.specs.Restored.{Yields, FailsAs, RefusesEachLine,
 use name_table::questions_are_told;
 use open_handles::SharedRecord;
 use pps_filter::Name;
-use pps_types::{Bytes, Found, Kind, Line, Lines, ObjId, Refusal};
+use pps_types::{Bytes, Found, HeldLine, Kind, LineRef, Lines, ObjId, Refusal};
 use service_state::{Tables, record_of};
 use std::alloc::{AllocError, Global};
 use std::slice::from_ref;
@@ -39,12 +39,14 @@ fn object_at(tables: &Tables, path: &[Bytes]) -> Result<ObjId, Refusal>
 }
 
 // The name that a line sets or deletes.
-fn name_of(line: &Line) -> Result<Name, AllocError>
+fn name_of(alloc: Global, line: &HeldLine) -> Result<Name, AllocError>
     ensures { IfOk result (λ name. name ≡ restoring.name_of line.now) }
 {
-    match line {
-        Line::Set { name, .. } | Line::Del { name } => Ok(Name::new(name.copy()?)),
-    }
+    let name = match line.parts() {
+        LineRef::Set { name, .. } => name,
+        LineRef::Del { name } => name,
+    };
+    Ok(Name::new(Bytes::from_slice(alloc, name)?))
 }
 
 // Whether an object has an attribute of that name.
@@ -66,7 +68,7 @@ fn objects_are_placed(tables: &Tables, object: ObjId)
 
 // Takes the memory for lines of an object. It is TooLarge exactly where the object would pass its limits, and else
 // OutOfMemory is the only error.
-fn lines_ready(tables: &mut Tables, object: ObjId, lines: &[Line]) -> Result<(), Refusal>
+fn lines_ready(tables: &mut Tables, object: ObjId, lines: &[HeldLine]) -> Result<(), Refusal>
     requires { IsSome (live_object_in tables.old object) }
     ensures content { content_in tables.new ≡ content_in tables.old }
     ensures passes { OnOk result (StaysWithinLimits object lines.now tables.old) }
@@ -77,17 +79,17 @@ fn lines_ready(tables: &mut Tables, object: ObjId, lines: &[Line]) -> Result<(),
     tables.change_ready(object, lines)
 }
 
-// The record of a change of an object by lines that are ready, with the memory to tell it. OutOfMemory is the only error.
+// The record of a change of an object by a line that is ready, with the memory to tell it. OutOfMemory is the only error.
 fn change_told(
     tables: &mut Tables,
     alloc: Global,
     object: ObjId,
-    lines: Vec<Line>,
+    line: HeldLine,
 ) -> Result<SharedRecord, Refusal>
     requires alive { IsSome (live_object_in tables.old object) }
-    requires lines { AreReadyFor object lines.items tables.old.names }
+    requires lines { AreReadyFor object (line ∷ []) tables.old.names }
     ensures content { content_in tables.new ≡ content_in tables.old }
-    ensures entry { IfOk result (λ t. IsRecordOf t.entry object (Change lines.items) tables.old) }
+    ensures entry { IfOk result (λ t. IsRecordOf t.entry object (Change (line ∷ [])) tables.old) }
     ensures lines { IfOk result (λ told. HasLines told.entry tables.new.names) }
     ensures room { IfOk result (λ told. HasRoom (told.entry ∷ []) tables.new.handles) }
     ensures shared { IfOk result (λ told. IsShared told.count told.entry tables.new.handles) }
@@ -96,7 +98,7 @@ fn change_told(
     let Some(known) = tables.names().object(object) else {
         unreachable!();
     };
-    let entry = record_of(alloc, known, Kind::Change(Lines::new(lines)), None)?;
+    let entry = record_of(alloc, known, Kind::Change(Lines::one(line)), None)?;
     tables.tell_ready(alloc, entry)
 }
 
@@ -109,14 +111,14 @@ pub fn restore_line(
     tables: &mut Tables,
     alloc: Global,
     path: &[Bytes],
-    line: Line,
+    line: HeldLine,
 ) -> Result<(), Refusal>
     requires { IsContent (content_in tables.old) }
     ensures done { OnOk result (Yields (line_restored tables.old path.now line) tables.new) }
     ensures refused { IfErr result (λ r. FailsAs (line_restored tables.old path.now line) r) }
     ensures kept { OnErr result (content_in tables.new ≡ content_in tables.old) }
 {
-    let name = name_of(&line)?;
+    let name = name_of(alloc, &line)?;
     let object = object_at(tables, path)?;
     if has_attribute(tables, object, &name) {
         return Err(Refusal::Exists);
@@ -131,9 +133,7 @@ pub fn restore_line(
         tables.change_unheard(object, change);
         return Ok(());
     }
-    let mut lines = Vec::with_capacity(alloc, 1)?;
-    lines.push_reserved(line);
-    let told = change_told(tables, alloc, object, lines)?;
+    let told = change_told(tables, alloc, object, line)?;
     tables.happen(told);
     Ok(())
 }

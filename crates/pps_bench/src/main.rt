@@ -2,14 +2,16 @@
 //! it does nothing.
 #![tactic(auto)]
 
+mod lines;
 mod objects;
 mod texts;
 mod trees;
 
 use attr_text::{print_line, read_write};
+use lines::set_line;
 use objects::{print_object_often, print_some_often, write_often};
 use pps_filter::read_filter;
-use pps_types::{Bytes, Line, Refusal};
+use pps_types::Refusal;
 use std::alloc::{AllocError, Global};
 use std::{env, io};
 use texts::{Choice, write_names_often, write_text_often};
@@ -37,12 +39,7 @@ fn read_often(alloc: Global, line: &[u8], count: u32, rounds: u32) -> Result<u64
 
 /// Prints a line that often, and counts the bytes.
 fn print_often(alloc: Global, rounds: u32) -> Result<u64, Refusal> {
-    let line = Line::Set {
-        name: Bytes::from_slice(alloc, b"temperature")?,
-        enc: Bytes::from_slice(alloc, b"n")?,
-        value: Bytes::from_slice(alloc, b"21.5 degrees")?,
-        n: true,
-    };
+    let line = set_line(alloc, b"temperature", b"21.5 degrees", true)?;
     let mut done = 0u64;
     for _ in 0..rounds {
         done = done.wrapping_add(print_line(alloc, &line)?.len() as u64);
@@ -50,23 +47,14 @@ fn print_often(alloc: Global, rounds: u32) -> Result<u64, Refusal> {
     Ok(done)
 }
 
-fn set_line(alloc: Global, name: &[u8], value: &[u8]) -> Result<Line, AllocError> {
-    Ok(Line::Set {
-        name: Bytes::from_slice(alloc, name)?,
-        enc: Bytes::from_slice(alloc, b"n")?,
-        value: Bytes::from_slice(alloc, value)?,
-        n: false,
-    })
-}
-
 /// Asks a filter of four lines that often, and counts those that match.
 fn match_often(alloc: Global, rounds: u32) -> Result<u64, Refusal> {
     let filter = read_filter(alloc, b"altitude+speed>60+city!=Rome")?;
     let mut lines = Vec::new(alloc);
-    lines.push(set_line(alloc, b"speed", b"61")?)?;
-    lines.push(set_line(alloc, b"city", b"Rome")?)?;
-    lines.push(set_line(alloc, b"altitude", b"12")?)?;
-    lines.push(set_line(alloc, b"heading", b"270")?)?;
+    lines.push(set_line(alloc, b"speed", b"61", false)?)?;
+    lines.push(set_line(alloc, b"city", b"Rome", false)?)?;
+    lines.push(set_line(alloc, b"altitude", b"12", false)?)?;
+    lines.push(set_line(alloc, b"heading", b"270", false)?)?;
     let mut done = 0u64;
     for _ in 0..rounds {
         for line in &lines {

@@ -1,29 +1,24 @@
 //! Attributes of an object.
 
+use crate::lines::set_line;
 use object_state::Object;
 use pps_filter::read_filter;
-use pps_types::{Bytes, Line, Refusal};
-use std::alloc::{AllocError, Global};
+use pps_types::{HeldLine, Refusal};
+use std::alloc::Global;
 
 /// How many writes differ.
 const WRITES: u32 = 16;
 
 /// The name of an attribute.
-fn name(alloc: Global, number: u32) -> Result<Bytes, AllocError> {
+fn name(number: u32) -> [u8; 4] {
     let [.., high, low] = number.to_be_bytes();
-    let letters = [b'n', b'a' + high % 16, b'a' + low / 16, b'a' + low % 16];
-    Bytes::from_slice(alloc, &letters)
+    [b'n', b'a' + high % 16, b'a' + low / 16, b'a' + low % 16]
 }
 
 /// The line that sets an attribute for the so-many-th time.
-pub(crate) fn set_line(alloc: Global, number: u32, time: u32) -> Result<Line, AllocError> {
+fn line_of(alloc: Global, number: u32, time: u32) -> Result<HeldLine, Refusal> {
     let digit = b'0' + (time % 10) as u8;
-    Ok(Line::Set {
-        name: name(alloc, number)?,
-        enc: Bytes::from_slice(alloc, b"n")?,
-        value: Bytes::from_slice(alloc, &[digit, b'1', b'.', b'5'])?,
-        n: false,
-    })
+    set_line(alloc, &name(number), &[digit, b'1', b'.', b'5'], false)
 }
 
 /// So many lines of one of the writes to an object of that many attributes.
@@ -32,17 +27,17 @@ fn write_lines(
     attributes: u32,
     count: u32,
     time: u32,
-) -> Result<Vec<Line>, AllocError> {
+) -> Result<Vec<HeldLine>, Refusal> {
     let mut lines = Vec::new(alloc);
     for line in 0..count {
         let number = time.wrapping_mul(7_919).wrapping_add(line.wrapping_mul(31))
             % attributes.max(1);
-        lines.push(set_line(alloc, number % 1_024, time)?)?;
+        lines.push(line_of(alloc, number % 1_024, time)?)?;
     }
     Ok(lines)
 }
 
-fn writes(alloc: Global, attributes: u32, count: u32) -> Result<Vec<Vec<Line>>, AllocError> {
+fn writes(alloc: Global, attributes: u32, count: u32) -> Result<Vec<Vec<HeldLine>>, Refusal> {
     let mut writes = Vec::new(alloc);
     for time in 0..WRITES {
         writes.push(write_lines(alloc, attributes, count, time)?)?;
@@ -54,7 +49,7 @@ fn writes(alloc: Global, attributes: u32, count: u32) -> Result<Vec<Vec<Line>>, 
 fn object(alloc: Global, attributes: u32) -> Result<Object, Refusal> {
     let mut object = Object::new(alloc);
     for number in 0..attributes.min(1_024) {
-        object.apply(&[set_line(alloc, number, 0)?])?;
+        object.apply(&[line_of(alloc, number, 0)?])?;
     }
     Ok(object)
 }

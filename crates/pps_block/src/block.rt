@@ -14,7 +14,7 @@ use attr_text::{
     write_header,
 };
 use pps_filter::Filter;
-use pps_types::{Handle, Line};
+use pps_types::{Handle, HeldLine};
 use std::marker::Model;
 
 /// What a handle is given of a record, before it is printed. It has lines that are all printed, and after them lines of
@@ -26,9 +26,9 @@ pub struct Block<'a> {
     mark: Option<u8>,
     client: Option<Handle>,
     // All of these are printed.
-    given: &'a [Line],
+    given: &'a [HeldLine],
     // Of these, those that match the filter.
-    more: &'a [Line],
+    more: &'a [HeldLine],
     filter: Option<&'a Filter>,
 }
 
@@ -60,7 +60,7 @@ impl<'a> Block<'a> {
     }
 
     // All of these lines.
-    pub(crate) fn all(lines: &'a [Line]) -> Block<'a>
+    pub(crate) fn all(lines: &'a [HeldLine]) -> Block<'a>
         ensures { Some result ≡ reading.with_lines lines.now }
     {
         Block {
@@ -73,7 +73,7 @@ impl<'a> Block<'a> {
     }
 
     // Lines of a server's client, or about it.
-    pub(crate) fn of_client(mark: Option<u8>, client: Handle, lines: &'a [Line]) -> Block<'a>
+    pub(crate) fn of_client(mark: Option<u8>, client: Handle, lines: &'a [HeldLine]) -> Block<'a>
         requires { ForSome mark (λ byte. text.is_header_mark byte ≡ true) }
         ensures { Some result ≡ reading.with_client (option_to_list mark) client lines.now }
     {
@@ -88,7 +88,7 @@ impl<'a> Block<'a> {
 
     // The lines that match, of which the first is one. Without a filter each of them is.
     #[tactic(auto, using(crate::proofs::Kept::filter_none))]
-    pub(crate) fn matching(filter: Option<&'a Filter>, lines: &'a [Line]) -> Block<'a>
+    pub(crate) fn matching(filter: Option<&'a Filter>, lines: &'a [HeldLine]) -> Block<'a>
         requires { StartsWithMatch filter lines.now }
         ensures { Some result ≡ reading.with_lines (matching_in filter.entry lines.now) }
     {

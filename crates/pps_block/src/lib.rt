@@ -6,4 +6,5 @@ mod lines;
 mod table;
 
 pub use block::Block;
+pub use lines::lines_len;
 pub use table::is_visible;

@@ -5,11 +5,14 @@ ghost use Rattle.pps_block.specs.Matching.{some_match, matching_text, StartsWith
 
 use attr_text::{line_len, push_line, write_line};
 use pps_filter::{Filter, matches};
-use pps_types::Line;
+use pps_types::HeldLine;
 
 /// The lines from the first that matches on, where one does. It asks about no line behind that one.
 #[inline]
-pub(crate) fn from_first_match<'a>(filter: Option<&Filter>, lines: &'a [Line]) -> Option<&'a [Line]>
+pub(crate) fn from_first_match<'a>(
+    filter: Option<&Filter>,
+    lines: &'a [HeldLine],
+) -> Option<&'a [HeldLine]>
     ensures matches { is_some result ≡ some_match filter.entry lines.now }
     ensures first { IfSome result (λ rest. StartsWithMatch filter.entry rest.now) }
     ensures same { IfSome result (λ rest. HaveSameMatches filter.entry rest.now lines.now) }
@@ -26,7 +29,7 @@ pub(crate) fn from_first_match<'a>(filter: Option<&Filter>, lines: &'a [Line]) -
 
 /// How long lines are, printed, where that is a length. It takes no memory.
 #[inline]
-pub(crate) fn lines_len(lines: &[Line]) -> Option<usize>
+pub fn lines_len(lines: &[HeldLine]) -> Option<usize>
     ensures some { IfSome result (λ len. len ≡ length (text.print_lines lines.now)) }
     ensures none { IfNone result (2 ^ 64 ≤ length (text.print_lines lines.now)) }
 {
@@ -39,7 +42,7 @@ pub(crate) fn lines_len(lines: &[Line]) -> Option<usize>
 
 /// How long the lines that match are, printed, where that is a length. It takes no memory.
 #[inline]
-pub(crate) fn matching_len(filter: Option<&Filter>, lines: &[Line]) -> Option<usize>
+pub(crate) fn matching_len(filter: Option<&Filter>, lines: &[HeldLine]) -> Option<usize>
     ensures some { IfSome result (λ len. len ≡ length (matching_text filter.entry lines.now)) }
     ensures none { IfNone result (2 ^ 64 ≤ length (matching_text filter.entry lines.now)) }
 {
@@ -55,7 +58,7 @@ pub(crate) fn matching_len(filter: Option<&Filter>, lines: &[Line]) -> Option<us
 
 /// Pushes the printing of lines, for which there is room. It takes no memory.
 #[inline]
-pub(crate) fn push_lines(out: &mut Vec<u8>, lines: &[Line])
+pub(crate) fn push_lines(out: &mut Vec<u8>, lines: &[HeldLine])
     requires { vec_len out.old + length (text.print_lines lines.now) ≤ vec_capacity out.old }
     ensures items { out.new.items ≡ out.old.items ++ text.print_lines lines.now }
     ensures capacity { vec_capacity out.old ≤ vec_capacity out.new }
@@ -67,7 +70,7 @@ pub(crate) fn push_lines(out: &mut Vec<u8>, lines: &[Line])
 
 /// Pushes the printing of the lines that match, for which there is room. It takes no memory.
 #[inline]
-pub(crate) fn push_matching(out: &mut Vec<u8>, filter: Option<&Filter>, lines: &[Line])
+pub(crate) fn push_matching(out: &mut Vec<u8>, filter: Option<&Filter>, lines: &[HeldLine])
     requires { vec_len out.old + length (matching_text filter lines.now) ≤ vec_capacity out.old }
     ensures items { out.new.items ≡ out.old.items ++ matching_text filter.entry lines.now }
     ensures capacity { vec_capacity out.old ≤ vec_capacity out.new }
@@ -81,7 +84,7 @@ pub(crate) fn push_matching(out: &mut Vec<u8>, filter: Option<&Filter>, lines: &
 
 /// Writes the printing of lines over the bytes from `start` on, and reports where it ends. It takes no memory.
 #[inline]
-pub(crate) fn write_lines(out: &mut [u8], start: usize, lines: &[Line]) -> usize
+pub(crate) fn write_lines(out: &mut [u8], start: usize, lines: &[HeldLine]) -> usize
     requires { start + length (text.print_lines lines.now) ≤ length out.old }
     ensures text { take result out.new ≡ take start out.old ++ text.print_lines lines.now }
     ensures end { result ≡ start + length (text.print_lines lines.now) }
@@ -100,7 +103,7 @@ pub(crate) fn write_matching(
     out: &mut [u8],
     start: usize,
     filter: Option<&Filter>,
-    lines: &[Line],
+    lines: &[HeldLine],
 ) -> usize
     requires { start + length (matching_text filter lines.now) ≤ length out.old }
     ensures text { take result out.new ≡ take start out.old ++ matching_text filter.entry lines.now }

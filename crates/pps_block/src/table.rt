@@ -7,10 +7,10 @@ ghost use Rattle.pps_block.specs.Queue.{queue_shown, shown_to_its_clients};
 use crate::block::Block;
 use crate::lines::from_first_match;
 use pps_filter::{Filter, matches};
-use pps_types::{Handle, HandleKind, Kind, Line};
+use pps_types::{Handle, HandleKind, HeldLine, Kind};
 
 // The lines that match, where there are any.
-fn matching<'a>(filter: Option<&'a Filter>, lines: &'a [Line]) -> Option<Block<'a>>
+fn matching<'a>(filter: Option<&'a Filter>, lines: &'a [HeldLine]) -> Option<Block<'a>>
     ensures { result ≡ reading.matching_lines (option_copied filter.entry) lines.now }
 {
     let lines = from_first_match(filter, lines)?;
@@ -110,7 +110,7 @@ impl<'a> Block<'a> {
 }
 
 // Whether one of the lines matches.
-fn has_match(filter: Option<&Filter>, lines: &[Line]) -> bool
+fn has_match(filter: Option<&Filter>, lines: &[HeldLine]) -> bool
     ensures { result ≡ is_some (reading.matching_lines (option_copied filter.entry) lines.now) }
 {
     match lines {

@@ -8,7 +8,7 @@ ghost use Rattle.pps_engine.specs.Serving.{IsExact};
 
 use crate::engine::{Engine, are_cut, forget};
 use image_laws::{restoring_is_of_machines, restoring_stays};
-use pps_types::{Bytes, Line, Refusal};
+use pps_types::{Bytes, HeldLine, Refusal};
 
 impl Engine {
     /// Makes a directory at a path, in a service of which nobody has a handle. The path has a
@@ -77,7 +77,7 @@ impl Engine {
     /// where the object has an attribute of that name, TooLarge where it would pass a limit of objects, and TableFull
     /// where the record would pass the last number. Else OutOfMemory is the only error. After an error all is as it was.
     /// A plan before it is no longer ready.
-    pub fn restore_line(&mut self, path: &[Bytes], line: Line) -> Result<(), Refusal>
+    pub fn restore_line(&mut self, path: &[Bytes], line: HeldLine) -> Result<(), Refusal>
         requires unused { self.old.content.handles ≡ [] }
         requires line { IsImageLine line }
         ensures done { OnOk result (line_restored self.old path.now line ≡ Ok self.new.content) }

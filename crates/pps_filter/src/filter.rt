@@ -7,7 +7,7 @@ ghost use Rattle.pps_filter.specs.Seen.{condition_seen, part_seen, line_setting,
 
 use crate::name::Name;
 use crate::number::whole_number;
-use pps_types::{Bytes, Line, Refusal};
+use pps_types::{Bytes, HeldLine, Line, LineRef, Refusal};
 use std::alloc::{AllocError, Global};
 use std::marker::Model;
 
@@ -146,14 +146,14 @@ impl Filter {
     /// A part `name` matches every set line of that name, `name=v` and `name!=v` those whose value is `v`, or is not.
     /// `name<i` and `name>i` match those whose value is a whole number below or above `i`. A removal matches wherever
     /// a part has its name. Filters are QNX's (PPS Developer's Guide, filtering); the operators are our own.
-    pub fn matches(&self, line: &Line) -> bool
+    pub fn matches(&self, line: &HeldLine) -> bool
         ensures { result ≡ meant.matches (Some self.now) line.now }
     {
-        match line {
-            Line::Set { name, value, .. } => {
-                any_matches_set(self.parts.as_slice(), name.as_slice(), value.as_slice())
+        match line.parts() {
+            LineRef::Set { name, content } => {
+                any_matches_set(self.parts.as_slice(), name, content.value())
             }
-            Line::Del { name } => any_matches_removal(self.parts.as_slice(), name.as_slice()),
+            LineRef::Del { name } => any_matches_removal(self.parts.as_slice(), name),
         }
     }
 
@@ -179,7 +179,7 @@ impl Filter {
 }
 
 /// Whether the filter matches the line. Without a filter every line matches. It takes no memory.
-pub fn matches(filter: Option<&Filter>, line: &Line) -> bool
+pub fn matches(filter: Option<&Filter>, line: &HeldLine) -> bool
     ensures { result ≡ meant.matches (option_copied filter.entry) line.now }
 {
     match filter {

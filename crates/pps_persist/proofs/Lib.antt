@@ -9,3 +9,4 @@ pub mod Cuts
 pub mod Inputs
 pub mod Sendings
 pub mod FromFiles
+pub mod SetLines

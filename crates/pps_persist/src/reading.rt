@@ -9,7 +9,7 @@ use crate::number::read_number;
 use attr_text::read_set;
 use open_options::{Path, read_path};
 use pps_types::limits::{LIMIT_MAX, TEXT_MAX};
-use pps_types::{Line, Mark, Refusal, WriteLine, after_prefix, number_up_to, split_at_first};
+use pps_types::{HeldLine, Mark, Refusal, after_prefix, number_up_to, split_at_first};
 use std::alloc::{AllocError, Global};
 
 /// What the first line of an image says.
@@ -119,24 +119,12 @@ pub fn read_entry_line(alloc: Global, line: &[u8]) -> Result<Option<EntryLine>, 
 
 /// Reads a line of an object's attributes, without its line feed: `name:encoding:value`. `None` says that it is no such
 /// line; one with a bracket is none. If it has no line feed, what it sets is an attribute that an image may have.
-pub fn read_attribute(alloc: Global, line: &[u8]) -> Result<Option<Line>, AllocError>
+pub fn read_attribute(alloc: Global, line: &[u8]) -> Result<Option<HeldLine>, AllocError>
     ensures read { IfOk result (λ read. read ≡ attribute_in line.now) }
     ensures line { IsPlain line.now → IfOk result (λ read. IfSome read IsImageLine) }
 {
     match read_set(alloc, Mark::Keep, line)? {
-        Some(
-            WriteLine::Set {
-                name,
-                enc,
-                value,
-                ..
-            },
-        ) => Ok(Some(Line::Set {
-            name,
-            enc,
-            value,
-            n: false,
-        })),
-        _ => Ok(None),
+        None => Ok(None),
+        Some(read) => Ok(Some(read.into_line())),
     }
 }

@@ -5,7 +5,7 @@ ghost use Rattle.pps_script.specs.ShownLines.{value_words, named_line, shown_lin
 
 use crate::answer::push_counted;
 use attr_text::{first_line, read_write_line, show_value};
-use pps_types::{Shown, WriteLine};
+use pps_types::{LineRef, Shown};
 use std::alloc::{AllocError, Global};
 
 #[tactic(auto, using(crate::proofs::Regroup::regroup))]
@@ -43,21 +43,16 @@ fn push_named(out: &mut Vec<u8>, name: &[u8], shown: &Shown) -> Result<(), Alloc
 fn push_shown(alloc: Global, out: &mut Vec<u8>, line: &[u8]) -> Result<(), AllocError>
     ensures { OnOk result (out.new.items ≡ out.old.items ++ shown_line (write_line line.now)) }
 {
-    let Some(
-        WriteLine::Set {
-            name,
-            enc,
-            value,
-            ..
-        },
-    ) = read_write_line(alloc, line)?
-    else {
+    let Some(read) = read_write_line(alloc, line)? else {
         return Ok(());
     };
-    let Ok(shown) = show_value(alloc, enc.as_slice(), value.as_slice()) else {
+    let LineRef::Set { name, content } = read.parts() else {
+        return Ok(());
+    };
+    let Ok(shown) = show_value(alloc, content.enc(), content.value()) else {
         return Err(AllocError);
     };
-    push_named(out, name.as_slice(), &shown)
+    push_named(out, name, &shown)
 }
 
 /// What is shown of the values in the bytes of a read: a line for each attribute whose encoding is `b` or `b64`, in

@@ -1,8 +1,9 @@
 -- Prefixes, also of two parts, the first byte of a kind, and the pieces between such bytes.
 use Rattle.std.proofs.Common.{◌≡◌, ℕ, zero, suc, ◌+◌, ◌<◌, ◌≤◌, Bool, true, false, eqb, cond, List, [], ◌∷◌, ◌++◌, length, take, drop, get_or, Option, Some, None, Bor, MatchOption, refl, sym, ap, ◌∙◌, add-one, arith}
-use Rattle.std.specs.Prelude.{option_map, option_and_then, IfSome, ◌&&◌}
+use Rattle.std.specs.Prelude.{not, option_map, option_and_then, IfSome, ◌&&◌}
+use Rattle.std.specs.List.{list_all}
 use Rattle.std.specs.Option.{option_copied}
-use Rattle.std.proofs.lemmas.Bool.{false_from_ne_true}
+use Rattle.std.proofs.lemmas.Bool.{and_from, eqb-true, false_from_ne_true}
 use Rattle.memchr.specs.Find.{IsFirstByte, is_byte}
 use Rattle.std.proofs.lemmas.Bool.Decides.{nat_tests}
 use Rattle.pps_types.specs.Bytes.{after_prefix, split_at_first, pieces, onto_first}
@@ -96,3 +97,21 @@ split_at_first-shorter c (x ∷ xs) = by (eqb x c) (split_at_first c xs) (split_
 
 pub length-behind : (c : ℕ) (xs a b : List ℕ) → Some (a, b) ≡ split_at_first c xs → length b < length xs
 length-behind c xs a b e = rw (← e) at (split_at_first-shorter c xs)
+
+-- what is cut at the first c is joined again
+pub split-only : (c : ℕ) (bs front rest : List ℕ) → split_at_first c bs ≡ Some (front, rest) → (bs ≡ front ++ (c ∷ rest)) × (list_all (λ b. not (eqb b c)) front ≡ true)
+split-only c [] front rest e = absurd cc
+split-only c (b ∷ bs) front rest e = by (eqb b c) refl (split_at_first c bs) (λ f r. split-only c bs f r) e
+  where
+    by : (t : Bool) → eqb b c ≡ t → (o : Option (List ℕ × List ℕ)) → ((f r : List ℕ) → o ≡ Some (f, r) → (bs ≡ f ++ (c ∷ r)) × (list_all (λ b. not (eqb b c)) f ≡ true))
+        → cond {A = Option (List ℕ × List ℕ)} t (Some ([], bs)) (option_map (λ parts. (b ∷ parts.0, parts.1)) o) ≡ Some (front, rest) → (b ∷ bs ≡ front ++ (c ∷ rest)) × (list_all (λ b. not (eqb b c)) front ≡ true)
+    by true is o rec h =
+        let parts : ◌≡◌ {A = List ℕ × List ℕ} ([], bs) (front, rest) = cc in
+        let a : front ≡ [] = sym (ap (λ p. p.0) parts) in
+        rw a (λ i. eqb-true b c is i ∷ ap (λ p. p.1) parts i, refl)
+    by false is None rec h = absurd cc
+    by false is (Some p) rec h =
+        let parts : ◌≡◌ {A = List ℕ × List ℕ} (b ∷ p.0, p.1) (front, rest) = cc in
+        let more = rec p.0 p.1 refl in
+        let a : front ≡ b ∷ p.0 = sym (ap (λ p. p.0) parts) in
+        rw a (ap (λ bs. b ∷ bs) more.0 ∙ ap (λ r. b ∷ (p.0 ++ (c ∷ r))) (ap (λ p. p.1) parts), and_from _ _ (ap not is) more.1)

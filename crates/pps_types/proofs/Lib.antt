@@ -11,3 +11,4 @@ pub mod RisingPlaces
 pub mod RisingEdits
 pub mod Fitting
 pub mod Places
+pub mod SetTexts

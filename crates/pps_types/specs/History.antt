@@ -49,6 +49,11 @@ marked_by Keep before = before
 marked_by On before = true
 marked_by Off before = false
 
+-- the line that a line of a write comes to, whose attribute was nonpersistent before it, or was not
+abbrev pub resolved_by : Bool → WriteLine → Line
+resolved_by before (WriteSet name enc value mark) = Set name enc value (marked_by mark before)
+resolved_by before (WriteDel name) = Del name
+
 -- the line that a line of a write comes to where these attributes stand
 abbrev pub resolved : List Attribute → WriteLine → Line
 resolved attributes (WriteSet name enc value mark) = Set name enc value (marked_by mark (is_marked name attributes))

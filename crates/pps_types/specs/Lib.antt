@@ -5,6 +5,10 @@ pub mod Writing
 pub mod Exchange
 pub mod Bytes
 pub mod HeldBytes
+pub mod AttributeContent
+pub mod HeldLine
+pub mod LentLine
+pub mod PlacedLines
 pub mod Text
 pub mod ShownValue
 pub mod Filter

@@ -146,6 +146,25 @@ impl Bytes {
         Bytes { content }
     }
 
+    /// Whether these bytes are at most 23, so that a copy of them takes no memory.
+    #[inline(always)]
+    pub fn fits_in_place(content: &[u8]) -> bool
+        ensures { result ≡ is_short content.now }
+    {
+        content.len() <= SHORT_MAX
+    }
+
+    /// A copy of these bytes, which are at most 23. It takes no memory.
+    #[inline(always)]
+    pub fn short(content: &[u8]) -> Bytes
+        requires { is_short content.now ≡ true }
+        ensures { result ≡ content.now }
+    {
+        Bytes {
+            content: Content::Short(Short::of(content)),
+        }
+    }
+
     /// A copy of these bytes, in memory of just that size where they do not stand in place.
     pub fn from_slice(alloc: Global, content: &[u8]) -> Result<Bytes, AllocError>
         ensures { IfOk result (λ bytes. bytes ≡ content.now) }
@@ -182,29 +201,6 @@ impl Bytes {
             Content::Long(content) => Content::Long(content.clone()?),
         };
         Ok(Bytes { content })
-    }
-
-    /// Whether they are at most 23, so that a copy of them takes no memory.
-    #[inline]
-    pub fn is_short(&self) -> bool
-        ensures { result ≡ is_short self.now }
-    {
-        self.len() <= SHORT_MAX
-    }
-
-    /// A copy of short bytes. It takes no memory.
-    #[inline(always)]
-    pub fn short_copy(&self) -> Bytes
-        requires { is_short self.now ≡ true }
-        ensures { result ≡ self.now }
-    {
-        let short = match &self.content {
-            Content::Short(short) => short.copy(),
-            Content::Long(content) => Short::of(content.as_slice()),
-        };
-        Bytes {
-            content: Content::Short(short),
-        }
     }
 
     #[inline]

@@ -3,6 +3,7 @@
 //! definition of the service.
 #![tactic(auto)]
 
+mod attribute_content;
 mod attribute_names;
 mod bytes;
 mod device;
@@ -10,6 +11,7 @@ mod event;
 mod exchange;
 mod found;
 mod handle_kind;
+mod held_line;
 pub mod limits;
 mod line;
 mod number_text;
@@ -21,6 +23,7 @@ mod shared;
 mod shown;
 mod splits;
 
+pub use attribute_content::{AttributeContent, AttributeContentRef};
 pub use attribute_names::{continues_name, is_attribute_name};
 pub use bytes::Bytes;
 pub use device::{Device, WriteFault};
@@ -28,6 +31,7 @@ pub use event::{Action, Event, Mode, Request};
 pub use exchange::{AnswerFault, Exchange};
 pub use found::Found;
 pub use handle_kind::HandleKind;
+pub use held_line::{HeldLine, LineRef, WrittenLine};
 pub use line::{Line, Lines, Mark, WriteLine};
 pub use number_text::{digits_up_to, number_up_to};
 pub use numbers::{Conn, DirId, Handle, ObjId};

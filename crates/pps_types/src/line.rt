@@ -1,9 +1,11 @@
 //! Lines of texts: as they are written, and as objects and records hold them.
-ghost use Rattle.std.specs.Prelude.{◌≡◌};
+ghost use Rattle.std.specs.Prelude.{◌≡◌, [], ◌∷◌};
 ghost use Rattle.std.specs.Cmp.Lexicographic.{pointwise, lists_equiv, lists_per};
 
 use crate::bytes::Bytes;
+use crate::held_line::HeldLine;
 use std::marker::Model;
+use std::slice::from_ref;
 
 /// What a written line says of whether its attribute is kept when the service is saved.
 #[derive(Clone, Copy, Debug, PartialEq, Eq)]
@@ -31,7 +33,7 @@ impl Mark {
     }
 }
 
-/// A line of a write.
+/// What a line of a write says. A [`WrittenLine`](crate::WrittenLine) is one as it is read.
 #[derive(Debug, PartialEq, Eq, Drop)]
 pub enum WriteLine {
     /// `name:encoding:value`, behind its bracket where it has one.
@@ -47,33 +49,8 @@ pub enum WriteLine {
     },
 }
 
-impl WriteLine {
-    ghost use Rattle.pps_types.specs.History.{message_line};
-
-    /// The line that it comes to if no attribute of its name was nonpersistent before it, as in a message, whose lines are
-    /// no attributes. It takes no memory.
-    #[inline(always)]
-    pub fn into_line(self) -> Line
-        ensures { result ≡ message_line self }
-    {
-        match self {
-            WriteLine::Set {
-                name,
-                enc,
-                value,
-                mark,
-            } => Line::Set {
-                name,
-                enc,
-                value,
-                n: mark.applied_to(false),
-            },
-            WriteLine::Del { name } => Line::Del { name },
-        }
-    }
-}
-
-/// A line as objects and records hold it. Where `n` is true the attribute is nonpersistent.
+/// What a line of a record says. Where `n` is true the attribute is nonpersistent. A [`HeldLine`](crate::HeldLine) is one as
+/// records hold it.
 #[derive(Debug, PartialEq, Eq, Drop)]
 pub enum Line {
     Set {
@@ -87,40 +64,65 @@ pub enum Line {
     },
 }
 
-/// The lines of a record, in order.
+/// Where the lines of a record are.
+#[derive(Debug, Drop)]
+enum Placed {
+    /// It is one, in place.
+    One(HeldLine),
+    Many(Vec<HeldLine>),
+}
+
+/// The lines of a record, in order. One alone takes no memory but that of its text.
 #[derive(Debug, Drop)]
 pub struct Lines {
-    items: Vec<Line>,
+    lines: Placed,
 }
 
 impl Model for Lines {
     ghost use Rattle.std.specs.Prelude.{List};
     ghost use Rattle.pps_types.specs.declared.line.Line.{Line};
+    ghost use Rattle.pps_types.specs.PlacedLines.{placed_lines};
 
     ghost Value = { List Line };
 
-    ghost view = { λ a. a.items.items };
+    ghost view = { λ a. placed_lines a.lines };
 }
 
 impl Lines {
     /// These lines. It takes no memory.
-    pub fn new(items: Vec<Line>) -> Lines
+    pub fn new(items: Vec<HeldLine>) -> Lines
         ensures { result ≡ items.items }
     {
-        Lines { items }
+        Lines {
+            lines: Placed::Many(items),
+        }
     }
 
-    pub fn as_slice(&self) -> &[Line]
+    /// This line alone. It takes no memory.
+    #[inline(always)]
+    pub fn one(line: HeldLine) -> Lines
+        ensures { result ≡ line ∷ [] }
+    {
+        Lines {
+            lines: Placed::One(line),
+        }
+    }
+
+    #[inline(always)]
+    pub fn as_slice(&self) -> &[HeldLine]
         ensures { result.now ≡ self.now }
     {
-        self.items.as_slice()
+        match &self.lines {
+            Placed::One(line) => from_ref(line),
+            Placed::Many(lines) => lines.as_slice(),
+        }
     }
 }
 
 impl PartialEq for Lines {
-    ghost use Rattle.pps_types.specs.contracts.line.LinePartialEq.TheImpl.Laws.{laws-law};
+    ghost use Rattle.pps_types.specs.contracts.held_line.HeldLinePartialEq.TheImpl.Laws.{laws-law};
 
-    ghost eq = { pointwise ⟦<Line as PartialEq>⟧.eq };
+    ghost eq = { pointwise ⟦<HeldLine as PartialEq>⟧.eq };
 
     ghost laws = { lists_per laws-law };
 
@@ -130,7 +132,7 @@ impl PartialEq for Lines {
 }
 
 impl Eq for Lines {
-    ghost use Rattle.pps_types.specs.contracts.line.LineEq.TheImpl.Laws.{laws-law};
+    ghost use Rattle.pps_types.specs.contracts.held_line.HeldLineEq.TheImpl.Laws.{laws-law};
 
     ghost laws = { lists_equiv laws-law };
 }

@@ -1,3 +1,4 @@
 pub mod Columns
 pub mod Fits
 pub mod Tallies
+pub mod Labels

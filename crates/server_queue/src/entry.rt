@@ -1,11 +1,12 @@
 //! Records that queues share.
-ghost use Rattle.std.specs.Prelude.{◌≡◌, ◌↔◌, IsTrue, IfOk};
+ghost use Rattle.std.specs.Prelude.{◌≡◌, ◌↔◌, ◌+◌, ◌-◌, ◌≤◌, IsTrue, IfOk, length, take, drop};
 ghost use Rattle.std.specs.Option.{option_copied};
-ghost use Rattle.server_queue.specs.Printed.{printed_text};
+ghost use Rattle.server_queue.specs.Printed.{printed_text, label, name_in};
 
-use crate::printed::printed;
+use crate::printed::{labelled, object_lines};
 use crate::same::{same_name, same_record};
 use crate::sender::{Sender, said_by};
+use pps_block::lines_len;
 use pps_types::{Bytes, Record};
 use std::alloc::{AllocError, Global};
 use std::marker::Model;
@@ -15,11 +16,11 @@ use std::sync::Arc;
 #[derive(Drop)]
 struct NamedRecord {
     directory: u64,
-    name: Bytes,
+    /// The object's name; or, if the record has lines of the object, these as they are printed for all its handles that
+    /// have no filter, with the name in their header.
+    text: Bytes,
     made: Record,
-    /// Its lines as they are printed for all handles of its object that have no filter.
-    text: Option<Bytes>,
-    ghost printed: { text ≡ printed_text name made.kind },
+    ghost labelled: { text ≡ label (name_in text made.kind) made.kind },
 }
 
 /// A record in the history, with the directory and the name of its object. Queues share it.
@@ -31,10 +32,20 @@ pub struct Entry {
 impl Model for Entry {
     ghost use Rattle.std.specs.Arc.{arc_value};
     ghost use Rattle.pps_types.specs.History.{Entry as Held};
+    ghost use Rattle.server_queue.specs.Printed.{name_in};
 
     ghost Value = { Held };
 
-    ghost view = { λ a. record { directory = (arc_value a.told).directory; name = (arc_value a.told).name; record_of = (arc_value a.told).made } };
+    ghost view = { λ a. record { directory = (arc_value a.told).directory; name = name_in (arc_value a.told).text (arc_value a.told).made.kind; record_of = (arc_value a.told).made } };
+}
+
+// The name in a text that begins with a header and ends with lines of so many bytes.
+#[inline(always)]
+fn name_between(text: &[u8], lines_len: usize) -> &[u8]
+    requires { lines_len + 2 ≤ length text.now }
+    ensures { result.now ≡ take (length text.now - (lines_len + 2)) (drop 1 text.now) }
+{
+    &text[1..text.len() - lines_len - 1]
 }
 
 impl Entry {
@@ -53,14 +64,13 @@ impl Entry {
     ) -> Result<Entry, AllocError>
         ensures { IfOk result (λ entry. entry ≡ shared_entry directory name made) }
     {
-        let text = printed(alloc, name.as_slice(), &made.kind)?;
+        let text = labelled(alloc, name, &made.kind)?;
         let told = Arc::new(
             alloc,
             NamedRecord {
                 directory,
-                name,
-                made,
                 text,
+                made,
             },
         )?;
         Ok(Entry { told })
@@ -77,7 +87,15 @@ impl Entry {
     pub fn name(&self) -> &[u8]
         ensures { result.now ≡ self.now.name }
     {
-        self.told.name.as_slice()
+        let told = &*self.told;
+        let text = told.text.as_slice();
+        let Some(lines) = object_lines(&told.made.kind) else {
+            return text;
+        };
+        let Some(len) = lines_len(lines) else {
+            unreachable!();
+        };
+        name_between(text, len)
     }
 
     /// The record itself.
@@ -91,9 +109,9 @@ impl Entry {
     pub fn text(&self) -> Option<&[u8]>
         ensures { option_copied result ≡ printed_text self.now.name self.now.record_of.kind }
     {
-        match &self.told.text {
+        match object_lines(&self.told.made.kind) {
             None => None,
-            Some(text) => Some(text.as_slice()),
+            Some(_) => Some(self.told.text.as_slice()),
         }
     }
 

@@ -3,6 +3,7 @@ ghost use Rattle.std.specs.Prelude.{◌≡◌, ◌≤◌, ◌<◌, ◌+◌, ◌^
 ghost use Rattle.pps_types.specs.declared.refusal.Refusal.TheVariants.{OutOfMemory};
 ghost use Rattle.server_queue.specs.Given.{needs_len};
 
+use crate::entry::Entry;
 use crate::plan::GivenBlocks;
 use crate::shown::Shown;
 use pps_types::Refusal;
@@ -77,41 +78,64 @@ impl Fitting {
     fn put_sized(
         &mut self,
         shown: &Shown<'_>,
-        name: &[u8],
+        entry: &Entry,
         len: usize,
         records: u64,
     ) -> Result<(), Refusal>
-        requires len { len ≡ length (printed_as name.now shown.now) }
+        requires len { len ≡ length (printed_as entry.now.name shown.now) }
         requires room { len ≤ self.old.room }
         requires count { self.old.given.count + 1 < 2 ^ 64 }
-        ensures ok { OnOk result (Gives (printed_as name.now shown.now) self.old self.new) }
+        ensures ok { OnOk result (Gives (printed_as entry.now.name shown.now) self.old self.new) }
         ensures err { IfErr result (λ r. r ≡ OutOfMemory) }
         ensures kept { OnErr result (GivesTheSame self.old self.new) }
     {
         let memory = memory_for(self.given.count == 0, len, self.room, records);
         self.given.text.reserve(memory)?;
-        shown.push(&mut self.given.text, name);
+        shown.push(&mut self.given.text, entry);
         self.given.count += 1;
         self.room -= len;
         Ok(())
     }
 
-    /// Puts one block more, of an object of that name, if there is room for it, and says whether there was: else the run
+    /// Puts a block that is printed already, as [`put`](Fitting::put) puts one.
+    #[inline(always)]
+    pub fn put_text(&mut self, text: &[u8], records: u64) -> Result<bool, Refusal>
+        requires { self.old.given.count + 1 < 2 ^ 64 }
+        ensures ok { IfOk result (GivesIfItFits text.now self.old self.new) }
+        ensures err { IfErr result (RefusesBlock text.now self.old) }
+        ensures kept { OnErr result (GivesTheSame self.old self.new) }
+    {
+        let (len, room) = (text.len(), self.room);
+        if len > room {
+            if self.given.count == 0 {
+                return Err(too_small(Some(len)));
+            }
+            return Ok(false);
+        }
+        let memory = memory_for(self.given.count == 0, len, room, records);
+        self.given.text.reserve(memory)?;
+        self.given.text.extend_from_slice(text).unwrap();
+        self.given.count += 1;
+        self.room -= len;
+        Ok(true)
+    }
+
+    /// Puts one block more, of this record, if there is room for it, and says whether there was: else the run
     /// ends here. So many records may follow, with this one.
     ///
     /// It is TooSmall, with the size, if the first block does not fit, before any memory is taken; else OutOfMemory is the
     /// only error, and comes only if there is room. After an error the same is given as before.
     #[inline(always)]
-    pub fn put(&mut self, shown: &Shown<'_>, name: &[u8], records: u64) -> Result<bool, Refusal>
+    pub fn put(&mut self, shown: &Shown<'_>, entry: &Entry, records: u64) -> Result<bool, Refusal>
         requires { self.old.given.count + 1 < 2 ^ 64 }
-        ensures ok { IfOk result (GivesIfItFits (printed_as name.now shown.now) self.old self.new) }
-        ensures err { IfErr result (RefusesBlock (printed_as name.now shown.now) self.old) }
+        ensures ok { IfOk result (GivesIfItFits (printed_as entry.now.name shown.now) self.old self.new) }
+        ensures err { IfErr result (RefusesBlock (printed_as entry.now.name shown.now) self.old) }
         ensures kept { OnErr result (GivesTheSame self.old self.new) }
     {
         let room = self.room;
-        match shown.len(name) {
+        match shown.len(entry) {
             Some(len) if len <= room => {
-                self.put_sized(shown, name, len, records)?;
+                self.put_sized(shown, entry, len, records)?;
                 Ok(true)
             }
             need if self.given.count == 0 => Err(too_small(need)),

@@ -71,7 +71,7 @@ pub(crate) fn plan_read(
     'places: for place in 0..count {
         let entry = entry_at(owed, extra, place);
         let shown = Shown::in_queue(entry);
-        if !run.put(&shown, entry.name(), (count - place) as u64)? {
+        if !run.put(&shown, entry, (count - place) as u64)? {
             return Ok(run.given);
         }
     }

@@ -1,10 +1,11 @@
 //! Lines of an object as they are printed for all handles that have no filter.
 ghost use Rattle.std.specs.Prelude.{◌≡◌, ◌≤◌, Some, IfOk, length};
 ghost use Rattle.pps_types.specs.Reading as reading;
-ghost use Rattle.server_queue.specs.Printed.{printed_text};
+ghost use Rattle.std.specs.Option.{option_copied};
+ghost use Rattle.server_queue.specs.Printed.{label, object_lines};
 
 use pps_block::Block;
-use pps_types::{Bytes, Handle, HandleKind, Kind};
+use pps_types::{Bytes, Handle, HandleKind, HeldLine, Kind};
 use std::alloc::{AllocError, Global};
 
 /// The longest printing that takes no memory.
@@ -36,14 +37,15 @@ fn print(alloc: Global, name: &[u8], block: &Block<'_>) -> Result<Bytes, AllocEr
     Ok(Bytes::new(text))
 }
 
-/// The printing of lines of the object of that name, where there are any. No other record has one.
+/// What a record of an object of that name is labelled with: the printing of its lines of the object, if it has some; else
+/// the name.
 ///
 /// AllocError comes only where memory is wanting, and only where there are lines.
-pub(crate) fn printed(alloc: Global, name: &[u8], kind: &Kind) -> Result<Option<Bytes>, AllocError>
-    ensures { IfOk result (λ text. text ≡ printed_text name.now kind.now) }
+pub(crate) fn labelled(alloc: Global, name: Bytes, kind: &Kind) -> Result<Bytes, AllocError>
+    ensures { IfOk result (λ text. text ≡ label name kind.now) }
 {
     if !matches!(kind, Kind::Change(_)) {
-        return Ok(None);
+        return Ok(name);
     }
     match Block::of(
         HandleKind::Object { delta: true },
@@ -51,7 +53,21 @@ pub(crate) fn printed(alloc: Global, name: &[u8], kind: &Kind) -> Result<Option<
         None,
         kind,
     ) {
-        None => Ok(None),
-        Some(block) => Ok(Some(print(alloc, name, &block)?)),
+        None => Ok(name),
+        Some(block) => print(alloc, name.as_slice(), &block),
+    }
+}
+
+/// The lines of its object that a record of that kind has, if it has some.
+#[inline(always)]
+pub(crate) fn object_lines(kind: &Kind) -> Option<&[HeldLine]>
+    ensures { option_copied result ≡ object_lines kind.now }
+{
+    let Kind::Change(lines) = kind else {
+        return None;
+    };
+    match lines.as_slice() {
+        [] => None,
+        lines => Some(lines),
     }
 }

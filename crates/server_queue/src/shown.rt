@@ -27,25 +27,25 @@ impl<'a> Shown<'a> {
         }
     }
 
-    /// How long it is, printed for an object of that name, if that is a length. It takes no memory.
-    pub(crate) fn len(&self, name: &[u8]) -> Option<usize>
-        ensures some { IfSome result (λ len. len ≡ length (printed_as name.now self.now)) }
-        ensures none { IfNone result (2 ^ 64 ≤ length (printed_as name.now self.now)) }
+    /// How long it is, printed for the object of this record, if that is a length. It takes no memory.
+    pub(crate) fn len(&self, entry: &Entry) -> Option<usize>
+        ensures some { IfSome result (λ len. len ≡ length (printed_as entry.now.name self.now)) }
+        ensures none { IfNone result (2 ^ 64 ≤ length (printed_as entry.now.name self.now)) }
     {
         match self {
             Shown::Text(text) => Some(text.len()),
-            Shown::Block(block) => block.print_len(name),
+            Shown::Block(block) => block.print_len(entry.name()),
         }
     }
 
-    /// Pushes its printing for an object of that name, for which there is room. It takes no memory.
-    pub(crate) fn push(&self, out: &mut Vec<u8>, name: &[u8])
-        requires { vec_len out.old + length (printed_as name.now self.now) ≤ vec_capacity out.old }
-        ensures items { out.new.items ≡ out.old.items ++ printed_as name.now self.now }
+    /// Pushes its printing for the object of this record, for which there is room. It takes no memory.
+    pub(crate) fn push(&self, out: &mut Vec<u8>, entry: &Entry)
+        requires { vec_len out.old + length (printed_as entry.now.name self.now) ≤ vec_capacity out.old }
+        ensures items { out.new.items ≡ out.old.items ++ printed_as entry.now.name self.now }
     {
         match self {
             Shown::Text(text) => out.extend_from_slice(text).unwrap(),
-            Shown::Block(block) => block.push(out, name),
+            Shown::Block(block) => block.push(out, entry.name()),
         }
     }
 }

@@ -9,7 +9,7 @@ use crate::slip::Slip;
 use open_options::read_path;
 use pps_engine::Engine;
 use pps_persist::{load, read_attribute, save};
-use pps_types::{Bytes, Device, Line, Refusal, split_at_first};
+use pps_types::{Bytes, Device, HeldLine, Refusal, split_at_first};
 use std::alloc::{AllocError, Global};
 
 /// The room for an image.
@@ -93,7 +93,7 @@ fn has_no_line_feed(line: &[u8]) -> bool
 }
 
 // The attribute of a line.
-fn attribute(alloc: Global, line: &[u8]) -> Result<Line, Refusal>
+fn attribute(alloc: Global, line: &[u8]) -> Result<HeldLine, Refusal>
     ensures { IfOk result (λ line. IsImageAttribute line) }
 {
     if !has_no_line_feed(line) {

@@ -15,7 +15,7 @@ ghost use Rattle.service_state.specs.Refused.{IsRefusedAtLimits, arm_refusal_in,
 use crate::tables::Tables;
 use notify_box::connections_are_found;
 use open_handles::{Handles, SharedRecord};
-use pps_types::{Bytes, Conn, Found, Handle, Line, ObjId, Refusal};
+use pps_types::{Bytes, Conn, Found, Handle, HeldLine, ObjId, Refusal};
 use server_queue::Entry;
 use std::alloc::{AllocError, Global};
 
@@ -119,7 +119,7 @@ impl Tables {
     /// It is TooLarge exactly where the object would pass a limit of objects after all of these lines. Else OutOfMemory is
     /// the only error. Where there is no such object, nothing is wanted.
     #[inline(always)]
-    pub fn change_ready(&mut self, object: ObjId, lines: &[Line]) -> Result<(), Refusal>
+    pub fn change_ready(&mut self, object: ObjId, lines: &[HeldLine]) -> Result<(), Refusal>
         ensures content { content_in self.new ≡ content_in self.old }
         ensures handles { self.new.handles ≡ self.old.handles }
         ensures connections { self.new.connections ≡ self.old.connections }

@@ -8,7 +8,7 @@ use crate::scripts::{Step, copy, play, same};
 use open_options::read_path;
 use pps_engine::{Engine, SavedEntry};
 use pps_persist::read_attribute;
-use pps_types::{Bytes, Line, Refusal};
+use pps_types::{Bytes, HeldLine, Refusal};
 use std::alloc::{AllocError, Global};
 use std::process::Abort;
 use std::test::Fail;
@@ -37,7 +37,7 @@ fn has_no_line_feed(line: &[u8]) -> bool
 }
 
 /// The line that sets a persistent attribute: its name, its encoding and its value.
-fn line(alloc: Global, attribute: [&[u8]; 3]) -> Result<Line, Refusal>
+fn line(alloc: Global, attribute: [&[u8]; 3]) -> Result<HeldLine, Refusal>
     ensures { IfOk result (λ line. IsImageAttribute line) }
 {
     let [name, enc, value] = attribute;

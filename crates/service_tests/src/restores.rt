@@ -5,7 +5,7 @@ ghost use Rattle.service_state.specs.Tables.{content_in};
 
 use crate::state_samples::{ask, find, new_tables, path};
 use path_requests::{restore_directory, restore_line, restore_object};
-use pps_types::{Bytes, DirId, Found, Handle, Line, Mode, ObjId, Refusal, Request};
+use pps_types::{Bytes, DirId, Found, Handle, HeldLine, Line, Mode, ObjId, Refusal, Request};
 use service_state::Tables;
 use std::alloc::{AllocError, Global};
 use std::test::Fail;
@@ -104,13 +104,14 @@ fn follow(tables: &mut Tables, alloc: Global) -> Result<(), Refusal>
 }
 
 /// The line `speed:n:65`.
-fn speed(alloc: Global) -> Result<Line, AllocError> {
-    Ok(Line::Set {
+fn speed(alloc: Global) -> Result<HeldLine, Refusal> {
+    let line = Line::Set {
         name: Bytes::from_slice(alloc, b"speed")?,
         enc: Bytes::from_slice(alloc, b"n")?,
         value: Bytes::from_slice(alloc, b"65")?,
         n: false,
-    })
+    };
+    HeldLine::from_line(alloc, &line)?.ok_or(Refusal::BadText { line: 1 })
 }
 
 /// Restores that line in the object gps.

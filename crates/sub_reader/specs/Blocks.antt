@@ -5,8 +5,6 @@ use Rattle.change_chain.specs.Span.{Span}
 use Rattle.pps_types.specs.History.{Entry}
 use Rattle.pps_types.specs.Reading.{OpenHandle, Shown as ShownBlock, print_shown, block, visible}
 use Rattle.pps_types.specs.Rests.{Progress, owed_in}
-use Rattle.server_queue.specs.declared.shown.Shown.{Shown}
-use Rattle.server_queue.specs.Shown.{printed_as}
 use Rattle.sub_reader.specs.declared.opening.Opening.{Opening}
 use Rattle.sub_reader.specs.Readers.{Reader}
 use Rattle.sub_reader.specs.Opened.{opened, handle_at}
@@ -39,9 +37,5 @@ owed_blocks_at number handles = owed_blocks (handle_at number handles)
 -- ---- the block of one record
 
 -- printed, it is the block of the record for a handle that was opened so
-abbrev pub IsShownTo : ℕ → Opening → Entry → Shown → Type 0
-IsShownTo target o e shown = printed_as e.name shown ≡ block (opened target [] o) e
-
--- the same of what is to be printed as a block
 abbrev pub IsBlockFor : ℕ → Opening → Entry → ShownBlock → Type 0
 IsBlockFor target o e b = print_shown e.name (Some b) ≡ block (opened target [] o) e

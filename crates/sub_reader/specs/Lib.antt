@@ -14,3 +14,4 @@ pub mod Alike
 pub mod Glances
 pub mod Audience
 pub mod Lines
+pub mod Turns

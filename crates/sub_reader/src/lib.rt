@@ -27,7 +27,7 @@ pub use opening::{Opening, Pulse};
 pub use progress::Progress;
 pub use row::{HandleRow, Slot};
 pub use rows::HandleRows;
-pub use shown::shown_to;
+pub use shown::{Turn, put_record};
 pub use sight::is_visible;
 pub use slots::{First, first_row};
 pub use subscribers::Subscribers;

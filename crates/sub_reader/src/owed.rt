@@ -8,7 +8,7 @@ ghost use Rattle.sub_reader.specs.Chained.{IsPlaceIn};
 use crate::opening::Opening;
 use crate::place::Place;
 use crate::row::HandleRow;
-use crate::shown::shown_to;
+use crate::shown::{Turn, put_record};
 use change_chain::Chain;
 use pps_types::Refusal;
 use server_queue::{Entry, Fitting, GivenBlocks};
@@ -37,10 +37,7 @@ fn give(
     let end = records.end();
     'records: for position in from..end {
         let entry = records.at(position);
-        let Some(shown) = shown_to(target, opening, entry) else {
-            continue;
-        };
-        if !run.put(&shown, entry.name(), end - position)? {
+        if let Turn::Full = put_record(&mut run, target, opening, entry, end - position)? {
             return Ok(run.given);
         }
     }

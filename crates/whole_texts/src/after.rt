@@ -7,11 +7,11 @@ ghost use Rattle.object_state.specs.Limits.{after_lines, IsLimitRefusal};
 ghost use Rattle.whole_texts.specs.After.{refused_after};
 
 use object_state::Object;
-use pps_types::{Kind, Line, Refusal};
+use pps_types::{HeldLine, Kind, Refusal};
 use std::alloc::Global;
 
 // The attributes once these lines are applied.
-fn after_lines(object: &Object, lines: &[Line]) -> Result<Object, Refusal>
+fn after_lines(object: &Object, lines: &[HeldLine]) -> Result<Object, Refusal>
     ensures ok { IfOk result (λ o. o.attributes ≡ after_lines object.now.attributes lines.now) }
     ensures refusal { IsLimitRefusal (refusal_of result) object.now.attributes lines.now }
 {

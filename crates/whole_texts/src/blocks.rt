@@ -9,7 +9,7 @@ use crate::reply::Reply;
 use pps_types::Refusal;
 use server_queue::{Entry, Fitting, GivenBlocks};
 use std::alloc::Global;
-use sub_reader::{Opening, shown_to};
+use sub_reader::{Opening, Turn, put_record};
 
 // The reply that gives these blocks, or if there are none says whether the read waits on.
 fn reply_of(given: GivenBlocks, wait: bool) -> Reply
@@ -39,11 +39,8 @@ fn fitting(
 {
     let mut run = Fitting::new(alloc, size);
     'entries: for (place, entry) in entries.iter().enumerate() {
-        let Some(shown) = shown_to(target, opening, entry) else {
-            continue;
-        };
         let records = (entries.len() - place) as u64;
-        if !run.put(&shown, entry.name(), records)? {
+        if let Turn::Full = put_record(&mut run, target, opening, entry, records)? {
             return Ok(run.given);
         }
     }

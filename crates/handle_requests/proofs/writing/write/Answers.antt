@@ -7,7 +7,7 @@ use Rattle.pps_types.specs.Plan.{Move}
 use Rattle.service_state.specs.Tables.{content_in}
 use Rattle.handle_requests.specs.Drafting.{HasRecordLines}
 use Rattle.handle_requests.specs.Writes.{is_past, tells, told_by, late_refusal}
-use Rattle.handle_requests.proofs.Drafts.{limits_fail, last_fails, draft_passes, draft_does}
+use Rattle.handle_requests.proofs.Drafts.{limits_fail, last_fails, draft_wants, draft_passes, draft_does}
 use Rattle.handle_requests.proofs.writing.write.Goals as goal
 
 pub begun-requires : goal.begun-requires
@@ -45,3 +45,8 @@ returns-clause-does c =
     let told : tells c.into_entry.result ≡ told_by (content_in c.args.tables.now) c.args.handle made.draft = ap tells c.into_entry.ensures ∙ made.prepared.tells in
     draft_does (content_in c.args.tables.now) c.args.conn c.args.handle c.args.bytes.now made.draft made.drafted
     ∙ ap (λ (ms : List Move). (Wrote (length c.args.bytes.now), ms)) (sym (c.in_ok-beginning.ensures.tells ∙ told))
+
+pub returns-clause-wants : goal.returns-clause-wants
+returns-clause-wants c =
+    let made = c.in_ok-prepared.ensures.ok in
+    draft_wants (content_in c.args.tables.now) c.args.conn c.args.handle c.args.bytes.now made.draft made.drafted

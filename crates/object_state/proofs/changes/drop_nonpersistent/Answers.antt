@@ -2,7 +2,7 @@ use Rattle.std.proofs.Common.{◌≡◌, ◌<◌, ◌∙◌, sym, ap, arith, not
 use Rattle.std.proofs.lemmas.List.{drop_all}
 use Rattle.std.proofs.lemmas.List.Filters.{FiltersInPlace-all}
 use Rattle.pps_types.specs.History.{persistent, text_length}
-use Rattle.object_state.specs.declared.content.Content.{Content}
+use Rattle.pps_types.specs.AttributeContent.{Content}
 use Rattle.object_state.specs.Effect.{bytes_of}
 use Rattle.object_state.specs.Entries.{attributes_of}
 use Rattle.object_state.proofs.Entries.{attributes-filter}

@@ -1,7 +1,7 @@
 use Rattle.std.proofs.Common.{◌≡◌, ◌+◌, drop, not, List, ℕ}
 use Rattle.std.proofs.lemmas.List.Filters.{FiltersInPlace}
 use Rattle.pps_types.specs.History.{persistent, text_length}
-use Rattle.object_state.specs.declared.content.Content.{Content}
+use Rattle.pps_types.specs.AttributeContent.{Content}
 use Rattle.object_state.specs.Entries.{attributes_of}
 use Rattle.object_state.proofs.changes.drop_nonpersistent.Given as goal
 

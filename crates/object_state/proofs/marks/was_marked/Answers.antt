@@ -11,5 +11,5 @@ returns-in-None c = sym (marked-named c.args.name.now (attributes_of c.args.map.
     ∙ ap (λ o. unwrap_or o false) (named-none (λ a. a.n) c.args.name.now c.args.map.now.entries (sym c.get.ensures.value ∙ ap option_copied c.in-None.is)))
 
 pub returns-in-Some : goal.returns-in-Some
-returns-in-Some c = sym (marked-named c.args.name.now (attributes_of c.args.map.now.entries)
+returns-in-Some c = c.n.ensures ∙ sym (marked-named c.args.name.now (attributes_of c.args.map.now.entries)
     ∙ ap (λ o. unwrap_or o false) (named-some (λ a. a.n) c.args.name.now c.args.map.now.entries c.in-Some.content.now (sym c.get.ensures.value ∙ ap option_copied c.in-Some.is)))

@@ -4,8 +4,8 @@ use Rattle.std.specs.Cmp.Rules.{comparing}
 use Rattle.std.specs.Str.{bytes_eq}
 use Rattle.std.proofs.lemmas.Slice.Eq.{slice_eq-Decides, bytes_eq-Decides}
 use Rattle.std.proofs.lemmas.Bool.Decides.{Decides-and, Decides-like}
-use Rattle.object_state.specs.declared.content.Content.{Content}
-use Rattle.object_state.specs.contracts.content.ContentPartialEq.TheImpl as content
+use Rattle.pps_types.specs.AttributeContent.{Content}
+use Rattle.pps_types.specs.contracts.attribute_content.AttributeContentPartialEq.TheImpl as content
 use Rattle.object_state.proofs.object.are_same.Goals as goal
 
 content_decides : (a b : Content) → Decides ((content.ghosts).eq a b) (a ≡ b)

@@ -1,4 +1,4 @@
-use Rattle.std.specs.Prelude.{◌≡◌, ℕ, List, Option, Some, None, IfSome, IsSomeAnd}
+use Rattle.std.specs.Prelude.{◌≡◌, ℕ, List, [], ◌∷◌, Option, Some, None, IfSome, IsSomeAnd}
 use Rattle.std.proofs.Common.{sym, ap, subst, ◌∙◌, eqb, eqb-true}
 use Rattle.pps_types.specs.declared.line.Line.{Line}
 use Rattle.pps_types.specs.Plan.{entry_of}
@@ -24,8 +24,8 @@ pub returns-clause-lines : goal.returns-clause-lines
 returns-clause-lines c =
     let n = c.names.result.now in
     let placed : placed_at c.args.object n ≡ Some c.in-Some.known.now = sym c.in-Some.ensures.placed in
-    let lined = subst (λ (o : Option Placed). IfSome o (AreReadyAt c.args.lines.items)) (ap (placed_at c.args.object) (sym c.names.ensures) ∙ placed) c.requires.lines in
+    let lined = subst (λ (o : Option Placed). IfSome o (AreReadyAt (c.args.line ∷ []))) (ap (placed_at c.args.object) (sym c.names.ensures) ∙ placed) c.requires.lines in
     ok_to c.tell_ready.result _ _
     (λ t is. subst (λ (m : Named). HasLines t.entry m) (c.names.ensures ∙ sym c.tell_ready.ensures.names)
-    (ready n c.args.object c.in-Some.known.now c.args.lines.items t.entry placed (numbered n c.args.object c.in-Some.known.now c.in-Some.ensures.known) lined (is ∙ c.in_ok-entry.ensures ∙ (λ i. entry_of c.in-Some.known.now.object (Change (c.new.ensures i)) None))))
+    (ready n c.args.object c.in-Some.known.now (c.args.line ∷ []) t.entry placed (numbered n c.args.object c.in-Some.known.now c.in-Some.ensures.known) lined (is ∙ c.in_ok-entry.ensures ∙ (λ i. entry_of c.in-Some.known.now.object (Change (c.one.ensures i)) None))))
     c.tell_ready.ensures.entry

@@ -90,16 +90,14 @@ change_told-requires-clause-alive c =
 
 pub change_told-requires-clause-lines : goal.change_told-requires-clause-lines
 change_told-requires-clause-lines c =
-    let held = c.push_reserved.ensures.items ∙ ap (λ ls. ls ++ c.args.line ∷ []) c.in_ok-lines.ensures.items in
-    subst (λ ls. AreReadyFor c.in_ok-object.object ls c.lines_ready.new.tables.names) (c.from_ref-change.ensures.value ∙ sym held) c.in_ok-lines_ready.ensures.ready
+    subst (λ ls. AreReadyFor c.in_ok-object.object ls c.lines_ready.new.tables.names) c.from_ref-change.ensures.value c.in_ok-lines_ready.ensures.ready
 
 pub returns-clause-done : goal.returns-clause-done
 returns-clause-done c =
     let before = content_in c.args.tables.now in
     let none = sym c.if-has_attribute.false ∙ has_told before c.requires c.args.path.now c.args.line c.in_ok-object.object c.in_ok-object.ensures.ok c.has_attribute.result c.in_ok-name.name c.in_ok-name.ensures c.has_attribute.ensures in
-    let held = c.push_reserved.ensures.items ∙ ap (λ ls. ls ++ c.args.line ∷ []) c.in_ok-lines.ensures.items in
     let passes = passes_told before c.requires c.args.path.now c.args.line c.in_ok-object.object c.in_ok-object.ensures.ok c.from_ref-change.result.now c.from_ref-change.ensures.value c.in_ok-lines_ready.ensures.passes in
     let past = past_told before c.requires c.args.path.now c.args.line c.in_ok-object.object c.in_ok-object.ensures.ok (content_in c.lines_ready.new.tables) c.passes_last_number.result c.lines_ready.ensures.content c.passes_last_number.ensures in
-    let told = subst (λ (d : Content). IfSome (object_numbered d c.in_ok-object.object) (λ o. c.in_ok-told.told.entry ≡ entry_of o.object (Change c.push_reserved.new.self.items) None)) c.lines_ready.ensures.content c.in_ok-told.ensures.entry in
-    let left = done_told before c.requires c.args.path.now c.args.line c.in_ok-object.object c.in_ok-object.ensures.ok c.push_reserved.new.self.items c.in_ok-told.told.entry (content_in c.change_told.new.tables) (content_in c.happen.new.self) held (c.change_told.ensures.content ∙ c.lines_ready.ensures.content) told c.happen.ensures.moves in
+    let told = subst (λ (d : Content). IfSome (object_numbered d c.in_ok-object.object) (λ o. c.in_ok-told.told.entry ≡ entry_of o.object (Change (c.args.line ∷ [])) None)) c.lines_ready.ensures.content c.in_ok-told.ensures.entry in
+    let left = done_told before c.requires c.args.path.now c.args.line c.in_ok-object.object c.in_ok-object.ensures.ok (c.args.line ∷ []) c.in_ok-told.told.entry (content_in c.change_told.new.tables) (content_in c.happen.new.self) refl (c.change_told.ensures.content ∙ c.lines_ready.ensures.content) told c.happen.ensures.moves in
     line_last before c.requires c.args.path.now c.args.line c.in_ok-object.object c.in_ok-object.ensures.ok false none passes (sym c.if-passes_last_number.false ∙ past) ∙ ap Ok (sym left)
