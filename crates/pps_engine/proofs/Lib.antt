@@ -10,6 +10,7 @@ pub mod EventLists
 pub mod EventTells
 pub mod EventPlans
 pub mod Within
+pub mod Parts
 pub mod Persistent
 pub mod Unique
 pub mod Apart

@@ -69,16 +69,6 @@ taking_makes_nothing c conn (Input news) = refl
 taking_makes_nothing c conn (ItemOutcome item) = refl
 taking_makes_nothing c conn Empty = refl
 
-pub taking_else : (conn : ℕ) (outcome : Outcome) → ((item : Item) → outcome ≡ ItemOutcome item → ⊥) → taking conn outcome ≡ []
-taking_else conn Done other = refl
-taking_else conn (Opened handle) other = refl
-taking_else conn (Data bytes) other = refl
-taking_else conn (Wrote length) other = refl
-taking_else conn Parked other = refl
-taking_else conn (Input news) other = refl
-taking_else conn (ItemOutcome item) other = absurd (other item refl)
-taking_else conn Empty other = refl
-
 pub received_here : (c : Content) (conn : ℕ) (reply : Outcome) → reply ≡ (effect c conn Receive).0 → effect c conn Receive ≡ (reply, taking conn reply)
 unfolding effect
 received_here c conn reply is = received_is conn (first_of (queue_of c conn)) ∙ ap (λ (o : Outcome). (o, taking conn o)) (sym is)

@@ -4,6 +4,7 @@ pub mod SettlingTold
 pub mod Doing
 pub mod EventTold
 pub mod Events
+pub mod Parts
 pub mod Attributes
 pub mod Entries
 pub mod Serving

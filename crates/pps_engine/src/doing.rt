@@ -60,9 +60,9 @@ pub(crate) enum Doing {
     Removes(DirId),
 }
 
-// A handle has read.
+/// A handle has read.
 #[inline(always)]
-fn leave_read(tables: &mut Tables, conn: Conn, handle: Handle, effect: Effect)
+pub(crate) fn leave_read(tables: &mut Tables, conn: Conn, handle: Handle, effect: Effect)
     requires { CanRead conn handle effect tables.old }
     ensures { Moves (reads.moves_of handle effect) tables.old tables.new }
 {
@@ -74,8 +74,9 @@ fn leave_read(tables: &mut Tables, conn: Conn, handle: Handle, effect: Effect)
     }
 }
 
-// A pulse is armed on a handle, or none any more.
-fn set_pulse(tables: &mut Tables, conn: Conn, handle: Handle, pulse: Option<Pulse>)
+/// A pulse is armed on a handle, or none any more.
+#[inline(always)]
+pub(crate) fn set_pulse(tables: &mut Tables, conn: Conn, handle: Handle, pulse: Option<Pulse>)
     requires { CanNotice conn handle pulse tables.old }
     ensures { Moves (planning.Arms handle (armed_pulse pulse) ∷ []) tables.old tables.new }
 {

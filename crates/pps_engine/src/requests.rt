@@ -7,10 +7,11 @@ ghost use Rattle.service_state.specs.Tables.{content_in};
 ghost use Rattle.handle_requests.specs.Notices.{notify_of};
 ghost use Rattle.pps_engine.specs.Events.{Serves, IsRefusedIn};
 ghost use Rattle.pps_engine.specs.EventTold.{number_opened};
+ghost use Rattle.pps_engine.specs.Parts.{reading, noticing, receiving};
 
 use crate::doing::Doing;
 use crate::done::{Done, boxed};
-use handle_requests::Closing;
+use handle_requests::{Closing, Notified, ReadDone};
 use path_requests::{Opens, Unlinked};
 use pps_types::{Action, Bytes, Conn, Handle, Mode, Outcome, Refusal};
 use service_laws::events_are_settled;
@@ -90,8 +91,28 @@ pub(crate) fn open(
     })
 }
 
-/// A handle is read.
+/// What a read answers, and what it leaves of its handle.
 #[inline(always)]
+pub(crate) fn ask_read(
+    tables: &mut Tables,
+    alloc: Global,
+    conn: Conn,
+    handle: Handle,
+    size: u32,
+) -> Result<ReadDone, Refusal>
+    requires content { IsContent (content_in tables.old) }
+    requires bound { IsBound (content_in tables.old) }
+    ensures content { content_in tables.new ≡ content_in tables.old }
+    ensures ok { IfOk result (λ d. Serves tables.old conn (Read handle size) tables.new
+        (reading conn handle d)) }
+    ensures err { IfErr result (IsRefusedIn tables.old conn (Read handle size)) }
+{
+    events_are_settled();
+    numbers_are_within(tables);
+    handle_requests::read(tables, alloc, conn, handle, size)
+}
+
+/// A handle is read.
 pub(crate) fn read(
     tables: &mut Tables,
     alloc: Global,
@@ -105,15 +126,13 @@ pub(crate) fn read(
     ensures ok { IfOk result (Serves tables.old conn (Read handle size) tables.new) }
     ensures err { IfErr result (IsRefusedIn tables.old conn (Read handle size)) }
 {
-    events_are_settled();
-    numbers_are_within(tables);
-    let done = handle_requests::read(tables, alloc, conn, handle, size)?;
+    let ReadDone { reply, effect } = ask_read(tables, alloc, conn, handle, size)?;
     Ok(Done {
-        reply: done.reply,
+        reply,
         doing: Doing::Reads {
             conn,
             handle,
-            effect: done.effect,
+            effect,
         },
     })
 }
@@ -205,6 +224,26 @@ pub(crate) fn list(
     })
 }
 
+/// What a Notify answers, and what it arms.
+#[inline(always)]
+pub(crate) fn ask_notify(
+    tables: &mut Tables,
+    conn: Conn,
+    handle: Handle,
+    action: Action,
+    pulse: Pulse,
+) -> Result<Notified, Refusal>
+    requires { IsContent (content_in tables.old) }
+    ensures content { content_in tables.new ≡ content_in tables.old }
+    ensures ok { IfOk result (λ n. Serves tables.old conn (notify_of handle action pulse) tables.new
+        (noticing conn handle n)) }
+    ensures err { IfErr result (IsRefusedIn tables.old conn (notify_of handle action pulse)) }
+{
+    events_are_settled();
+    numbers_are_within(tables);
+    handle_requests::notify(tables, conn, handle, action, pulse)
+}
+
 /// A handle is asked for notices.
 pub(crate) fn notify(
     tables: &mut Tables,
@@ -218,17 +257,27 @@ pub(crate) fn notify(
     ensures ok { IfOk result (Serves tables.old conn (notify_of handle action pulse) tables.new) }
     ensures err { IfErr result (IsRefusedIn tables.old conn (notify_of handle action pulse)) }
 {
-    events_are_settled();
-    numbers_are_within(tables);
-    let notified = handle_requests::notify(tables, conn, handle, action, pulse)?;
+    let Notified { news, pulse } = ask_notify(tables, conn, handle, action, pulse)?;
     Ok(Done {
-        reply: Outcome::Input(notified.news),
+        reply: Outcome::Input(news),
         doing: Doing::Arms {
             conn,
             handle,
-            pulse: notified.pulse,
+            pulse,
         },
     })
+}
+
+/// What a Receive answers: what is queued first for a connection, or that nothing is.
+#[inline(always)]
+pub(crate) fn ask_receive(tables: &Tables, conn: Conn) -> Result<Outcome, Refusal>
+    ensures ok { IfOk result (λ reply. Serves tables.now conn Receive tables.now
+        (receiving conn reply)) }
+    ensures err { IfErr result (IsRefusedIn tables.now conn Receive) }
+{
+    events_are_settled();
+    numbers_are_within(tables);
+    handle_requests::receive(tables, conn)
 }
 
 /// What is queued first for a connection is received.
@@ -236,9 +285,7 @@ pub(crate) fn receive(tables: &Tables, conn: Conn) -> Result<Done, Refusal>
     ensures ok { IfOk result (Serves tables.now conn Receive tables.now) }
     ensures err { IfErr result (IsRefusedIn tables.now conn Receive) }
 {
-    events_are_settled();
-    numbers_are_within(tables);
-    let reply = handle_requests::receive(tables, conn)?;
+    let reply = ask_receive(tables, conn)?;
     let doing = match &reply {
         Outcome::Item(_) => Doing::Takes(conn),
         _ => Doing::Nothing,

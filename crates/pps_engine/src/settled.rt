@@ -1,8 +1,8 @@
 //! What follows from what an event does, by the records that it tells and the handles that it closes.
-ghost use Rattle.std.specs.Prelude.{◌≡◌, true, IfOk, OnErr};
+ghost use Rattle.std.specs.Prelude.{◌≡◌, true, [], IfOk, OnErr};
 ghost use Rattle.pps_types.specs.WellFormed.{IsContent};
 ghost use Rattle.service_state.specs.Tables.{content_in};
-ghost use Rattle.pps_engine.specs.EventTold.{closes_in, takes_memory, SettlesSteps, SettlesOpen, Settles};
+ghost use Rattle.pps_engine.specs.EventTold.{closes_in, takes_memory, IsSettled, SettlesSteps, SettlesOpen, Settles};
 
 use crate::doing::Doing;
 use crate::settling::settle;
@@ -66,6 +66,17 @@ fn settled_opens(
             settle(tables, alloc, &entries, &[])
         }
     }
+}
+
+/// Does nothing. Its contract is the law that nothing follows if no record is told and no handle closes.
+#[inline(always)]
+pub(crate) fn nothing_follows(tables: &Tables)
+    requires { IsContent (content_in tables.now) }
+    ensures { IsSettled (content_in tables.now) [] [] [] }
+{
+    let _tables = tables;
+    events_are_settled();
+    moves_are_settled();
 }
 
 /// What follows from what an event does. Where no record is told nothing follows.

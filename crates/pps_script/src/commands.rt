@@ -4,7 +4,7 @@ ghost use Rattle.pps_script.specs.ScriptLines as script;
 
 use crate::escapes::read_escaped;
 use crate::words::{
-    first_handle, first_word, read_action, read_code, read_field, read_handle, read_mode,
+    first_code, first_handle, first_word, read_action, read_field, read_handle, read_mode,
 };
 use pps_types::{Bytes, Conn, Event, Handle, Request};
 use std::alloc::{AllocError, Global};
@@ -124,6 +124,7 @@ fn read_close(conn: Conn, text: &[u8]) -> Option<Event>
 }
 
 // A handle, an action, a code and a value.
+#[inline(always)]
 fn read_notify(conn: Conn, text: &[u8]) -> Option<Event>
     ensures { result ≡ script.asked conn (script.notify_request text.now) }
 {
@@ -132,8 +133,7 @@ fn read_notify(conn: Conn, text: &[u8]) -> Option<Event>
     };
     let (action, behind) = first_word(behind)?;
     let action = read_action(action)?;
-    let (code, value) = first_word(behind)?;
-    let code = read_code(code)?;
+    let (code, value) = first_code(behind)?;
     let value = read_field(value)?;
     let request = Request::Notify {
         handle,
@@ -182,13 +182,9 @@ fn read_with(
     }
 }
 
-/// What a connection asks for. `None` says that it is no command.
-#[inline(always)]
-pub(crate) fn read_event(
-    alloc: Global,
-    conn: Conn,
-    text: &[u8],
-) -> Result<Option<Event>, AllocError>
+// What a connection asks for, known by its first word.
+#[inline(never)]
+fn read_by_word(alloc: Global, conn: Conn, text: &[u8]) -> Result<Option<Event>, AllocError>
     ensures { IfOk result (λ read. read ≡ script.asked conn (script.request_of text.now)) }
 {
     let Some((word, rest)) = first_word(text) else {
@@ -198,4 +194,26 @@ pub(crate) fn read_event(
         return Ok(None);
     };
     read_with(alloc, conn, word, rest)
+}
+
+/// What a connection asks for. `None` says that it is no command. What is asked most often is known by its letters, without
+/// a search for the end of its word.
+#[inline(always)]
+pub(crate) fn read_event(
+    alloc: Global,
+    conn: Conn,
+    text: &[u8],
+) -> Result<Option<Event>, AllocError>
+    ensures { IfOk result (λ read. read ≡ script.asked conn (script.request_of text.now)) }
+{
+    match text {
+        [b'r', b'e', b'a', b'd', b' ', rest @ ..] => Ok(read_read(conn, rest)),
+        [b'w', b'r', b'i', b't', b'e', b' ', rest @ ..] => read_write(alloc, conn, rest),
+        [b'n', b'o', b't', b'i', b'f', b'y', b' ', rest @ ..] => Ok(read_notify(conn, rest)),
+        b"receive" => Ok(Some(Event {
+            conn,
+            request: Request::Receive,
+        })),
+        _ => read_by_word(alloc, conn, text),
+    }
 }

@@ -47,12 +47,13 @@ pub(crate) fn read_handle(word: &[u8]) -> Option<Handle>
     Some(Handle::new(number))
 }
 
-/// The code of a pulse.
-pub(crate) fn read_code(word: &[u8]) -> Option<u8>
-    ensures { result ≡ script.code_of word.now }
+/// The code of a pulse in the first word, and what comes after that word and its space.
+#[inline(always)]
+pub(crate) fn first_code(text: &[u8]) -> Option<(u8, &[u8])>
+    ensures { option_map (λ parts. (parts.0, parts.1.now)) result ≡ script.number_word 255 text.now }
 {
-    let number = read_number(255, word)?;
-    Some(number as u8)
+    let (number, rest) = read_number_word(255, text)?;
+    Some((number as u8, rest))
 }
 
 /// What a Notify asks for.

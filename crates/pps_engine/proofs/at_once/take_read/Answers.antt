@@ -3,7 +3,8 @@ use Rattle.pps_types.specs.declared.event.Request.TheVariants.{Read}
 use Rattle.pps_types.specs.declared.refusal.Refusal.TheVariants.{NotAttached}
 use Rattle.service_state.specs.Tables.{content_in}
 use Rattle.pps_engine.specs.Events.{is_attach}
-use Rattle.pps_engine.proofs.AtOnce.{refused-step, served-done, served-refused}
+use Rattle.pps_engine.specs.Parts.{reading}
+use Rattle.pps_engine.proofs.AtOnce.{refused-step, untold-refused, untold-done}
 use Rattle.pps_engine.proofs.EventLists.{not_attached}
 use Rattle.pps_engine.proofs.at_once.take_read.Goals as goal
 
@@ -12,12 +13,13 @@ returns-then-not-is_attached c =
     refused-step (content_in c.args.tables.now) c.args.event.now NotAttached c.requires.sound
     (inl (not_attached (content_in c.args.tables.now) c.args.event.now (ap is_attach c.requires.request) (sym c.if-not-is_attached.ensures)))
 
-pub finish-requires-clause-done : goal.finish-requires-clause-done
-finish-requires-clause-done c =
-    served-done c.args.tables.now c.read-asked.new.tables c.args.event.now (Read c.args.handle c.args.size) c.read-asked.result c.requires.request refl (sym c.if-not-is_attached.ensures)
-    c.read-asked.ensures.content c.read-asked.ensures.ok
+pub returns-in-Err : goal.returns-in-Err
+returns-in-Err c =
+    untold-refused c.args.tables.now c.ask_read.new.tables c.args.event.now (Read c.args.handle c.args.size) c.requires.request refl (sym c.if-not-is_attached.ensures)
+    c.in-Err.ensures.content c.requires.sound c.in-Err.refusal c.in-Err.ensures.err
 
-pub finish-requires-clause-refused : goal.finish-requires-clause-refused
-finish-requires-clause-refused c =
-    served-refused c.args.tables.now c.read-asked.new.tables c.args.event.now (Read c.args.handle c.args.size) c.read-asked.result c.requires.request refl (sym c.if-not-is_attached.ensures)
-    c.read-asked.ensures.content c.read-asked.ensures.err
+pub returns : goal.returns
+returns c =
+    untold-done c.args.tables.now c.ask_read.new.tables c.args.event.now (Read c.args.handle c.args.size) c.requires.request refl (sym c.if-not-is_attached.ensures)
+    c.in-Ok.ensures.content c.requires.sound (reading c.args.event.now.conn c.args.handle c.in-Ok.done) (content_in c.leave_read.new.tables)
+    c.in-Ok.ensures.ok c.nothing_follows.ensures c.leave_read.ensures
