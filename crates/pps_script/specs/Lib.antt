@@ -1,4 +1,5 @@
 pub mod Answer
+pub mod Asked
 pub mod Escapes
 pub mod Laws
 pub mod ScriptLines

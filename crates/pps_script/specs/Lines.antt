@@ -19,8 +19,8 @@ use Rattle.pps_script.specs.declared.script_line.ScriptLine.{ScriptLine}
 use Rattle.pps_script.specs.declared.script_line.ScriptLine.TheVariants.{Nothing, Command}
 use Rattle.pps_script.specs.declared.fault.ScriptFault.{ScriptFault}
 use Rattle.pps_script.specs.declared.fault.ScriptFault.TheVariants.{BadLine, OutOfMemory, ReadFault, WriteFault}
-use Rattle.pps_script.specs.declared.line.LineFault.{LineFault}
-use Rattle.pps_script.specs.declared.line.LineFault.TheVariants as lacks
+use Rattle.pps_script.specs.declared.fault.LineFault.{LineFault}
+use Rattle.pps_script.specs.declared.fault.LineFault.TheVariants as lacks
 use Rattle.pps_script.specs.declared.session.Session.{Session}
 use Rattle.pps_script.specs.ScriptLines.{line_of}
 use Rattle.pps_script.specs.Script.{script, whole_lines, printed, answers_of}

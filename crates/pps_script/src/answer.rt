@@ -7,6 +7,16 @@ use itoa::Buffer;
 use pps_types::{Conn, Item, Outcome, Refusal, SharedBytes};
 use std::alloc::AllocError;
 
+// Pushes a number by its digits.
+#[inline(never)]
+fn push_digits(out: &mut Vec<u8>, number: u64) -> Result<(), AllocError>
+    ensures { OnOk result (out.new.items ≡ out.old.items ++ decimal number) }
+{
+    let mut buffer = Buffer::new();
+    out.extend_from_slice(buffer.format(number).as_bytes())
+}
+
+// Pushes a number. One of a single digit is pushed without a call.
 #[inline(always)]
 fn push_number(out: &mut Vec<u8>, number: u64) -> Result<(), AllocError>
     ensures { OnOk result (out.new.items ≡ out.old.items ++ decimal number) }
@@ -15,8 +25,7 @@ fn push_number(out: &mut Vec<u8>, number: u64) -> Result<(), AllocError>
         out.push(b'0' + number as u8)?;
         return Ok(());
     }
-    let mut buffer = Buffer::new();
-    out.extend_from_slice(buffer.format(number).as_bytes())
+    push_digits(out, number)
 }
 
 /// Pushes how many bytes there are, and the bytes, if there are any.

@@ -1,13 +1,16 @@
 //! The commands of lines.
-ghost use Rattle.std.specs.Prelude.{◌≡◌, IfOk, option_map};
+ghost use Rattle.std.specs.Prelude.{◌≡◌, IfErr, option_map};
+ghost use Rattle.pps_script.specs.Asked.{Reads};
 ghost use Rattle.pps_script.specs.ScriptLines as script;
+ghost use Rattle.pps_script.specs.declared.fault.LineFault.TheVariants.{BadLine};
 
 use crate::escapes::read_escaped;
+use crate::fault::LineFault;
 use crate::words::{
     first_code, first_handle, first_word, read_action, read_field, read_handle, read_mode,
 };
 use pps_types::{Bytes, Conn, Event, Handle, Request};
-use std::alloc::{AllocError, Global};
+use std::alloc::Global;
 
 /// The word of a command that something stands behind.
 #[derive(Clone, Copy, Debug, PartialEq, Eq)]
@@ -40,52 +43,52 @@ fn read_word(word: &[u8]) -> Option<Word>
 }
 
 // A command of one word.
-fn read_alone(conn: Conn, word: &[u8]) -> Option<Event>
-    ensures { result ≡ script.asked conn (script.request_alone word.now) }
+fn read_alone(conn: Conn, word: &[u8]) -> Result<Event, LineFault>
+    ensures reads { Reads (script.asked conn (script.request_alone word.now)) result }
+    ensures fault { IfErr result (λ fault. fault ≡ BadLine) }
 {
     match word {
-        b"attach" => Some(Event {
+        b"attach" => Ok(Event {
             conn,
             request: Request::Attach,
         }),
-        b"detach" => Some(Event {
+        b"detach" => Ok(Event {
             conn,
             request: Request::Detach,
         }),
-        b"receive" => Some(Event {
+        b"receive" => Ok(Event {
             conn,
             request: Request::Receive,
         }),
-        _ => None,
+        _ => Err(LineFault::BadLine),
     }
 }
 
 // A mode, and the text of an open.
-fn read_open(alloc: Global, conn: Conn, text: &[u8]) -> Result<Option<Event>, AllocError>
-    ensures { IfOk result (λ read. read ≡ script.asked conn (script.open_request text.now)) }
+fn read_open(alloc: Global, conn: Conn, text: &[u8]) -> Result<Event, LineFault>
+    ensures { Reads (script.asked conn (script.open_request text.now)) result }
 {
     let Some((letters, text)) = first_word(text) else {
-        return Ok(None);
+        return Err(LineFault::BadLine);
     };
-    let Some(mode) = read_mode(letters) else {
-        return Ok(None);
-    };
+    let mode = read_mode(letters).ok_or(LineFault::BadLine)?;
     let text = Bytes::from_slice(alloc, text)?;
     let request = Request::Open { mode, text };
-    Ok(Some(Event { conn, request }))
+    Ok(Event { conn, request })
 }
 
 // A handle and a size.
 #[inline(always)]
-fn read_read(conn: Conn, text: &[u8]) -> Option<Event>
-    ensures { result ≡ script.asked conn (script.read_request text.now) }
+fn read_read(conn: Conn, text: &[u8]) -> Result<Event, LineFault>
+    ensures reads { Reads (script.asked conn (script.read_request text.now)) result }
+    ensures fault { IfErr result (λ fault. fault ≡ BadLine) }
 {
     let Some((handle, size)) = first_handle(text) else {
-        return None;
+        return Err(LineFault::BadLine);
     };
-    let size = read_field(size)?;
+    let size = read_field(size).ok_or(LineFault::BadLine)?;
     let request = Request::Read { handle, size };
-    Some(Event { conn, request })
+    Ok(Event { conn, request })
 }
 
 // A handle, and what comes after its space, if there is one.
@@ -102,56 +105,55 @@ fn handle_and_rest(text: &[u8]) -> Option<(Handle, &[u8])>
 
 // A handle, and bytes, if there are any.
 #[inline(always)]
-fn read_write(alloc: Global, conn: Conn, text: &[u8]) -> Result<Option<Event>, AllocError>
-    ensures { IfOk result (λ read. read ≡ script.asked conn (script.write_request text.now)) }
+fn read_write(alloc: Global, conn: Conn, text: &[u8]) -> Result<Event, LineFault>
+    ensures { Reads (script.asked conn (script.write_request text.now)) result }
 {
     let Some((handle, escaped)) = handle_and_rest(text) else {
-        return Ok(None);
+        return Err(LineFault::BadLine);
     };
-    let Some(bytes) = read_escaped(alloc, escaped)? else {
-        return Ok(None);
-    };
+    let bytes = read_escaped(alloc, escaped)?;
     let request = Request::Write { handle, bytes };
-    Ok(Some(Event { conn, request }))
+    Ok(Event { conn, request })
 }
 
-fn read_close(conn: Conn, text: &[u8]) -> Option<Event>
-    ensures { result ≡ script.asked conn (script.close_request text.now) }
+fn read_close(conn: Conn, text: &[u8]) -> Result<Event, LineFault>
+    ensures reads { Reads (script.asked conn (script.close_request text.now)) result }
+    ensures fault { IfErr result (λ fault. fault ≡ BadLine) }
 {
-    let handle = read_handle(text)?;
+    let handle = read_handle(text).ok_or(LineFault::BadLine)?;
     let request = Request::Close { handle };
-    Some(Event { conn, request })
+    Ok(Event { conn, request })
 }
 
 // A handle, an action, a code and a value.
 #[inline(always)]
-fn read_notify(conn: Conn, text: &[u8]) -> Option<Event>
-    ensures { result ≡ script.asked conn (script.notify_request text.now) }
+fn read_notify(conn: Conn, text: &[u8]) -> Result<Event, LineFault>
+    ensures reads { Reads (script.asked conn (script.notify_request text.now)) result }
+    ensures fault { IfErr result (λ fault. fault ≡ BadLine) }
 {
-    let Some((handle, behind)) = first_handle(text) else {
-        return None;
+    let Some((handle, rest)) = first_handle(text) else {
+        return Err(LineFault::BadLine);
     };
-    let (action, behind) = first_word(behind)?;
-    let action = read_action(action)?;
-    let (code, value) = first_code(behind)?;
-    let value = read_field(value)?;
+    let Some((action, rest)) = first_word(rest) else {
+        return Err(LineFault::BadLine);
+    };
+    let action = read_action(action).ok_or(LineFault::BadLine)?;
+    let Some((code, value)) = first_code(rest) else {
+        return Err(LineFault::BadLine);
+    };
+    let value = read_field(value).ok_or(LineFault::BadLine)?;
     let request = Request::Notify {
         handle,
         action,
         code,
         value,
     };
-    Some(Event { conn, request })
+    Ok(Event { conn, request })
 }
 
 // A path.
-fn read_path(
-    alloc: Global,
-    conn: Conn,
-    word: Word,
-    path: &[u8],
-) -> Result<Option<Event>, AllocError>
-    ensures { IfOk result (λ read. read ≡ script.asked conn (script.path_request word path.now)) }
+fn read_path(alloc: Global, conn: Conn, word: Word, path: &[u8]) -> Result<Event, LineFault>
+    ensures { Reads (script.asked conn (script.path_request word path.now)) result }
 {
     let path = Bytes::from_slice(alloc, path)?;
     let request = match word {
@@ -159,61 +161,50 @@ fn read_path(
         Word::Mkdir => Request::Mkdir { path },
         _ => Request::List { path },
     };
-    Ok(Some(Event { conn, request }))
+    Ok(Event { conn, request })
 }
 
 // A command, and what comes after its space.
 #[inline(always)]
-fn read_with(
-    alloc: Global,
-    conn: Conn,
-    word: Word,
-    text: &[u8],
-) -> Result<Option<Event>, AllocError>
-    ensures { IfOk result (λ read. read ≡ script.asked conn (script.request_with word text.now)) }
+fn read_with(alloc: Global, conn: Conn, word: Word, text: &[u8]) -> Result<Event, LineFault>
+    ensures { Reads (script.asked conn (script.request_with word text.now)) result }
 {
     match word {
         Word::Open => read_open(alloc, conn, text),
-        Word::Read => Ok(read_read(conn, text)),
+        Word::Read => read_read(conn, text),
         Word::Write => read_write(alloc, conn, text),
-        Word::Close => Ok(read_close(conn, text)),
-        Word::Notify => Ok(read_notify(conn, text)),
+        Word::Close => read_close(conn, text),
+        Word::Notify => read_notify(conn, text),
         Word::Unlink | Word::Mkdir | Word::List => read_path(alloc, conn, word, text),
     }
 }
 
 // What a connection asks for, known by its first word.
 #[inline(never)]
-fn read_by_word(alloc: Global, conn: Conn, text: &[u8]) -> Result<Option<Event>, AllocError>
-    ensures { IfOk result (λ read. read ≡ script.asked conn (script.request_of text.now)) }
+fn read_by_word(alloc: Global, conn: Conn, text: &[u8]) -> Result<Event, LineFault>
+    ensures { Reads (script.asked conn (script.request_of text.now)) result }
 {
     let Some((word, rest)) = first_word(text) else {
-        return Ok(read_alone(conn, text));
+        return read_alone(conn, text);
     };
-    let Some(word) = read_word(word) else {
-        return Ok(None);
-    };
+    let word = read_word(word).ok_or(LineFault::BadLine)?;
     read_with(alloc, conn, word, rest)
 }
 
-/// What a connection asks for. `None` says that it is no command. What is asked most often is known by its letters, without
-/// a search for the end of its word.
+/// What a connection asks for. BadLine says that it is no command. What is asked most often is known by its letters,
+/// without a search for the end of its word.
 #[inline(always)]
-pub(crate) fn read_event(
-    alloc: Global,
-    conn: Conn,
-    text: &[u8],
-) -> Result<Option<Event>, AllocError>
-    ensures { IfOk result (λ read. read ≡ script.asked conn (script.request_of text.now)) }
+pub(crate) fn read_event(alloc: Global, conn: Conn, text: &[u8]) -> Result<Event, LineFault>
+    ensures { Reads (script.asked conn (script.request_of text.now)) result }
 {
     match text {
-        [b'r', b'e', b'a', b'd', b' ', rest @ ..] => Ok(read_read(conn, rest)),
+        [b'r', b'e', b'a', b'd', b' ', rest @ ..] => read_read(conn, rest),
         [b'w', b'r', b'i', b't', b'e', b' ', rest @ ..] => read_write(alloc, conn, rest),
-        [b'n', b'o', b't', b'i', b'f', b'y', b' ', rest @ ..] => Ok(read_notify(conn, rest)),
-        b"receive" => Ok(Some(Event {
+        [b'n', b'o', b't', b'i', b'f', b'y', b' ', rest @ ..] => read_notify(conn, rest),
+        b"receive" => Ok(Event {
             conn,
             request: Request::Receive,
-        })),
+        }),
         _ => read_by_word(alloc, conn, text),
     }
 }

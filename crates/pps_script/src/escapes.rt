@@ -1,8 +1,10 @@
 //! Bytes as scripts and answers write them: with escapes, which begin with a backslash.
 ghost use Rattle.std.specs.Prelude.{◌≡◌, ◌+◌, ◌<◌, ◌≤◌, ◌++◌, ◌∷◌, [], IfOk, IfSome, OnOk, length, option_map, take};
+ghost use Rattle.pps_script.specs.Asked.{Reads};
 ghost use Rattle.pps_script.specs.Escapes as escapes;
 
 use crate::chunks::{ROOM, write_piece};
+use crate::fault::LineFault;
 use pps_types::{Bytes, split_at_first};
 use smallvec::SmallVec;
 use std::alloc::{AllocError, Global};
@@ -101,9 +103,9 @@ fn put_byte(out: &mut [u8; FEW], len: usize, byte: u8) -> usize
 }
 
 // Reads a text of few bytes, which are gathered in an array.
-fn read_few(alloc: Global, text: &[u8]) -> Result<Option<Bytes>, AllocError>
+fn read_few(alloc: Global, text: &[u8]) -> Result<Bytes, LineFault>
     requires { length text.now ≤ FEW }
-    ensures { IfOk result (λ read. read ≡ escapes.unescaped text.now) }
+    ensures { Reads (escapes.unescaped text.now) result }
 {
     let mut bytes = [0; FEW];
     let mut len = 0;
@@ -111,13 +113,13 @@ fn read_few(alloc: Global, text: &[u8]) -> Result<Option<Bytes>, AllocError>
     'escapes: while let Some((plain, escape)) = split_at_first(b'\\', rest) {
         len = put_bytes(&mut bytes, len, plain);
         let Some((byte, behind)) = read_escape(escape) else {
-            return Ok(None);
+            return Err(LineFault::BadLine);
         };
         len = put_byte(&mut bytes, len, byte);
         rest = behind;
     }
     len = put_bytes(&mut bytes, len, rest);
-    Ok(Some(Bytes::from_slice(alloc, &bytes[..len])?))
+    Ok(Bytes::from_slice(alloc, &bytes[..len])?)
 }
 
 // Reads a longer text.
@@ -138,13 +140,13 @@ fn read_many(alloc: Global, text: &[u8]) -> Result<Option<Bytes>, AllocError>
     Ok(Some(into_bytes(alloc, bytes)?))
 }
 
-/// Reads bytes as scripts write them. `None` says that an escape is malformed.
+/// Reads bytes as scripts write them. BadLine says that an escape is malformed.
 #[inline(always)]
-pub(crate) fn read_escaped(alloc: Global, text: &[u8]) -> Result<Option<Bytes>, AllocError>
-    ensures { IfOk result (λ read. read ≡ escapes.unescaped text.now) }
+pub(crate) fn read_escaped(alloc: Global, text: &[u8]) -> Result<Bytes, LineFault>
+    ensures { Reads (escapes.unescaped text.now) result }
 {
     if text.len() <= FEW {
         return read_few(alloc, text);
     }
-    read_many(alloc, text)
+    read_many(alloc, text)?.ok_or(LineFault::BadLine)
 }

@@ -2,29 +2,14 @@
 ghost use Rattle.std.specs.Prelude.{◌≡◌, ◌++◌, IfErr, OnOk};
 ghost use Rattle.pps_script.specs.Script.{shown_for, printed};
 ghost use Rattle.pps_script.specs.Lines.{ServesBytes, FailsBytes};
-ghost use Rattle.pps_script.specs.declared.line.LineFault.TheVariants.{OutOfMemory};
 
 use crate::answer::print_answer;
+use crate::fault::LineFault;
 use crate::script_line::{read_command, says_nothing};
 use crate::shown::print_shown;
 use pps_engine::Engine;
 use pps_types::{Event, Outcome, Refusal, Request};
 use std::alloc::{AllocError, Global};
-
-/// Why a line is not served.
-#[derive(Clone, Copy, Debug, PartialEq, Eq)]
-pub(crate) enum LineFault {
-    BadLine,
-    OutOfMemory,
-}
-
-impl From<AllocError> for LineFault {
-    ghost from_gives = { λ _ fault. fault ≡ OutOfMemory };
-
-    fn from(_refused: AllocError) -> LineFault {
-        LineFault::OutOfMemory
-    }
-}
 
 // Pushes what is shown of the values in an answer.
 fn push_shown(
@@ -82,9 +67,8 @@ pub(crate) fn serve_line(
     }
     let read = read_command(alloc, line);
     let event = match &read {
-        Err(_) => return Err(LineFault::OutOfMemory),
-        Ok(None) => return Err(LineFault::BadLine),
-        Ok(Some(event)) => event,
+        Err(fault) => return Err(*fault),
+        Ok(event) => event,
     };
     let answer = engine.step(event);
     print_served(alloc, text, show, event, &answer)?;

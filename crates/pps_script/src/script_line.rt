@@ -1,9 +1,11 @@
 //! Lines of scripts.
 ghost use Rattle.std.specs.Prelude.{◌≡◌, IfOk, ◌||◌};
 ghost use Rattle.pps_types.specs.Bytes.{is_empty, starts_with};
+ghost use Rattle.pps_script.specs.Asked.{Reads};
 ghost use Rattle.pps_script.specs.ScriptLines as script;
 
 use crate::commands::read_event;
+use crate::fault::LineFault;
 use crate::words::first_conn;
 use pps_types::Event;
 use std::alloc::{AllocError, Global};
@@ -29,11 +31,11 @@ pub(crate) fn says_nothing(line: &[u8]) -> bool
 
 /// A connection, a space and what is asked for.
 #[inline(always)]
-pub(crate) fn read_command(alloc: Global, line: &[u8]) -> Result<Option<Event>, AllocError>
-    ensures { IfOk result (λ read. read ≡ script.command line.now) }
+pub(crate) fn read_command(alloc: Global, line: &[u8]) -> Result<Event, LineFault>
+    ensures { Reads (script.command line.now) result }
 {
     let Some((conn, rest)) = first_conn(line) else {
-        return Ok(None);
+        return Err(LineFault::BadLine);
     };
     read_event(alloc, conn, rest)
 }
@@ -49,8 +51,9 @@ pub fn read_line(alloc: Global, line: &[u8]) -> Result<Option<ScriptLine>, Alloc
     if says_nothing(line) {
         return Ok(Some(ScriptLine::Nothing));
     }
-    let Some(event) = read_command(alloc, line)? else {
-        return Ok(None);
-    };
-    Ok(Some(ScriptLine::Command(event)))
+    match read_command(alloc, line) {
+        Ok(event) => Ok(Some(ScriptLine::Command(event))),
+        Err(LineFault::BadLine) => Ok(None),
+        Err(LineFault::OutOfMemory) => Err(AllocError),
+    }
 }

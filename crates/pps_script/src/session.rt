@@ -5,8 +5,8 @@ ghost use Rattle.pps_types.specs.Exchange.{input_of};
 ghost use Rattle.pps_script.specs.Served.{ReportsIf};
 ghost use Rattle.pps_script.specs.Lines.{RunsLine, ServesTextOn, EndsTextOn, RunsText, RunsRest, AnswersLineFault, IsPart, count_of};
 
-use crate::fault::ScriptFault;
-use crate::line::{LineFault, serve_line};
+use crate::fault::{LineFault, ScriptFault};
+use crate::line::serve_line;
 use crate::manner::{BadLines, Manner};
 use memchr::memchr;
 use pps_engine::Engine;
