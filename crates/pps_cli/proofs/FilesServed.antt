@@ -8,11 +8,9 @@ use Rattle.std.specs.Io.KnownBytes.{Appends}
 use Rattle.pps_types.specs.Writing.{SendsPart}
 use Rattle.pps_dispatch.specs.History.{Pieces, joined, AreServedByName}
 use Rattle.pps_dispatch.specs.Printed.{sessions_text, connections_of}
-use Rattle.pps_dispatch.specs.Scripts.{IsSessionOf}
 use Rattle.pps_dispatch.specs.Serving.{connection_at, IsOfScript, AreOfScripts, AreServedAs}
 use Rattle.pps_dispatch.specs.Sessions.{Conversation}
 use Rattle.pps_dispatch.proofs.SessionsServed.{same-connections}
-use Rattle.pps_persist.specs.Files.{HoldsOf}
 use Rattle.pps_cli.specs.declared.fault.Failure.{Failure}
 use Rattle.pps_cli.specs.Sessions.{IsOfFile, AreOfFiles, FailsSession, FailsSessions, PrintsFiles, PrintsSomeFiles}
 

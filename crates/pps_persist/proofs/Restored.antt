@@ -15,7 +15,7 @@ use Rattle.pps_types.specs.Names.{Path, path_cmp}
 use Rattle.pps_types.specs.Content.{Content}
 use Rattle.pps_types.specs.Machine.{start, content_of}
 use Rattle.pps_types.specs.Image as image
-use Rattle.pps_types.specs.Image.{Image, Saved, SavedDirectory, SavedObject, SavedLine, Position, path_of, as_line, set_of, may_follow, with_entry, in_object, attribute_line, AreFollowing, IsImage, started}
+use Rattle.pps_types.specs.Image.{Image, Saved, SavedDirectory, SavedObject, path_of, may_follow, with_entry, AreFollowing, IsImage, started}
 use Rattle.pps_types.specs.Restore.{restore_directory, restore_object, restore_entry, restore_entries}
 use Rattle.pps_types.proofs.Lists.{all-push, append-nil}
 use Rattle.image_laws.specs.Images.{IsSavedPath, HasText, IsPrintable}

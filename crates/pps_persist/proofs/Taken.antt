@@ -9,7 +9,7 @@ use Rattle.pps_types.specs.Machine.{start}
 use Rattle.pps_types.specs.Content.{Content}
 use Rattle.pps_types.specs.Stands.{Stands}
 use Rattle.pps_types.specs.Image as image
-use Rattle.pps_types.specs.Image.{Image, Saved, SavedDirectory, SavedObject, SavedLine, Position, First, Between, Within, Behind, path_of, is_directory_entry, same_sort, are_beside, has_parent, may_follow, with_entry, in_object, loaded_with, first_line, directory_line, object_line, end_line, entry_line, attribute_line, line_read, IsImage, started}
+use Rattle.pps_types.specs.Image.{Image, Saved, SavedDirectory, SavedObject, Position, First, Between, Within, Behind, may_follow, with_entry, in_object, loaded_with, first_line, entry_line, attribute_line, line_read, IsImage}
 use Rattle.pps_persist.specs.declared.reading.EntryLine.{EntryLine}
 use Rattle.pps_persist.specs.declared.reading.EntryLine.TheVariants.{Directory, Object as ObjectLine, End}
 use Rattle.pps_persist.specs.Lines.{position_after}

@@ -1,4 +1,4 @@
-use Rattle.std.proofs.Common.{sym, ap, subst, ◌∙◌}
+use Rattle.std.proofs.Common.{sym, subst, ◌∙◌}
 use Rattle.image_laws.specs.Images.{IsImageLine}
 use Rattle.pps_persist.proofs.SetLines.{read-image-line}
 use Rattle.pps_persist.proofs.reading.read_attribute.Goals as goal
