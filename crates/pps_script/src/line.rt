@@ -65,12 +65,11 @@ pub(crate) fn serve_line(
     if says_nothing(line) {
         return Ok(());
     }
-    let read = read_command(alloc, line);
-    let event = match &read {
-        Err(fault) => return Err(*fault),
-        Ok(event) => event,
-    };
-    let answer = engine.step(event);
-    print_served(alloc, text, show, event, &answer)?;
-    Ok(())
+    match &read_command(alloc, line) {
+        Err(fault) => Err(*fault),
+        Ok(event) => {
+            print_served(alloc, text, show, event, &engine.step(event))?;
+            Ok(())
+        }
+    }
 }
