@@ -1,5 +1,5 @@
 //! Answers, as lines.
-ghost use Rattle.std.specs.Prelude.{◌≡◌, ◌++◌, OnOk, decimal};
+ghost use Rattle.std.specs.Prelude.{◌≡◌, ◌++◌, ◌∷◌, [], OnOk, IfSome, decimal};
 ghost use Rattle.pps_script.specs.Answer.{space, counted_words, data_words, argument_word, refusal_words, read_words, pulse_words, item_words, outcome_words, answer_words, answer_line};
 
 use crate::escapes::push_escaped;
@@ -153,6 +153,25 @@ fn push_answer(out: &mut Vec<u8>, answer: &Result<Outcome, Refusal>) -> Result<(
     }
 }
 
+// The rest of a line whose answer says no more than its kind: a space, the answer and its line feed.
+#[inline(always)]
+fn constant_rest(answer: &Result<Outcome, Refusal>) -> Option<&'static [u8]>
+    ensures { IfSome result (λ rest. rest.now ≡ space ++ answer_words answer.now ++ 10 ∷ []) }
+{
+    let Ok(outcome) = answer else {
+        return None;
+    };
+    match outcome {
+        Outcome::Done => Some(b" ok\n"),
+        Outcome::Parked => Some(b" parked\n"),
+        Outcome::Input(true) => Some(b" input 1\n"),
+        Outcome::Input(false) => Some(b" input 0\n"),
+        Outcome::Empty => Some(b" empty\n"),
+        Outcome::Data(bytes) if bytes.as_slice().is_empty() => Some(b" data 0\n"),
+        _ => None,
+    }
+}
+
 /// Prints the answer to a command behind what is there, as one line with its line feed. It begins with the connection.
 ///
 /// Bytes are shown with escapes: a line feed as `\n`, a backslash as `\\`, a byte from 32 to 126 as itself, and any
@@ -166,6 +185,9 @@ pub fn print_answer(
     ensures { OnOk result (out.new.items ≡ out.old.items ++ answer_line conn answer.now) }
 {
     push_number(out, u64::from(conn.number()))?;
+    if let Some(rest) = constant_rest(answer) {
+        return out.extend_from_slice(rest);
+    }
     push_answer(out, answer)?;
     out.extend_from_slice(b"\n")
 }
