@@ -24,16 +24,34 @@ use std::io::Write;
 use std::sync::Wait;
 use std::thread::Threads;
 
-/// How many entries the trace has before it is cut.
-const TRACE_LIMIT: usize = 1_024;
+/// How many entries the trace has before it is cut: the most that it may have, since each cut copies the engine.
+const TRACE_LIMIT: usize = 65_536;
+
+/// How many messages of a session several workers serve at once.
+const AT_ONCE: usize = 64;
 
 /// A gate that is always open, and that nobody watches.
-struct OpenGate;
+#[derive(Drop)]
+struct OpenGate {
+    at_once: usize,
+}
+
+impl OpenGate {
+    // With one worker the sessions take turns, one message each.
+    fn new(workers: usize) -> OpenGate {
+        let at_once = if workers == 1 { 1 } else { AT_ONCE };
+        OpenGate { at_once }
+    }
+}
 
 impl Gate for OpenGate {
-    fn enter(&self, _conn: Conn, _index: u64) {}
+    fn at_once(&self) -> usize {
+        self.at_once
+    }
 
-    fn leave(&self, _conn: Conn, _index: u64) {}
+    fn enter(&self, _conn: Conn, _first: u64, _last: u64) {}
+
+    fn leave(&self, _conn: Conn, _first: u64, _last: u64) {}
 }
 
 // The session of a script file.
@@ -172,7 +190,8 @@ fn serve_sessions<'w, F: ImageFiles, R: Threads + Wait + Sync, O: Write>(
     }
     let engine = Engine::new(alloc)?;
     let workers = options.workers.count();
-    match serve_named(rt, alloc, engine, sessions, workers, TRACE_LIMIT, &OpenGate) {
+    let gate = OpenGate::new(workers);
+    match serve_named(rt, alloc, engine, sessions, workers, TRACE_LIMIT, &gate) {
         Ok(served) => {
             write_answers(alloc, scripts, &served, output)?;
             Ok(served)

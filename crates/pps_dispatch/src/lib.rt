@@ -7,7 +7,6 @@ mod fault;
 mod framing;
 mod gate;
 mod history;
-mod message;
 mod named_entry;
 mod printed_history;
 mod printed_sessions;

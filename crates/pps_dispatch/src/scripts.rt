@@ -5,9 +5,9 @@ ghost use Rattle.pps_script.specs.ScriptLines.{line_of};
 ghost use Rattle.pps_dispatch.specs.Scripts.{Asks, IsSessionOf, TellsFirstBad};
 ghost use Rattle.pps_dispatch.specs.Reading.{AddsLine, FailsLine};
 
-use crate::message::Message;
 use crate::session::Session;
 use crate::session_fault::SessionFault;
+use pps_lock::Message;
 use pps_script::{ScriptLine, read_line};
 use pps_types::{Conn, Event, Request, split_at_first};
 use std::alloc::Global;

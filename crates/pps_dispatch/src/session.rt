@@ -5,9 +5,8 @@ ghost use Rattle.pps_types.specs.Merge.{are_distinct};
 ghost use Rattle.pps_dispatch.specs.History.{with_messages_of};
 ghost use Rattle.pps_dispatch.specs.Sessions.{unanswered, are_of, AreFrames, RefusesFrames, RefusesSession};
 
-use crate::message::Message;
 use pps_frame::{Decoder, Fed};
-use pps_lock::Receipt;
+use pps_lock::{Message, Receipt};
 use pps_types::{Conn, Event, Refusal};
 use std::alloc::{AllocError, Global};
 use std::marker::Model;
@@ -19,8 +18,6 @@ pub struct Session {
     alloc: Global,
     pub(crate) conn: Conn,
     pub(crate) messages: Vec<Message>,
-    /// How many of the messages have been served.
-    pub(crate) served: usize,
     pub(crate) replies: Vec<u8>,
     pub(crate) receipts: Vec<Receipt>,
 }
@@ -92,7 +89,6 @@ impl Session {
             alloc,
             conn,
             messages,
-            served: 0,
             replies: Vec::new(alloc),
             receipts: Vec::new(alloc),
         }

@@ -1,9 +1,10 @@
 //! What workers ask of the book that they share.
-ghost use Rattle.std.specs.Prelude.{◌≡◌, IfErr};
+ghost use Rattle.std.specs.Prelude.{◌≤◌, ◌+◌, length, vec_len, vec_capacity};
 
-use pps_lock::{Receipt, Segment, Shared, TraceFull};
-use pps_types::{Event, Refusal};
-use std::sync::{Arc, Wait};
+use pps_lock::{Message, Receipt, Segment, Shared};
+use pps_types::Refusal;
+use std::alloc::AllocError;
+use std::sync::Wait;
 
 /// What workers ask of the book that they share.
 ///
@@ -11,19 +12,29 @@ use std::sync::{Arc, Wait};
 /// name, that search would go down through everything an engine is made of, and not come to its end. A worker that is given
 /// anything of this kind says nothing of engines; that a book may be shared is then shown once, where `serve` makes one.
 pub trait SharedBook {
-    /// One event, as `Shared::enter`.
-    fn enter<R: Wait>(&self, rt: &R, event: Arc<Event>) -> Result<Receipt, TraceFull>
-        ensures { IfErr result (λ f. f.event ≡ event) };
+    /// Messages in their order, as `Shared::enter_each`.
+    fn enter_each<R: Wait>(
+        &self,
+        rt: &R,
+        messages: &[Message],
+        names: &mut Vec<Receipt>,
+    ) -> Result<bool, AllocError>
+        requires room { vec_len names.old + length messages.now ≤ vec_capacity names.old };
 
     /// The trace so far, cut off, as `Shared::cut`.
     fn cut<R: Wait>(&self, rt: &R) -> Result<Segment, Refusal>;
 }
 
 impl SharedBook for Shared {
-    fn enter<R: Wait>(&self, rt: &R, event: Arc<Event>) -> Result<Receipt, TraceFull>
-        ensures { IfErr result (λ f. f.event ≡ event) }
+    fn enter_each<R: Wait>(
+        &self,
+        rt: &R,
+        messages: &[Message],
+        names: &mut Vec<Receipt>,
+    ) -> Result<bool, AllocError>
+        requires room { vec_len names.old + length messages.now ≤ vec_capacity names.old }
     {
-        Shared::enter(self, rt, event)
+        Shared::enter_each(self, rt, messages, names)
     }
 
     fn cut<R: Wait>(&self, rt: &R) -> Result<Segment, Refusal> {

@@ -8,8 +8,7 @@ use crate::gate::Gate;
 use crate::run_queue::{QueuePass, RunQueue, SessionCount, join_to, put_in, split_off, take_out};
 use crate::session::Session;
 use crate::shared_book::SharedBook;
-use pps_lock::{Receipt, Segment};
-use pps_types::Event;
+use pps_lock::{Message, Receipt, Segment};
 use std::alloc::Global;
 use std::snapshot::Snapshot;
 use std::sync::{Arc, Mutex, Wait};
@@ -23,18 +22,22 @@ pub struct Worked {
     pub segments: Vec<Segment>,
 }
 
-// Enters one event into the trace. Each time that the trace is full it is cut off, and the same event is tried again.
+// Enters these messages into the trace, and adds the names of their entries. Each time that the trace is full it is cut
+// off, and those that are left are tried again.
 fn enter_through<B: SharedBook, R: Wait>(
     rt: &R,
     book: &B,
-    event: Arc<Event>,
+    messages: &[Message],
+    receipts: &mut Vec<Receipt>,
     segments: &mut Vec<Segment>,
-) -> Result<Receipt, ServeError> {
-    let mut event = event;
+) -> Result<(), ServeError> {
+    let before = receipts.len();
     for _ in rt.forever() {
-        match book.enter(rt, event) {
-            Ok(receipt) => return Ok(receipt),
-            Err(full) => event = full.event,
+        let entered = receipts.len().saturating_sub(before);
+        let left = messages.get(entered..).unwrap_or(&[]);
+        receipts.reserve(left.len())?;
+        if book.enter_each(rt, left, receipts)? {
+            return Ok(());
         }
         segments.reserve(1)?;
         segments.push_reserved(book.cut(rt)?);
@@ -42,7 +45,7 @@ fn enter_through<B: SharedBook, R: Wait>(
     unreachable!()
 }
 
-// Serves the next message of the session, if there is one. Gives whether messages are left.
+// Serves the next messages of the session, as many as the gate lets be served at once. Gives whether messages are left.
 fn serve_next<B: SharedBook, G: Gate, R: Wait>(
     rt: &R,
     book: &B,
@@ -50,19 +53,20 @@ fn serve_next<B: SharedBook, G: Gate, R: Wait>(
     gate: &G,
     segments: &mut Vec<Segment>,
 ) -> Result<bool, ServeError> {
-    if session.served >= session.messages.len() {
+    let served = session.receipts.len();
+    let Some(left) = session.messages.get(served..) else {
+        return Ok(false);
+    };
+    if left.is_empty() {
         return Ok(false);
     }
-    let conn = session.conn;
-    let index = session.served as u64 + 1;
-    session.receipts.reserve(1)?;
-    let event = session.messages[session.served].shared()?;
-    gate.enter(conn, index);
-    let receipt = enter_through(rt, book, event, segments)?;
-    session.receipts.push_reserved(receipt);
-    session.served += 1;
-    gate.leave(conn, index);
-    Ok(session.served < session.messages.len())
+    let next = &left[..gate.at_once().max(1).min(left.len())];
+    let first = (served as u64).saturating_add(1);
+    let last = (served as u64).saturating_add(next.len() as u64);
+    gate.enter(session.conn, first, last);
+    enter_through(rt, book, next, &mut session.receipts, segments)?;
+    gate.leave(session.conn, first, last);
+    Ok(next.len() < left.len())
 }
 
 // The same of the session in a slot, whose lock is held for so long.
@@ -77,10 +81,11 @@ fn serve_slot<B: SharedBook, G: Gate, R: Wait>(
     serve_next(rt, book, &mut session, gate, segments)
 }
 
-/// Serves sessions until it finds that none waits. It takes a session's number out of the run queue, serves one message of
-/// the session in that slot, lets the slot go, and puts the number back if the session has more; else it keeps it.
+/// Serves sessions until it finds that none waits. It takes a session's number out of the run queue, serves as many messages
+/// of the session in that slot as the gate lets be served at once, lets the slot go, and puts the number back if the session
+/// has more; else it keeps it.
 ///
-/// Where the trace is full it cuts it off, keeps the segment, and tries the same message again.
+/// If the trace is full it cuts it off, keeps the segment, and tries the messages that are left again.
 pub fn worker<N: SessionCount, B: SharedBook, G: Gate, R: Wait>(
     rt: &R,
     alloc: Global,

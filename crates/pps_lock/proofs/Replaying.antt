@@ -1,7 +1,9 @@
 -- Traces that replay, from none to one entry more.
-use Rattle.std.proofs.Common.{◌≡◌, List, [], ◌∷◌, ◌++◌, true, Err, Some, length, refl, sym, subst, ap, ◌∙◌}
+use Rattle.std.proofs.Common.{◌≡◌, List, [], ◌∷◌, ◌++◌, true, Err, Some, length, take, refl, sym, subst, ap, ◌∙◌, arith}
 use Rattle.std.specs.Prelude.{Result, Ok, IfOk, OnOk, slice_get}
+use Rattle.std.proofs.lemmas.List.{append_assoc, append-nil, length-append}
 use Rattle.std.proofs.lemmas.List.Elements.{All-nil, All-push}
+use Rattle.std.proofs.Math.Seq.{take-append_seam}
 use Rattle.pps_types.specs.declared.event.Event.{Event}
 use Rattle.pps_types.specs.declared.refusal.Refusal.TheVariants.{OutOfMemory}
 use Rattle.pps_types.specs.Outcome.{Reply, IsSendable}
@@ -13,7 +15,7 @@ use Rattle.pps_engine.proofs.Runs.{runs-append}
 use Rattle.pps_lock.specs.declared.book.Receipt.{Receipt}
 use Rattle.pps_lock.specs.declared.book.Stepped.{Stepped}
 use Rattle.pps_lock.specs.declared.book.TraceFull.{TraceFull}
-use Rattle.pps_lock.specs.Trace.{Log, Replays, Enters, IsRecorded, IsEntered, KeepsSegment, answer_to, receipt, next_receipt, numbered}
+use Rattle.pps_lock.specs.Trace.{Log, Replays, Enters, IsRecorded, IsEntered, AreEntered, EntersAll, EntersFirst, KeepsSegment, answer_to, receipt, next_receipt, numbered}
 
 -- an event that may be marked for want of memory, and is, leaves what stands
 pub marked : (c : Content) (e : Event) → may_lack_memory c e ≡ true → StepsSeen c e (Err OutOfMemory) c
@@ -62,3 +64,31 @@ pub enter-recorded : (old new : Log) (e : Event) (result : Result Receipt TraceF
 enter-recorded old new e (Ok name) replays enters named same =
     record { reply = enters.reply; recorded = recorded old new e enters.reply name replays same.1 enters.added named }
 enter-recorded old new e (Err f) replays enters named same = tt
+
+-- one more event is entered
+entered-longer : (es : List Event) (ns : List Receipt) (e : Event) (n : Receipt) → AreEntered es ns → IsEntered e n → AreEntered (es ++ e ∷ []) (ns ++ n ∷ [])
+entered-longer [] [] e n all one = (one, tt)
+entered-longer [] (m ∷ ns) e n all one = absurd all
+entered-longer (x ∷ es) [] e n all one = absurd all
+entered-longer (x ∷ es) (m ∷ ns) e n all one = (all.0, entered-longer es ns e n all.1 one)
+
+-- of no events, no name is added
+pub enters-none : (old : List Receipt) → EntersAll [] old old
+enters-none old = record { names = []; added = sym (append-nil old); entered = tt }
+
+-- and of one more, one more
+pub enters-more : (es now : List Event) (old before after : List Receipt) (e : Event) (n : Receipt) → now ≡ es ++ e ∷ [] → EntersAll es old before
+    → IsEntered e n → after ≡ before ++ n ∷ [] → EntersAll now old after
+enters-more es now old before after e n is so_far one added = record {
+  names = so_far.names ++ n ∷ [];
+  added = added ∙ ap (λ ns. ns ++ n ∷ []) so_far.added ∙ append_assoc old so_far.names (n ∷ []);
+  entered = subst (λ xs. AreEntered xs (so_far.names ++ n ∷ [])) (sym is) (entered-longer es so_far.names e n so_far.entered one);
+}
+
+-- the events of some that are entered are the first of these and others
+pub enters-first : (es rest all : List Event) (old new : List Receipt) → all ≡ es ++ rest → EntersAll es old new → EntersFirst all old new
+enters-first es rest all old new is so_far = record {
+  count = length es;
+  within = omega (arith, ap length is, length-append es rest);
+  entered = subst (λ xs. EntersAll xs old new) (sym (ap (take (length es)) is ∙ take-append_seam es rest)) so_far;
+}

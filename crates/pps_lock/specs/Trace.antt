@@ -1,5 +1,5 @@
 -- A trace of events with their answers, and what it tells of what stood before it and what stands after it.
-use Rattle.std.specs.Prelude.{◌≡◌, ◌≤◌, ◌⊎◌, ℕ, ◌+◌, ◌-◌, ◌^◌, List, [], ◌∷◌, ◌++◌, All, Some, OnErr, length, slice_get}
+use Rattle.std.specs.Prelude.{◌≡◌, ◌≤◌, ◌⊎◌, ℕ, ◌+◌, ◌-◌, ◌^◌, List, [], ◌∷◌, ◌++◌, All, Some, OnErr, length, take, slice_get}
 use Rattle.pps_types.specs.declared.event.Event.{Event}
 use Rattle.pps_types.specs.declared.refusal.Refusal.{Refusal}
 use Rattle.pps_types.specs.declared.refusal.Refusal.TheVariants.{OutOfMemory, TableFull}
@@ -112,3 +112,21 @@ pub record IsRecorded (event : Event) (reply : Reply) (place : Receipt) : Type 0
 pub record IsEntered (event : Event) (place : Receipt) : Type 0 where
   pub reply : Reply
   pub recorded : IsRecorded event reply place
+
+-- each of these events, with some answer, at the place that is named for it
+abbrev pub AreEntered : List Event → List Receipt → Type 0
+AreEntered [] [] = Unit {0}
+AreEntered (event ∷ events) (place ∷ places) = IsEntered event place × AreEntered events places
+AreEntered _ _ = ⊥
+
+-- the names are those of before, and then the places of these events, in their order
+pub record EntersAll (events : List Event) (old new : List Receipt) : Type 0 where
+  pub names : List Receipt
+  pub added : new ≡ old ++ names
+  pub entered : AreEntered events names
+
+-- the same of so many of the events, from the first one on
+pub record EntersFirst (events : List Event) (old new : List Receipt) : Type 0 where
+  pub count : ℕ
+  pub within : count ≤ length events
+  pub entered : EntersAll (take count events) old new

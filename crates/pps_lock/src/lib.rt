@@ -3,10 +3,12 @@
 
 mod book;
 mod entry;
+mod message;
 mod segment;
 mod shared;
 
 pub use book::{Book, Receipt, Stepped, TraceFull};
 pub use entry::Entry;
+pub use message::Message;
 pub use segment::Segment;
 pub use shared::Shared;

@@ -1,12 +1,14 @@
 //! A book behind a lock.
-ghost use Rattle.std.specs.Prelude.{◌≡◌, ◌≤◌, ◌⊎◌, IfOk, IfErr, length};
+ghost use Rattle.std.specs.Prelude.{◌≡◌, ◌≤◌, ◌+◌, ◌⊎◌, IsTrue, IfOk, IfErr, length, vec_len, vec_capacity};
 ghost use Rattle.std.specs.Arc.{arc_value};
 ghost use Rattle.pps_types.specs.Outcome.{IsSendable};
-ghost use Rattle.pps_lock.specs.Trace.{Replays, IsRecorded, IsEntered};
+ghost use Rattle.pps_lock.specs.Trace.{Replays, IsRecorded, IsEntered, EntersAll, EntersFirst};
 
 use crate::book::{Book, Receipt, Stepped, TraceFull};
+use crate::message::Message;
 use crate::segment::Segment;
 use pps_types::{Event, Refusal};
+use std::alloc::AllocError;
 use std::sync::{Arc, Mutex, Wait};
 
 /// A book that threads share, one of them at a time.
@@ -51,6 +53,35 @@ impl Shared {
         let entered = book.enter(event);
         book.replays();
         entered
+    }
+
+    /// `Book::enter` of the book that is found, of these messages in their order, as long as its trace has room. It waits for
+    /// the lock once, adds the name of each entry to those that are there, for which there is room, and reports whether all
+    /// are entered.
+    ///
+    /// The names that it adds, also where it fails, are those of the first of the messages, each the event of an entry, at
+    /// the place that is named, of a trace that replays. AllocError comes as of `Message::share`.
+    pub fn enter_each<R: Wait>(
+        &self,
+        rt: &R,
+        messages: &[Message],
+        names: &mut Vec<Receipt>,
+    ) -> Result<bool, AllocError>
+        requires room { vec_len names.old + length messages.now ≤ vec_capacity names.old }
+        ensures all { IfOk result (λ all. IsTrue all →
+            EntersAll messages.now names.old.items names.new.items) }
+        ensures first { EntersFirst messages.now names.old.items names.new.items }
+    {
+        let mut book = self.book.lock(rt);
+        for message in messages {
+            let entered = book.enter(message.shared()?);
+            book.replays();
+            let Ok(name) = entered else {
+                return Ok(false);
+            };
+            names.push_reserved(name);
+        }
+        Ok(true)
     }
 
     /// `Book::cut` of the book that is found: a segment that replays, or TableFull or OutOfMemory. It waits for the lock.

@@ -14,13 +14,20 @@ use std::thread::Threads;
 /// How many entries the trace has before it is cut.
 const TRACE_LIMIT: usize = 5;
 
+/// How many messages of a session are served at once.
+const AT_ONCE: usize = 3;
+
 /// A gate that is always open.
 struct OpenGate;
 
 impl Gate for OpenGate {
-    fn enter(&self, _conn: Conn, _index: u64) {}
+    fn at_once(&self) -> usize {
+        AT_ONCE
+    }
 
-    fn leave(&self, _conn: Conn, _index: u64) {}
+    fn enter(&self, _conn: Conn, _first: u64, _last: u64) {}
+
+    fn leave(&self, _conn: Conn, _first: u64, _last: u64) {}
 }
 
 // The commands of a connection, as a script.

@@ -106,16 +106,20 @@ impl<R: Clock + Drop> Order<R> {
 }
 
 impl<R: Clock + Drop> Gate for Order<R> {
-    fn enter(&self, conn: Conn, index: u64) {
+    fn at_once(&self) -> usize {
+        1
+    }
+
+    fn enter(&self, conn: Conn, first: u64, _last: u64) {
         self.entered.of(conn.number()).fetch_add(1, SeqCst);
         for hold in &self.holds {
-            if hold.0.0 == conn.number() && hold.0.1 == index {
+            if hold.0.0 == conn.number() && hold.0.1 == first {
                 self.wait(hold);
             }
         }
     }
 
-    fn leave(&self, conn: Conn, _index: u64) {
+    fn leave(&self, conn: Conn, _first: u64, _last: u64) {
         self.left.of(conn.number()).fetch_add(1, SeqCst);
     }
 }

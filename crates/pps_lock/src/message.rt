@@ -24,14 +24,17 @@ impl Model for Message {
 
 impl Message {
     /// The only share of an event.
-    pub(crate) fn new(alloc: Global, event: Event) -> Result<Message, AllocError>
+    ///
+    /// AllocError comes only where memory is wanting.
+    pub fn new(alloc: Global, event: Event) -> Result<Message, AllocError>
         ensures { IfOk result (λ message. message ≡ event) }
     {
         let event = Arc::new(alloc, event)?;
         Ok(Message { event })
     }
 
-    pub(crate) fn event(&self) -> &Event
+    /// The event.
+    pub fn event(&self) -> &Event
         ensures { result.now ≡ self.now }
     {
         &self.event
@@ -44,8 +47,10 @@ impl Message {
         Arc::try_clone(&self.event)
     }
 
-    /// One share more, for another session.
-    pub(crate) fn share(&self) -> Result<Message, AllocError>
+    /// One share more.
+    ///
+    /// AllocError comes only where there are as many as can be counted.
+    pub fn share(&self) -> Result<Message, AllocError>
         ensures { IfOk result (λ message. message ≡ self.now) }
     {
         let event = self.shared()?;
