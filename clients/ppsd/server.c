@@ -67,6 +67,23 @@ static bool remove_stale(const struct sockaddr_un *place) {
     return unlink(place->sun_path) == 0 || fault("cannot remove ", place->sun_path);
 }
 
+/* Listens under a name of its own, and gives the socket its name then: whoever sees it there can connect. */
+static bool listen_at(struct server *server, const char *path, mode_t mode) {
+    struct sockaddr_un own = {.sun_family = AF_UNIX};
+    int length = snprintf(own.sun_path, sizeof own.sun_path, "%s.%ld", path, (long)getpid());
+    errno = ENAMETOOLONG;
+    if (length >= (int)sizeof own.sun_path) return fault("cannot listen at ", path);
+    if (!remove_stale(&own)) return false;
+    mode_t mask = umask(0777 & ~mode);
+    bool is_bound = bind(server->listener, (struct sockaddr *)&own, sizeof own) == 0;
+    umask(mask);
+    bool is_listening = is_bound && chmod(own.sun_path, mode) == 0 && listen(server->listener, BACKLOG) == 0 &&
+                        link(own.sun_path, path) == 0;
+    if (!is_listening) fault("cannot listen at ", path);
+    if (is_bound) unlink(own.sun_path);
+    return is_listening;
+}
+
 static bool bind_socket(struct server *server) {
     struct sockaddr_un place = {.sun_family = AF_UNIX};
     const struct options *options = server->options;
@@ -76,16 +93,7 @@ static bool bind_socket(struct server *server) {
     if (!remove_stale(&place)) return false;
     server->listener = socket(AF_UNIX, SOCK_STREAM | SOCK_NONBLOCK | SOCK_CLOEXEC, 0);
     if (server->listener < 0) return fault("cannot make a socket", "");
-    mode_t mask = umask(0777 & ~options->mode);
-    bool is_bound = bind(server->listener, (struct sockaddr *)&place, sizeof place) == 0;
-    umask(mask);
-    if (!is_bound) return fault("cannot listen at ", options->socket);
-    if (chmod(options->socket, options->mode) != 0 || listen(server->listener, BACKLOG) != 0) {
-        fault("cannot listen at ", options->socket);
-        unlink(options->socket);
-        return false;
-    }
-    return true;
+    return listen_at(server, options->socket, options->mode);
 }
 
 /* SIGTERM and SIGINT are read from a file; a pipe that nobody reads and a file that is too long are errors of the
