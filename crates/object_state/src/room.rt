@@ -5,7 +5,7 @@ ghost use Rattle.indexmap.specs.IndexMap.{spare};
 use crate::content::Attributes;
 use std::alloc::AllocError;
 
-/// An object of at most so many attributes has room for just as many.
+/// An object of at most so many attributes has room for just as many, or for half of them if those are enough.
 const FEW: usize = 4;
 
 /// Makes room for so many more attributes. A map takes room for nine at once: where they are few, it gives the rest back.
@@ -20,6 +20,7 @@ pub(crate) fn make_room(map: &mut Attributes, more: usize) -> Result<(), AllocEr
     if more > FEW || map.len() > FEW - more {
         return Ok(());
     }
-    map.shrink_to(FEW);
+    let is_half = map.len() + more <= FEW / 2;
+    map.shrink_to(if is_half { FEW / 2 } else { FEW });
     Ok(())
 }

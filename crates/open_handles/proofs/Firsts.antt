@@ -1,5 +1,5 @@
 -- Room for several records is room for the first of them.
-use Rattle.std.specs.Prelude.{◌<◌, ◌≤◌, ℕ, List, [], ◌∷◌, Bool, true, false, length, filter, sum_by}
+use Rattle.std.specs.Prelude.{◌≡◌, ◌<◌, ◌≤◌, ℕ, List, [], ◌∷◌, Bool, true, false, length, filter, sum_by}
 use Rattle.std.proofs.Common.{cond, arith, le_trans}
 use Rattle.std.proofs.lemmas.List.Sums.{sum_by-cons}
 use Rattle.pps_types.specs.History.{Entry}
@@ -8,7 +8,7 @@ use Rattle.pps_types.specs.Rests.{Progress}
 use Rattle.server_queue.specs.Senders.{client_messages}
 use Rattle.topics.specs.Standing.{Spare, HaveRoom}
 use Rattle.topics.specs.declared.topic.Topic.{Topic}
-use Rattle.topics.specs.declared.topic.Topic.TheVariants.{Readers, Served}
+use Rattle.topics.specs.declared.topic.Topic.TheVariants.{Unused, Readers, Served}
 use Rattle.topics.specs.HandlesOf.{IsReady, handles_of}
 use Rattle.open_handles.specs.Whole.{Whole, HasRoom, is_told}
 
@@ -32,8 +32,9 @@ have_first e es (h ∷ hs) (s ∷ ss) room = (
 )
 
 ready_first : (e : Entry) (es : List Entry) (s : Topic) → IsReady (e ∷ es) s → IsReady (e ∷ []) s
-ready_first e es (Readers t) ready = let at : length (e ∷ es) ≤ t.room = ready in omega arith
-ready_first e es (Served s) ready = have_first e es s.handles s.spares ready
+ready_first e es (Unused u) ready = absurd (let bad : e ∷ es ≡ [] = ready in cc)
+ready_first e es (Readers t) ready = let at : length (e ∷ es) ≤ t.value.room = ready in omega arith
+ready_first e es (Served s) ready = have_first e es s.value.handles s.value.spares ready
 
 pub room_first : (e : Entry) (es : List Entry) (w : Whole) → HasRoom (e ∷ es) w → HasRoom (e ∷ []) w
 room_first e es w room f s at = by (is_told f e) (room f s at)

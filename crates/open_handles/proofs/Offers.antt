@@ -15,7 +15,7 @@ use Rattle.number_table.specs.Numbered.{Entry as Numbering, Numbered, value_unde
 use Rattle.sub_reader.specs.Opened.{handle_at, is_directory, number_of}
 use Rattle.sub_reader.specs.HandlesOf.{AreOn, IsOn}
 use Rattle.topics.specs.declared.topic.Topic.{Topic}
-use Rattle.topics.specs.declared.topic.Topic.TheVariants.{Readers, Served}
+use Rattle.topics.specs.declared.topic.Topic.TheVariants.{Unused, Readers, Served}
 use Rattle.topics.specs.HandlesOf.{target_of, handles_of, is_service, IsSameTarget, IsEnough, IsReady as IsReadyIn}
 use Rattle.open_handles.specs.declared.places.Places.{Places}
 use Rattle.open_handles.specs.Whole.{IsRight, Whole, IsWhole, AreRowed, row_handle, place_at, with_place, handles_on, handles_in, handles_at, handles_in_place, topic_at, site_of, Site, IsSharedAt, HasRoom, HasRoomIn, HasRoomAt, is_told}
@@ -91,14 +91,17 @@ if_none o P is = subst (λ o. IfSome o P) (sym is) tt
 -- ---- shares
 
 enough_service : (e : Entry) (count : ℕ) (s : Topic) → (is_service s ≡ true → length (filter (λ (h : OpenHandle Progress). visible h e) (handles_of s)) ≤ count) → IsEnough count e s
+enough_service e count (Unused u) is = tt
 enough_service e count (Readers t) is = tt
 enough_service e count (Served s) is = is refl
 
 service_enough : (e : Entry) (count : ℕ) (s : Topic) → IsEnough count e s → is_service s ≡ true → length (filter (λ (h : OpenHandle Progress). visible h e) (handles_of s)) ≤ count
+service_enough e count (Unused u) is same = let le : 0 ≤ count = omega arith in le
 service_enough e count (Readers t) is bad = absurd cc
 service_enough e count (Served s) is same = is
 
 enough_directory : (e : Entry) (count : ℕ) (s : Topic) (f : Found) → target_of s ≡ f → is_directory f ≡ true → IsEnough count e s
+enough_directory e count (Unused u) f on is = tt
 enough_directory e count (Readers t) f on is = tt
 enough_directory e count (Served s) f on is = absurd (let bad : false ≡ true = ap is_directory on ∙ is in cc)
 

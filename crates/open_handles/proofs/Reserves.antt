@@ -1,5 +1,5 @@
 -- Room for records, place by place.
-use Rattle.std.proofs.Common.{◌≡◌, ◌<◌, ◌≤◌, ℕ, zero, suc, ◌+◌, take, get_or, Bool, true, false, cond, eqb-true, List, [], ◌∷◌, length, Some, refl, sym, ◌∙◌, subst, arith, ◌⊎◌, inl, inr}
+use Rattle.std.proofs.Common.{◌≡◌, ◌<◌, ◌≤◌, ℕ, zero, suc, ◌+◌, take, get_or, Bool, true, false, cond, eqb-true, List, [], ◌∷◌, length, Some, refl, sym, ap, ◌∙◌, subst, arith, ◌⊎◌, inl, inr}
 use Rattle.std.specs.Prelude.{filter, IfSome}
 use Rattle.std.specs.List.{AllByRecursion}
 use Rattle.std.proofs.lemmas.List.Sums.{sum_by-cons}
@@ -13,7 +13,7 @@ use Rattle.number_table.specs.Numbered.{Numbered}
 use Rattle.server_queue.specs.Senders.{client_messages}
 use Rattle.topics.specs.Standing.{Spare, HaveRoom, messages_in}
 use Rattle.topics.specs.declared.topic.Topic.{Topic}
-use Rattle.topics.specs.declared.topic.Topic.TheVariants.{Readers, Served}
+use Rattle.topics.specs.declared.topic.Topic.TheVariants.{Unused, Readers, Served}
 use Rattle.topics.specs.HandlesOf.{handles_of, places_of as places_for, IsReady, IsSameTarget, KeepsRoom}
 use Rattle.open_handles.specs.declared.places.Places.{Places}
 use Rattle.open_handles.specs.Whole.{IsRight, Whole, IsWhole, place_at, with_place, topic_at, is_told, HasRoom, IsReadyIfUsed, IsReadyAt, IsReadyFor, IsReserved, KeepsTable}
@@ -58,8 +58,9 @@ have_fewer q es (h ∷ hs) (s ∷ ss) have = (
 )
 
 ready_fewer : (q : Entry → Bool) (es : List Entry) (s : Topic) → IsReady es s → IsReady (filter q es) s
-ready_fewer q es (Readers t) ready = let le = short q es in let most : length es ≤ t.room = ready in omega arith
-ready_fewer q es (Served s) ready = have_fewer q es s.handles s.spares ready
+ready_fewer q es (Unused u) none = ap (filter q) none
+ready_fewer q es (Readers t) ready = let le = short q es in let most : length es ≤ t.value.room = ready in omega arith
+ready_fewer q es (Served s) ready = have_fewer q es s.value.handles s.value.spares ready
 
 -- ---- one place
 

@@ -50,7 +50,8 @@ impl<P> Model for HandleRows<P> {
 impl<P> HandleRows<P> {
     /// No handles. It takes no memory.
     pub fn new(alloc: Global) -> HandleRows<P>
-        ensures { result.slots ≡ [] }
+        ensures slots { result.slots ≡ [] }
+        ensures places { result.places ≡ 0 }
     {
         HandleRows {
             slots: Vec::new(alloc),

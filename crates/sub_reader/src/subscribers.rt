@@ -84,6 +84,7 @@ impl Subscribers {
         ensures name { result.name ≡ name }
         ensures handles { result.handles ≡ [] }
         ensures kept { result.kept ≡ [] }
+        ensures places { result.places ≡ 0 }
     {
         Subscribers {
             of: Found::Object(object),
@@ -100,6 +101,7 @@ impl Subscribers {
         ensures name { result.name ≡ [] }
         ensures handles { result.handles ≡ [] }
         ensures kept { result.kept ≡ [] }
+        ensures places { result.places ≡ 0 }
     {
         Subscribers {
             of: Found::Directory(directory),

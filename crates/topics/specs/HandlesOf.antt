@@ -15,39 +15,53 @@ use Rattle.sub_reader.specs.Glances.{IsGlanceAt}
 use Rattle.sub_reader.specs.HandleAt.{with_opened}
 use Rattle.topics.specs.Standing.{IsReady as IsServiceReady}
 use Rattle.topics.specs.declared.topic.Topic.{Topic}
-use Rattle.topics.specs.declared.topic.Topic.TheVariants.{Readers, Served}
+use Rattle.topics.specs.declared.topic.Topic.TheVariants.{Unused, Readers, Served}
+use Rattle.topics.specs.Targets.{found_in, name_in, is_served}
 
 -- the object or directory that they are on
 abbrev pub target_of : Topic → Found
-target_of (Readers t) = t.of
-target_of (Served s) = FoundObject s.object
+target_of (Unused u) = found_in u.target
+target_of (Readers t) = t.value.of
+target_of (Served s) = FoundObject s.value.object
 
 abbrev pub name_of : Topic → List ℕ
-name_of (Readers t) = t.name
-name_of (Served s) = s.name
+name_of (Unused u) = name_in u.target
+name_of (Readers t) = t.value.name
+name_of (Served s) = s.value.name
 
 -- the handles, in rising number, with what each has seen
 abbrev pub handles_of : Topic → List (OpenHandle Progress)
-handles_of (Readers t) = t.handles
-handles_of (Served s) = s.handles
+handles_of (Unused u) = []
+handles_of (Readers t) = t.value.handles
+handles_of (Served s) = s.value.handles
 
 -- the records that are held for readers; those of a server object stand in queues
 abbrev pub kept_of : Topic → List Entry
-kept_of (Readers t) = t.kept
+kept_of (Unused u) = []
+kept_of (Readers t) = t.value.kept
 kept_of (Served s) = []
 
 -- for how many more handles there is memory
 abbrev pub places_of : Topic → ℕ
-places_of (Readers t) = t.places
-places_of (Served s) = s.places
+places_of (Unused u) = 0
+places_of (Readers t) = t.value.places
+places_of (Served s) = s.value.places
+
+-- there is a place for handles
+abbrev pub IsPlaced : Topic → Type 0
+IsPlaced (Unused u) = ⊥
+IsPlaced (Readers t) = Unit {0}
+IsPlaced (Served s) = Unit {0}
 
 -- there is room for these records, all of this target
 abbrev pub IsReady : List Entry → Topic → Type 0
-IsReady entries (Readers t) = length entries ≤ t.room
-IsReady entries (Served s) = IsServiceReady entries s
+IsReady entries (Unused u) = entries ≡ []
+IsReady entries (Readers t) = length entries ≤ t.value.room
+IsReady entries (Served s) = IsServiceReady entries s.value
 
 -- they are a server object's
 abbrev pub is_service : Topic → Bool
+is_service (Unused u) = is_served u.target
 is_service (Readers t) = false
 is_service (Served s) = true
 
@@ -72,8 +86,9 @@ KeepsRoom old new = (entries : List Entry) → IsReady entries old → IsReady e
 
 -- so many shares of a record are enough: one for each handle of a server object that is given it
 abbrev pub IsEnough : ℕ → Entry → Topic → Type 0
+IsEnough count e (Unused u) = Unit {0}
 IsEnough count e (Readers t) = Unit {0}
-IsEnough count e (Served s) = length (filter (λ (handle : OpenHandle Progress). visible handle e) s.handles) ≤ count
+IsEnough count e (Served s) = length (filter (λ (handle : OpenHandle Progress). visible handle e) s.value.handles) ≤ count
 
 -- where there was room for a record and others, there is room for the others
 abbrev pub UsesRoomFor : Entry → Topic → Topic → Type 0

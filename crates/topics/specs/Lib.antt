@@ -6,6 +6,7 @@ pub mod Offers
 pub mod Rooms
 pub mod Woken
 pub mod Spans
+pub mod Targets
 pub mod HandlesOf
 pub mod Backlogs
 pub mod Glances

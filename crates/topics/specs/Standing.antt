@@ -1,5 +1,5 @@
 -- What stands of a server object's handles.
-use Rattle.std.specs.Prelude.{◌≡◌, ℕ, Bool, false, ◌≤◌, List, [], ◌∷◌, filter, length}
+use Rattle.std.specs.Prelude.{◌≡◌, ℕ, Bool, ◌≤◌, List, [], ◌∷◌, filter, length}
 use Rattle.std.specs.List.{sum_by, AllByRecursion}
 use Rattle.pps_types.specs.History.{Entry}
 use Rattle.pps_types.specs.Reading.{OpenHandle, Queue, style, visible}

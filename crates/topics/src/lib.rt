@@ -13,8 +13,10 @@ mod sight;
 mod span;
 mod topic;
 mod topic_copies;
+mod unused;
 mod woken;
 
 pub use server_handles::ServerHandles;
 pub use shares::Shares;
 pub use topic::Topic;
+pub use unused::{Target, Unused};

@@ -82,6 +82,7 @@ impl ServerHandles {
         ensures object { result.object ≡ object }
         ensures name { result.name ≡ name }
         ensures handles { result.handles ≡ [] }
+        ensures places { result.places ≡ 0 }
     {
         ServerHandles {
             object,

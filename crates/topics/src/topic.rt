@@ -10,24 +10,35 @@ ghost use Rattle.sub_reader.specs.HandleAt.{parked_at, armed_at, has_news_at, ow
 ghost use Rattle.sub_reader.specs.HandleAt.{with_offered, with_caught_up, with_passed, with_parked, with_armed};
 ghost use Rattle.sub_reader.specs.HandlesOf.{AreOnFound, longest_rest_on, HaveName};
 ghost use Rattle.sub_reader.specs.Woken.{woken_by};
-ghost use Rattle.topics.specs.HandlesOf.{target_of, name_of, handles_of, kept_of, places_of, is_service, handles_with};
+ghost use Rattle.topics.specs.HandlesOf.{target_of, name_of, handles_of, kept_of, places_of, is_service, handles_with, IsPlaced};
 ghost use Rattle.topics.specs.HandlesOf.{IsReady, Suits, IsSameTarget, AreSame, KeepsRoom, UsesRoomFor, IsEnough};
 ghost use Rattle.topics.specs.HandlesOf.{HasOpening, HasGlance, AreQueuedJustIf};
 ghost use Rattle.topics.specs.Backlogs.{is_server_full_at, is_client_full_at, full_client_in};
 
 use crate::server_handles::ServerHandles;
 use crate::shares::Shares;
+use crate::unused::{Target, Unused};
 use pps_types::{Bytes, DirId, Found, Handle, ObjId, Refusal};
 use server_queue::{Entry, GivenBlocks};
 use std::alloc::{AllocError, Global};
 use sub_reader::{Glance, Opening, Pulse, Subscribers};
 
 /// The handles on an object or a directory. Where the object is a server's, they are its server's and its clients', each
-/// with a queue; and else readers, which share one list of records.
+/// with a queue; and else readers, which share one list of records. As long as there was none, there is no place for them.
 #[derive(Drop)]
 pub enum Topic {
-    Readers(Subscribers),
-    Served(ServerHandles),
+    Unused(Unused),
+    Readers(Box<Subscribers>),
+    Served(Box<ServerHandles>),
+}
+
+// Whether both are the same object or directory, of the same name.
+fn are_of_same(one: &Topic, other: &Topic) -> bool
+    ensures { IsTrue result ↔ IsSameTarget one.now other.now }
+{
+    one.target() == other.target()
+        && one.is_service() == other.is_service()
+        && one.name() == other.name()
 }
 
 impl Topic {
@@ -39,7 +50,10 @@ impl Topic {
         ensures handles { handles_of result ≡ [] }
         ensures kept { kept_of result ≡ [] }
     {
-        Topic::Readers(Subscribers::object(alloc, object, name))
+        Topic::Unused(Unused {
+            alloc,
+            target: Target::Object(object, name),
+        })
     }
 
     /// A server object without handles. It takes no memory.
@@ -50,7 +64,10 @@ impl Topic {
         ensures handles { handles_of result ≡ [] }
         ensures kept { kept_of result ≡ [] }
     {
-        Topic::Served(ServerHandles::new(alloc, object, name))
+        Topic::Unused(Unused {
+            alloc,
+            target: Target::Service(object, name),
+        })
     }
 
     /// A directory without handles. It takes no memory.
@@ -61,7 +78,10 @@ impl Topic {
         ensures handles { handles_of result ≡ [] }
         ensures kept { kept_of result ≡ [] }
     {
-        Topic::Readers(Subscribers::directory(alloc, directory))
+        Topic::Unused(Unused {
+            alloc,
+            target: Target::Directory(directory),
+        })
     }
 
     /// Does nothing. Its contract is the law that its handles are on it, are owed no more than their limits, and stand in
@@ -71,6 +91,7 @@ impl Topic {
         ensures { AreOnFound (target_of self.now) (handles_of self.now) }
     {
         match self {
+            Topic::Unused(_) => {}
             Topic::Readers(target) => target.handles_are_on_it(),
             Topic::Served(service) => service.handles_are_on_it(),
         }
@@ -83,6 +104,7 @@ impl Topic {
         ensures named { HaveName (name_of self.now) (handles_of self.now) }
     {
         match self {
+            Topic::Unused(_) => {}
             Topic::Readers(target) => target.handles_are_readers(),
             Topic::Served(service) => service.handles_are_queued(),
         }
@@ -95,6 +117,7 @@ impl Topic {
         ensures { kept_of self.now ≡ longest_rest_on (target_of self.now) (handles_of self.now) }
     {
         match self {
+            Topic::Unused(_) => {}
             Topic::Readers(target) => target.is_exact(),
             Topic::Served(service) => service.shares_no_list(),
         }
@@ -106,6 +129,7 @@ impl Topic {
         ensures { result ≡ length (kept_of self.now) }
     {
         match self {
+            Topic::Unused(_) => 0,
             Topic::Readers(target) => target.kept() as usize,
             Topic::Served(_) => 0,
         }
@@ -116,7 +140,11 @@ impl Topic {
     pub fn is_service(&self) -> bool
         ensures { result ≡ is_service self.now }
     {
-        matches!(self, Topic::Served(_))
+        match self {
+            Topic::Unused(unused) => unused.target.is_service(),
+            Topic::Readers(_) => false,
+            Topic::Served(_) => true,
+        }
     }
 
     /// Whether it has no handle.
@@ -125,9 +153,35 @@ impl Topic {
         ensures { IsTrue result ↔ (handles_of self.now ≡ []) }
     {
         match self {
+            Topic::Unused(_) => true,
             Topic::Readers(target) => target.is_empty(),
             Topic::Served(service) => service.is_empty(),
         }
+    }
+
+    // Whether there is a place for handles.
+    #[inline(always)]
+    fn is_placed(&self) -> bool
+        ensures { IsTrue result ↔ IsPlaced self.now }
+    {
+        !matches!(self, Topic::Unused(_))
+    }
+
+    // Makes a place for handles, if there is none. AllocError comes only where there was none.
+    #[inline(always)]
+    fn place(&mut self) -> Result<(), AllocError>
+        ensures placed { OnOk result (IsPlaced self.new) }
+        ensures same { IsSameTarget self.old self.new }
+        ensures handles { handles_of self.new ≡ handles_of self.old }
+        ensures kept { kept_of self.new ≡ kept_of self.old }
+        ensures room { KeepsRoom self.old self.new }
+        ensures places { places_of self.new ≡ places_of self.old }
+        ensures lacking { OnErr result (IsPlaced self.old → ⊥) }
+    {
+        if let Topic::Unused(unused) = self {
+            *self = unused.placed()?;
+        }
+        Ok(())
     }
 
     /// Makes room for one more handle. AllocError comes only where there was none. What stands stays.
@@ -141,7 +195,9 @@ impl Topic {
         ensures more { places_of self.old ≤ places_of self.new }
         ensures lacking { OnErr result (places_of self.old ≡ 0) }
     {
+        self.place()?;
         match self {
+            Topic::Unused(_) => Ok(()),
             Topic::Readers(target) => target.reserve_handle(),
             Topic::Served(service) => service.reserve_handle(),
         }
@@ -160,6 +216,7 @@ impl Topic {
         ensures places { places_of self.new + 1 ≡ places_of self.old }
     {
         match self {
+            Topic::Unused(_) => {}
             Topic::Readers(target) => target.open_reserved(opening),
             Topic::Served(service) => service.open_reserved(opening),
         }
@@ -178,7 +235,12 @@ impl Topic {
         ensures room { KeepsRoom self.old self.new }
         ensures succeeds { IsReady entries.now self.old → IsOk result }
     {
+        if entries.is_empty() && !self.is_placed() {
+            return Ok(());
+        }
+        self.place()?;
         match self {
+            Topic::Unused(_) => Ok(()),
             Topic::Readers(target) => target.reserve(entries.len()),
             Topic::Served(service) => service.reserve(entries),
         }
@@ -193,6 +255,7 @@ impl Topic {
         ensures enough { IfOk result (λ shares. IsEnough shares.count shares.entry self.now) }
     {
         match self {
+            Topic::Unused(_) => Ok(Shares::alone(entry)),
             Topic::Readers(_) => Ok(Shares::alone(entry)),
             Topic::Served(service) => service.shares(alloc, entry),
         }
@@ -210,6 +273,7 @@ impl Topic {
         ensures places { places_of self.new ≡ places_of self.old }
     {
         match self {
+            Topic::Unused(_) => {}
             Topic::Readers(target) => target.offer(shares.into_entry()),
             Topic::Served(service) => service.offer(shares),
         }
@@ -223,6 +287,7 @@ impl Topic {
         ensures places { places_of self.new ≡ places_of self.old }
     {
         match self {
+            Topic::Unused(_) => {}
             Topic::Readers(target) => target.catch_up(number),
             Topic::Served(service) => service.catch_up(number),
         }
@@ -236,6 +301,7 @@ impl Topic {
         ensures places { places_of self.new ≡ places_of self.old }
     {
         match self {
+            Topic::Unused(_) => {}
             Topic::Readers(target) => target.pass(number, count),
             Topic::Served(service) => service.pass(number, count),
         }
@@ -249,6 +315,7 @@ impl Topic {
         ensures places { places_of self.new ≡ places_of self.old }
     {
         match self {
+            Topic::Unused(_) => {}
             Topic::Readers(target) => target.park(number, size),
             Topic::Served(service) => service.park(number, size),
         }
@@ -262,6 +329,7 @@ impl Topic {
         ensures places { places_of self.new ≡ places_of self.old }
     {
         match self {
+            Topic::Unused(_) => {}
             Topic::Readers(target) => target.arm(number, pulse),
             Topic::Served(service) => service.arm(number, pulse),
         }
@@ -276,6 +344,7 @@ impl Topic {
         ensures places { places_of self.old ≤ places_of self.new }
     {
         match self {
+            Topic::Unused(_) => {}
             Topic::Readers(target) => target.close(number),
             Topic::Served(service) => service.close(number),
         }
@@ -287,6 +356,7 @@ impl Topic {
         ensures { HasOpening self.now number result }
     {
         match self {
+            Topic::Unused(_) => None,
             Topic::Readers(target) => target.opening(number),
             Topic::Served(service) => service.opening(number),
         }
@@ -298,6 +368,7 @@ impl Topic {
         ensures { HasGlance self.now number result }
     {
         match self {
+            Topic::Unused(_) => None,
             Topic::Readers(target) => target.glance(number),
             Topic::Served(service) => service.glance(number),
         }
@@ -309,6 +380,7 @@ impl Topic {
         ensures { result ≡ parked_at number (handles_of self.now) }
     {
         match self {
+            Topic::Unused(_) => None,
             Topic::Readers(target) => target.parked(number),
             Topic::Served(service) => service.parked(number),
         }
@@ -320,6 +392,7 @@ impl Topic {
         ensures { armed_pulse result ≡ armed_at number (handles_of self.now) }
     {
         match self {
+            Topic::Unused(_) => None,
             Topic::Readers(target) => target.armed(number),
             Topic::Served(service) => service.armed(number),
         }
@@ -331,6 +404,7 @@ impl Topic {
         ensures { result ≡ has_news_at number (handles_of self.now) }
     {
         match self {
+            Topic::Unused(_) => false,
             Topic::Readers(target) => target.has_news(number),
             Topic::Served(service) => service.has_news(number),
         }
@@ -342,6 +416,7 @@ impl Topic {
         ensures { result.now ≡ name_of self.now }
     {
         match self {
+            Topic::Unused(unused) => unused.target.name(),
             Topic::Readers(target) => target.name(),
             Topic::Served(service) => service.name(),
         }
@@ -354,6 +429,7 @@ impl Topic {
         ensures { result ≡ owed_at number (handles_of self.now) }
     {
         match self {
+            Topic::Unused(_) => None,
             Topic::Readers(target) => match target.owed(number) {
                 None => None,
                 Some(count) => Some(count as usize),
@@ -371,6 +447,7 @@ impl Topic {
         ensures { IfOk result (λ woken. woken.items ≡ woken_by entries.now (handles_of self.now)) }
     {
         match self {
+            Topic::Unused(_) => Ok(Vec::new(alloc)),
             Topic::Readers(target) => target.woken_by(alloc, entries),
             Topic::Served(service) => service.woken_by(alloc, entries),
         }
@@ -389,6 +466,7 @@ impl Topic {
         ensures some { NeedsMemoryForBlocks (owed_blocks_at number (handles_of self.now)) result }
     {
         match self {
+            Topic::Unused(_) => Ok(GivenBlocks::nothing(alloc)),
             Topic::Readers(target) => target.read_owed(alloc, number, max),
             Topic::Served(service) => service.read_owed(alloc, number, max),
         }
@@ -402,6 +480,7 @@ impl Topic {
             → result ≡ is_server_full_at server client (handles_of self.now) }
     {
         match self {
+            Topic::Unused(_) => false,
             Topic::Readers(_) => false,
             Topic::Served(service) => service.is_server_full(server, client),
         }
@@ -415,6 +494,7 @@ impl Topic {
             → result ≡ is_client_full_at client (handles_of self.now) }
     {
         match self {
+            Topic::Unused(_) => false,
             Topic::Readers(_) => false,
             Topic::Served(service) => service.is_client_full(client),
         }
@@ -427,6 +507,7 @@ impl Topic {
         ensures { is_service self.now ≡ true → result ≡ full_client_in (handles_of self.now) }
     {
         match self {
+            Topic::Unused(_) => None,
             Topic::Readers(_) => None,
             Topic::Served(service) => service.full_client(),
         }
@@ -442,8 +523,15 @@ impl Topic {
         ensures err { IfErr result (λ r. r ≡ OutOfMemory) }
     {
         match self {
-            Topic::Readers(target) => Ok(Topic::Readers(target.copy()?)),
-            Topic::Served(service) => Ok(Topic::Served(service.copy()?)),
+            Topic::Unused(unused) => Ok(Topic::Unused(unused.copy()?)),
+            Topic::Readers(target) => {
+                let alloc = *Box::allocator(target);
+                Ok(Topic::Readers(Box::new(alloc, target.copy()?)?))
+            }
+            Topic::Served(service) => {
+                let alloc = *Box::allocator(service);
+                Ok(Topic::Served(Box::new(alloc, service.copy()?)?))
+            }
         }
     }
 
@@ -451,17 +539,22 @@ impl Topic {
     pub fn same(&self, other: &Topic) -> bool
         ensures { IsTrue result ↔ AreSame self.now other.now }
     {
+        if self.is_empty() || other.is_empty() {
+            return self.is_empty() && other.is_empty() && are_of_same(self, other);
+        }
         match self {
+            Topic::Unused(_) => false,
             Topic::Readers(target) => match other {
                 Topic::Readers(readers) => target.same(readers),
-                Topic::Served(_) => false,
+                Topic::Unused(_) | Topic::Served(_) => false,
             },
             Topic::Served(service) => match other {
-                Topic::Readers(_) => false,
                 Topic::Served(served) => service.same(served),
+                Topic::Unused(_) | Topic::Readers(_) => false,
             },
         }
     }
+
     /// Whether both have the same handles, which are owed the same. It takes no memory.
     pub fn same_handles(&self, other: &Topic) -> bool
         ensures { IsTrue result ↔ (handles_of self.now ≡ handles_of other.now) }
@@ -482,6 +575,7 @@ impl Topic {
         ensures { result ≡ target_of self.now }
     {
         match self {
+            Topic::Unused(unused) => unused.target.found(),
             Topic::Readers(target) => target.of(),
             Topic::Served(service) => Found::Object(service.object()),
         }
