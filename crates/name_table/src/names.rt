@@ -36,11 +36,21 @@ pub type NamedDirectories<'a> = Iter<'a, NamedDirectory>;
 /// Objects and directories stand under numbers that rise and never come again. A path is its names from the root on,
 /// and the root has none. A call that adds something has a call beside it that takes the memory ahead and changes
 /// nothing else, and then takes none and cannot fail.
-#[derive(Drop)]
 pub struct Names {
     tree: Tree<Global>,
     objects: Table<NamedObject>,
     directories: Table<NamedDirectory>,
+}
+
+// Written out, since each crate that drops one would prove a derived drop anew, with those of all its parts.
+impl Drop for Names {
+    fn drop(self) {
+        let Names {
+            tree: _,
+            objects: _,
+            directories: _,
+        } = self;
+    }
 }
 
 impl Model for Names {

@@ -53,12 +53,22 @@ fn keep(pending: &mut Option<Ready>, ready: Ready)
 }
 
 /// What an event will answer. What it will change is held by the engine that has planned it.
-#[derive(Drop)]
 pub struct Plan {
     reply: Outcome,
     // What it was planned in, and what will be done to it, for clauses alone.
     tables: Snapshot<Tables>,
     pending: Snapshot<Pending>,
+}
+
+// Written out, since each crate that drops one would prove a derived drop anew, with those of all its parts.
+impl Drop for Plan {
+    fn drop(self) {
+        let Plan {
+            reply: _,
+            tables: _,
+            pending: _,
+        } = self;
+    }
 }
 
 impl Model for Plan {
@@ -71,6 +81,19 @@ impl Model for Plan {
 }
 
 impl Plan {
+    // The answer, taken out.
+    #[inline(always)]
+    fn into_reply(self) -> Outcome
+        ensures { result ≡ self.reply }
+    {
+        let Plan {
+            reply,
+            tables: _,
+            pending: _,
+        } = self;
+        reply
+    }
+
     /// What the event will answer: what `commit` gives.
     pub fn reply(&self) -> &Outcome
         ensures { result.now ≡ self.now.reply }
@@ -100,12 +123,22 @@ fn planned_in(tables: &Tables, reply: Outcome, pending: Pending) -> (Plan, Ready
 /// The service. It stands for the machine that keeps every accepted change for good.
 ///
 /// What stands is held in tables that are changed in place: a message costs what it touches.
-#[derive(Drop)]
 pub struct Engine {
     pub(crate) alloc: Global,
     pub(crate) tables: Box<Tables>,
     /// The latest plan, where it is ready.
     pub(crate) pending: Box<Option<Ready>>,
+}
+
+// Written out, since each crate that drops one would prove a derived drop anew, with those of all its parts.
+impl Drop for Engine {
+    fn drop(self) {
+        let Engine {
+            alloc: _,
+            tables: _,
+            pending: _,
+        } = self;
+    }
 }
 
 impl Model for Engine {
@@ -202,7 +235,7 @@ impl Engine {
             Some(ready) => carry_out(&mut self.tables, ready.pending),
         }
         are_cut(&self.tables);
-        plan.reply
+        plan.into_reply()
     }
 
     /// One event: its answer is the machine's, or OutOfMemory where it may be. After a refusal all is as it was. A plan

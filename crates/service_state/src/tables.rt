@@ -12,7 +12,6 @@ use std::alloc::{AllocError, Global};
 use std::marker::Model;
 
 /// All that stands of a service.
-#[derive(Drop)]
 pub struct Tables {
     pub(crate) default_limit: u32,
     pub(crate) records: u64,
@@ -33,6 +32,19 @@ impl Model for Tables {
     ghost view = { λ t. record { default_limit = t.default_limit; records = t.records; names = t.names; handles = t.handles; connections = t.connections } };
 
     ghost invariant = { λ t. AreTied (record { default_limit = t.default_limit; records = t.records; names = t.names; handles = t.handles; connections = t.connections }) };
+}
+
+// Written out, since each crate that drops one would prove a derived drop anew, with those of all its parts.
+impl Drop for Tables {
+    fn drop(self) {
+        let Tables {
+            default_limit: _,
+            records: _,
+            names: _,
+            handles: _,
+            connections: _,
+        } = self;
+    }
 }
 
 impl Tables {
