@@ -12,7 +12,7 @@ returns-in-Readers-clause-room c = λ entries ready.
 pub returns-in-Readers-clause-succeeds : goal.returns-in-Readers-clause-succeeds
 returns-in-Readers-clause-succeeds c = λ ready.
     let placed : length c.args.entries.now ≤ c.in-Readers.target.value.room =
-        subst (IsReady c.args.entries.now) c.in-Readers.is (c.place.ensures.room c.args.entries.now ready) in
+    subst (IsReady c.args.entries.now) c.in-Readers.is (c.place.ensures.room c.args.entries.now ready) in
     succeeds c.reserve.result c.reserve.ensures.lacking (subst (λ t. length c.args.entries.now ≤ t.room) (sym c.deref_mut.ensures.value) placed)
 
 pub returns-in-Served-clause-room : goal.returns-in-Served-clause-room
@@ -23,5 +23,5 @@ returns-in-Served-clause-room c = λ entries ready.
 pub returns-in-Served-clause-succeeds : goal.returns-in-Served-clause-succeeds
 returns-in-Served-clause-succeeds c = λ ready.
     let placed : IsServiceReady c.args.entries.now c.in-Served.service.value =
-        subst (IsReady c.args.entries.now) c.in-Served.is (c.place.ensures.room c.args.entries.now ready) in
+    subst (IsReady c.args.entries.now) c.in-Served.is (c.place.ensures.room c.args.entries.now ready) in
     c.reserve-in-Served.ensures.succeeds (subst (IsServiceReady c.args.entries.now) (sym c.deref_mut-in-Served.ensures.value) placed)
