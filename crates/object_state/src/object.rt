@@ -48,7 +48,6 @@ fn lend<'a>(name: &'a Name, content: &'a AttributeContent) -> AttributeRef<'a>
 /// The attributes of one object, in the order in which they were created.
 ///
 /// There are at most 1,024 of them, and their printed lines have at most 65,536 bytes together. Both limits are our own.
-#[derive(Drop)]
 pub struct Object {
     map: Attributes,
     text_len: usize,
@@ -56,6 +55,18 @@ pub struct Object {
     has_marks: bool,
     // Of the lines that were made ready, if some of their texts are too long to be copied without memory.
     copies: Option<Vec<LineCopy>>,
+}
+
+// Written out, since each crate that drops one would prove a derived drop anew, with those of all its parts.
+impl Drop for Object {
+    fn drop(self) {
+        let Object {
+            map: _,
+            text_len: _,
+            has_marks: _,
+            copies: _,
+        } = self;
+    }
 }
 
 impl Model for Object {

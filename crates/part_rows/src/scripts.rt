@@ -29,11 +29,11 @@ pub(crate) fn answer(words: &mut Words<'_>, page: &mut Page) -> Result<(), Slip>
 // What a line says.
 fn answer_line(words: &mut Words<'_>, page: &mut Page) -> Result<(), Slip> {
     let line = words.text()?;
-    match read_line(words.alloc(), line.as_slice())? {
+    match &read_line(words.alloc(), line.as_slice())? {
         Some(ScriptLine::Command(Event { conn, request })) => {
             page.word(b"connection")?;
             page.number(u64::from(conn.number()))?;
-            put_request(&request, page)?;
+            put_request(request, page)?;
         }
         Some(ScriptLine::Nothing) => page.word(b"nothing")?,
         None => page.word(b"bad")?,

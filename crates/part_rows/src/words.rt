@@ -9,7 +9,7 @@ use std::alloc::Global;
 fn unescaped(alloc: Global, characters: &[u8]) -> Result<Bytes, Slip> {
     let mut line = Vec::from_slice(alloc, b"0 write 0 ")?;
     line.extend_from_slice(characters)?;
-    match read_line(alloc, line.as_slice())? {
+    match &read_line(alloc, line.as_slice())? {
         Some(
             ScriptLine::Command(
                 Event {
@@ -17,7 +17,7 @@ fn unescaped(alloc: Global, characters: &[u8]) -> Result<Bytes, Slip> {
                     ..
                 },
             ),
-        ) => Ok(bytes),
+        ) => Ok(bytes.copy()?),
         _ => Err(Slip::BadText),
     }
 }

@@ -110,9 +110,17 @@ fn are_same(parts: &[Part], others: &[Part]) -> bool
 }
 
 /// Which lines a subscriber is given. It matches a line where one of its parts does.
-#[derive(Debug, Drop)]
+#[derive(Debug)]
 pub struct Filter {
     parts: Vec<Part>,
+}
+
+// Written out, since each crate that drops one would prove a derived drop anew, with those of all its parts.
+impl Drop for Filter {
+    #[inline(always)]
+    fn drop(self) {
+        let Filter { parts: _ } = self;
+    }
 }
 
 impl Model for Filter {

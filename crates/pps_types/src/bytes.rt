@@ -117,9 +117,21 @@ enum Content {
 }
 
 /// Bytes that one value owns: a name, a path, a text. Up to 23 bytes stand in place, and take no memory.
-#[derive(Debug, Drop)]
+#[derive(Debug)]
 pub struct Bytes {
     content: Content,
+}
+
+// Written out, since each crate that drops one would prove a derived drop anew, with those of all its parts.
+impl Drop for Bytes {
+    #[inline(always)]
+    fn drop(self) {
+        let Bytes { content } = self;
+        match content {
+            Content::Short(_) => {}
+            Content::Long(bytes) => drop(bytes),
+        }
+    }
 }
 
 impl Model for Bytes {

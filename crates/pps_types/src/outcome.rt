@@ -21,7 +21,7 @@ pub enum Item {
 }
 
 /// What an event answers where it is not refused.
-#[derive(Debug, PartialEq, Eq, Drop)]
+#[derive(Debug, PartialEq, Eq)]
 pub enum Outcome {
     Done,
     Opened(Handle),
@@ -31,6 +31,19 @@ pub enum Outcome {
     Input(bool),
     Item(Item),
     Empty,
+}
+
+// Written out, since each crate that drops one would prove a derived drop anew, with those of all its parts.
+impl Drop for Outcome {
+    #[inline(always)]
+    fn drop(self) {
+        match self {
+            Outcome::Done | Outcome::Parked | Outcome::Empty => {}
+            Outcome::Opened(_) | Outcome::Wrote(_) | Outcome::Input(_) => {}
+            Outcome::Data(_) => {}
+            Outcome::Item(_) => {}
+        }
+    }
 }
 
 impl Item {

@@ -17,9 +17,17 @@ enum Held {
 }
 
 /// Bytes that several values share. No bytes take no memory.
-#[derive(Debug, Drop)]
+#[derive(Debug)]
 pub struct SharedBytes {
     held: Held,
+}
+
+// Written out, since each crate that drops one would prove a derived drop anew, with those of all its parts.
+impl Drop for SharedBytes {
+    #[inline(always)]
+    fn drop(self) {
+        let SharedBytes { held: _ } = self;
+    }
 }
 
 impl Model for SharedBytes {

@@ -195,7 +195,7 @@ fn crowd(alloc: Global, engine: &mut Engine) -> Result<(), Refusal> {
 
 /// How many lines the answer to a command has, if it is bytes.
 fn count_lines(alloc: Global, engine: &mut Engine, line: &[u8]) -> Result<Option<usize>, Refusal> {
-    match answer_once(engine, &event(alloc, line)?)? {
+    match &answer_once(engine, &event(alloc, line)?)? {
         Outcome::Data(text) => Ok(Some(
             text.as_slice()
                 .iter()

@@ -38,13 +38,25 @@ use std::marker::Model;
 ///
 /// A record that nobody is owed is dropped at once, and each other one stands once for all handles. A handle knows where
 /// in this list the first record stands that it is owed. Handles of servers and their clients are not for here.
-#[derive(Drop)]
 pub struct Subscribers {
     of: Found,
     name: Bytes,
     records: Chain<Entry>,
     counts: VecDeque<usize>,
     rows: HandleRows<Place>,
+}
+
+// Written out, since each crate that drops one would prove a derived drop anew, with those of all its parts.
+impl Drop for Subscribers {
+    fn drop(self) {
+        let Subscribers {
+            of: _,
+            name: _,
+            records: _,
+            counts: _,
+            rows: _,
+        } = self;
+    }
 }
 
 impl Model for Subscribers {

@@ -25,11 +25,21 @@ use sub_reader::{Glance, Opening, Pulse, Subscribers};
 
 /// The handles on an object or a directory. Where the object is a server's, they are its server's and its clients', each
 /// with a queue; and else readers, which share one list of records. As long as there was none, there is no place for them.
-#[derive(Drop)]
 pub enum Topic {
     Unused(Unused),
     Readers(Box<Subscribers>),
     Served(Box<ServerHandles>),
+}
+
+// Written out, since each crate that drops one would prove a derived drop anew, with those of all its parts.
+impl Drop for Topic {
+    fn drop(self) {
+        match self {
+            Topic::Unused(_) => {}
+            Topic::Readers(_) => {}
+            Topic::Served(_) => {}
+        }
+    }
 }
 
 // Whether both are the same object or directory, of the same name.

@@ -23,9 +23,9 @@ pub returns-in_err-answer-clause-served : goal.returns-in_err-answer-clause-serv
 returns-in_err-answer-clause-served g c =
     let p = err_from_is_err_and c.from_residual-in_err-answer.result c.from_residual-in_err-answer.ensures.1 in
     let before = g.W.Write.contents (device_inner (output_of c.args.exchange.now)) in
-    let after = g.W.Write.contents (device_inner (output_of c.answer-2.new.self)) in
+    let after = g.W.Write.contents (device_inner (output_of c.answer.new.self)) in
     let held = held_in c.args.exchange.now in
-    let left = held_in c.answer-2.new.self in
+    let left = held_in c.answer.new.self in
     let fault = c.in_err-answer.field-0.0 in
     rw (p.1, p.2)
     (serves-part (of_answer fault) before after held left c.args.engine.now.content c.step-answer.new.self.content c.args.event.now c.step-answer.result c.step-answer.ensures.seen
@@ -35,8 +35,8 @@ returns-in_err-answer-clause-served g c =
 pub returns-clause-served : goal.returns-clause-served
 returns-clause-served g c =
     let before = g.W.Write.contents (device_inner (output_of c.args.exchange.now)) in
-    let after = g.W.Write.contents (device_inner (output_of c.answer-2.new.self)) in
+    let after = g.W.Write.contents (device_inner (output_of c.answer.new.self)) in
     let held = held_in c.args.exchange.now in
-    let left = held_in c.answer-2.new.self in
+    let left = held_in c.answer.new.self in
     serves-one before after held left c.args.engine.now.content c.step-answer.new.self.content c.args.event.now c.step-answer.result c.step-answer.ensures.seen
     (subst (λ (bytes : List ℕ). Holds before after left (held ++ bytes)) (c.as_slice.ensures.value ∙ c.in_ok-put_outcome.ensures) c.in_ok-answer.ensures.bytes)
