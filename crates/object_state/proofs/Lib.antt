@@ -8,3 +8,4 @@ pub mod Having
 pub mod ByOrder
 pub mod Unmarked
 pub mod MarkedLines
+pub mod Kept

@@ -1,13 +1,11 @@
 -- What the mark before a line of a write makes of the line, and of what is foretold.
 use Rattle.std.proofs.Common.{◌≡◌, ◌∙◌, ℕ, List, Bool, true, false, not, refl, sym, ap}
 use mathlib.Core.Bool.{beq}
-use Rattle.indexmap.specs.IndexMap.{IndexMap}
-use Rattle.pps_types.specs.declared.line.Line.{Line}
+use Rattle.object_state.specs.Kept.{Kept}
 use Rattle.pps_types.specs.declared.line.Line.TheVariants.{Set, Del}
 use Rattle.pps_types.specs.declared.line.WriteLine.{WriteLine}
 use Rattle.pps_types.specs.declared.line.WriteLine.TheVariants.{Set as WriteSet, Del as WriteDel}
-use Rattle.pps_types.specs.AttributeContent.{Content}
-use Rattle.pps_types.specs.History.{Attribute, marked_by, message_line, resolved, resolved_by}
+use Rattle.pps_types.specs.History.{Attribute, marked_by, message_line, resolved_by}
 use Rattle.object_state.specs.Effect.{noted_in}
 use Rattle.object_state.specs.Entries.{attributes_in}
 use Rattle.object_state.specs.MarkBefore.{IsMarkBefore, Resolves, StaysForetold, changes_mark}
@@ -20,7 +18,7 @@ unchanged false false e = refl
 unchanged true false e = absurd (let bad = e in cc)
 unchanged false true e = absurd (let bad = e in cc)
 
-module _ {S : Type 0} (notes : List (List ℕ × Bool)) (m : IndexMap (List ℕ) Content S) where
+module _ (notes : List (List ℕ × Bool)) (m : Kept) where
   pub mark-of-set : (is_last : Bool) (line : WriteLine) (name enc value : List ℕ) (on n : Bool) → Set name enc value on ≡ message_line line
       → n ≡ is_marked_then notes m name → IsMarkBefore notes m is_last line n
   mark-of-set is_last (WriteSet name' enc' value' mark) name enc value on n is marked =

@@ -1,7 +1,7 @@
 -- The entries of the map that keeps an object's attributes, as attributes.
 use Rattle.std.specs.Prelude.{ℕ, ◌+◌, List, Option, None, Some, not, if◌then◌else◌, filter, map, length, slice_get}
 use Rattle.std.specs.Option.{option_map_or}
-use Rattle.indexmap.specs.IndexMap.{IndexMap}
+use Rattle.object_state.specs.Kept.{Kept}
 use Rattle.pps_types.specs.Bytes.{same}
 use Rattle.pps_types.specs.History.{Attribute, put}
 use Rattle.pps_types.specs.AttributeContent.{Content}
@@ -13,7 +13,7 @@ abbrev pub attributes_of : List (List ℕ × Content) → List Attribute
 attributes_of entries = map attribute_of entries
 
 -- those of a map
-abbrev pub attributes_in : {S : Type 0} → IndexMap (List ℕ) Content S → List Attribute
+abbrev pub attributes_in : Kept → List Attribute
 attributes_in m = attributes_of m.entries
 
 -- with one of this name and content, in the place of the one of that name or else last

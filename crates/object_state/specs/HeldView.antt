@@ -1,6 +1,5 @@
 -- An object, as it is seen.
 use Rattle.std.specs.Prelude.{option_map}
-use Rattle.indexmap.specs.IndexMap.{spare}
 use Rattle.object_state.specs.declared.object.Object.TheInside.{Inside}
 use Rattle.object_state.specs.Entries.{attributes_of}
 use Rattle.object_state.specs.Limits.{IsHeld}
@@ -9,8 +8,8 @@ use Rattle.object_state.specs.Held.{Held}
 abbrev pub held : Inside → Held
 held o = record {
   attributes = attributes_of o.map.entries;
-  room = spare o.map;
-  copies = option_map (λ lines. lines.items) o.copies;
+  room = o.map.room;
+  copies = option_map (λ lines. lines.value.items) o.copies;
 }
 
 abbrev pub IsHeldInside : Inside → Type 0

@@ -1,5 +1,6 @@
 pub mod Held
 pub mod Places
+pub mod Kept
 pub mod Entries
 pub mod Effect
 pub mod Digest

@@ -1,5 +1,5 @@
 -- Lines whose texts are short, so that copies of their parts take no memory.
-use Rattle.std.specs.Prelude.{◌≡◌, Bool, ◌&&◌, ◌++◌, codes, List, Vec, Option, None, Some, if◌then◌else◌, option_map}
+use Rattle.std.specs.Prelude.{◌≡◌, Bool, ◌&&◌, ◌++◌, codes, Box, List, Vec, Option, None, Some, if◌then◌else◌, option_map}
 use Rattle.std.specs.List.{list_all}
 use Rattle.pps_types.specs.HeldBytes.{is_short}
 use Rattle.pps_types.specs.declared.line.Line.{Line}
@@ -18,5 +18,5 @@ abbrev pub copies_for : List Line → Option (List Line)
 copies_for lines = if are_short lines then None else Some lines
 
 -- these are the copies that are held of the lines
-abbrev pub AreCopiesFor : {A : Type 0} → List Line → Option (Vec Line A) → Type 0
-AreCopiesFor lines copies = option_map (λ v. v.items) copies ≡ copies_for lines
+abbrev pub AreCopiesFor : {A B : Type 0} → List Line → Option (Box (Vec Line A) B) → Type 0
+AreCopiesFor lines copies = option_map (λ v. v.value.items) copies ≡ copies_for lines

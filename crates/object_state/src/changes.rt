@@ -1,7 +1,6 @@
 //! Changes of attributes. They take no memory, and tell how long the printed lines are then.
 ghost use Rattle.std.specs.Prelude.{◌≡◌, ◌+◌, ◌≤◌, ◌<◌, ◌^◌, true, IfSome, length};
 ghost use Rattle.std.specs.List.{swap};
-ghost use Rattle.indexmap.specs.IndexMap.{spare};
 ghost use Rattle.pps_types.specs.History as history;
 ghost use Rattle.pps_types.specs.Text as text;
 ghost use Rattle.object_state.specs.Effect.{printed_length};
@@ -9,7 +8,8 @@ ghost use Rattle.object_state.specs.Entries.{attribute_of, attributes_in, persis
 ghost use Rattle.object_state.specs.Limits.{after_lines};
 ghost use Rattle.object_state.specs.Short.{is_short_line, are_short, AreCopiesFor};
 
-use crate::content::{Attributes, line_len};
+use crate::attributes::Attributes;
+use crate::content::line_len;
 use crate::lines::{LineCopy, Parts};
 use pps_filter::Name;
 use pps_types::{AttributeContent, Bytes, HeldLine, LineRef};
@@ -17,16 +17,16 @@ use pps_types::{AttributeContent, Bytes, HeldLine, LineRef};
 /// Puts an attribute in the place of the one of that name, or last, for which there is room.
 #[inline(always)]
 fn set(map: &mut Attributes, text_len: usize, name: Name, content: AttributeContent) -> usize
-    requires room { 0 < spare map.old }
+    requires room { 0 < map.old.room }
     requires kept { text_len ≡ history.text_length (attributes_in map.old) }
     requires fits { text_len + printed_length (attribute_of (name, content)) < 2 ^ 64 }
     ensures attributes { attributes_in map.new ≡ with_named name content (attributes_in map.old) }
     ensures kept { result ≡ history.text_length (attributes_in map.new) }
-    ensures room { spare map.old ≤ spare map.new + 1 }
+    ensures room { map.old.room ≤ map.new.room + 1 }
 {
     let name_len = name.len();
     let len = line_len(&content, name_len);
-    match map.insert(name, content).unwrap() {
+    match map.insert(name, content) {
         None => text_len + len,
         Some(replaced) => text_len + len - line_len(&replaced, name_len),
     }
@@ -38,23 +38,23 @@ fn delete(map: &mut Attributes, text_len: usize, name: &Name) -> usize
     requires fits { text_len < 2 ^ 64 }
     ensures attributes { attributes_in map.new ≡ without_named name.now (attributes_in map.old) }
     ensures kept { result ≡ history.text_length (attributes_in map.new) }
-    ensures room { spare map.old ≤ spare map.new }
+    ensures room { map.old.room ≤ map.new.room }
 {
     // `len` says that no name stands twice.
     let _len = map.len();
-    match map.shift_remove(name) {
+    match map.remove(name) {
         None => text_len,
         Some(deleted) => text_len - line_len(&deleted, name.len()),
     }
 }
 
 fn apply_line(map: &mut Attributes, text_len: usize, line: LineCopy) -> usize
-    requires room { 0 < spare map.old }
+    requires room { 0 < map.old.room }
     requires kept { text_len ≡ history.text_length (attributes_in map.old) }
     requires fits { text_len + length (text.print_line line) < 2 ^ 64 }
     ensures attributes { attributes_in map.new ≡ history.apply_line (attributes_in map.old) line }
     ensures kept { result ≡ history.text_length (attributes_in map.new) }
-    ensures room { spare map.old ≤ spare map.new + 1 }
+    ensures room { map.old.room ≤ map.new.room + 1 }
 {
     let LineCopy { parts } = line;
     match parts {
@@ -65,7 +65,7 @@ fn apply_line(map: &mut Attributes, text_len: usize, line: LineCopy) -> usize
 
 // Each line takes effect, one after the other.
 fn apply_lines(map: &mut Attributes, text_len: usize, lines: Vec<LineCopy>) -> usize
-    requires room { length lines.items ≤ spare map.old }
+    requires room { length lines.items ≤ map.old.room }
     requires kept { text_len ≡ history.text_length (attributes_in map.old) }
     requires fits { text_len + length (text.print_lines lines.items) < 2 ^ 64 }
     ensures attributes { attributes_in map.new ≡ after_lines (attributes_in map.old) lines.items }
@@ -82,12 +82,12 @@ fn apply_lines(map: &mut Attributes, text_len: usize, lines: Vec<LineCopy>) -> u
 #[inline(always)]
 fn apply_copy(map: &mut Attributes, text_len: usize, line: &HeldLine) -> usize
     requires short { is_short_line line.now ≡ true }
-    requires room { 0 < spare map.old }
+    requires room { 0 < map.old.room }
     requires kept { text_len ≡ history.text_length (attributes_in map.old) }
     requires fits { text_len + length (text.print_line line.now) < 2 ^ 64 }
     ensures attributes { attributes_in map.new ≡ history.apply_line (attributes_in map.old) line.now }
     ensures kept { result ≡ history.text_length (attributes_in map.new) }
-    ensures room { spare map.old ≤ spare map.new + 1 }
+    ensures room { map.old.room ≤ map.new.room + 1 }
 {
     match line.parts() {
         LineRef::Set { name, content } => {
@@ -101,7 +101,7 @@ fn apply_copy(map: &mut Attributes, text_len: usize, line: &HeldLine) -> usize
 // Each line takes effect, one after the other. Their texts are short, and are copied.
 fn apply_short(map: &mut Attributes, text_len: usize, lines: &[HeldLine]) -> usize
     requires short { are_short lines.now ≡ true }
-    requires room { length lines.now ≤ spare map.old }
+    requires room { length lines.now ≤ map.old.room }
     requires kept { text_len ≡ history.text_length (attributes_in map.old) }
     requires fits { text_len + length (text.print_lines lines.now) < 2 ^ 64 }
     ensures attributes { attributes_in map.new ≡ after_lines (attributes_in map.old) lines.now }
@@ -118,11 +118,11 @@ fn apply_short(map: &mut Attributes, text_len: usize, lines: &[HeldLine]) -> usi
 pub(crate) fn apply_ready(
     map: &mut Attributes,
     text_len: usize,
-    copies: Option<Vec<LineCopy>>,
+    copies: Option<Box<Vec<LineCopy>>>,
     lines: &[HeldLine],
 ) -> usize
     requires copies { AreCopiesFor lines.now copies }
-    requires room { length lines.now ≤ spare map.old }
+    requires room { length lines.now ≤ map.old.room }
     requires kept { text_len ≡ history.text_length (attributes_in map.old) }
     requires fits { text_len + length (text.print_lines lines.now) < 2 ^ 64 }
     ensures attributes { attributes_in map.new ≡ after_lines (attributes_in map.old) lines.now }
@@ -130,7 +130,7 @@ pub(crate) fn apply_ready(
 {
     match copies {
         None => apply_short(map, text_len, lines),
-        Some(copies) => apply_lines(map, text_len, copies),
+        Some(copies) => apply_lines(map, text_len, Box::into_inner(copies)),
     }
 }
 
@@ -153,7 +153,7 @@ fn move_down(map: &mut Attributes, kept: usize, place: usize)
     ensures { map.new.entries ≡ swap map.old.entries kept place }
 {
     if kept < place {
-        map.swap_indices(kept, place);
+        map.swap(kept, place);
     }
 }
 

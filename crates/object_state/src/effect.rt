@@ -7,7 +7,8 @@ ghost use Rattle.object_state.specs.Entries.{attributes_in};
 ghost use Rattle.object_state.specs.Limits.{lines_pass_limits};
 ghost use Rattle.object_state.specs.Notes.{Notes, length_then};
 
-use crate::content::{Attributes, line_len as content_line_len};
+use crate::attributes::Attributes;
+use crate::content::line_len as content_line_len;
 use crate::noted::{Noted, OrderedName};
 use attr_text::{line_len, passes_limits};
 use pps_filter::Name;

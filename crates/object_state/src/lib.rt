@@ -1,6 +1,7 @@
 //! The attributes of one object: in order, within their limits, and as the lines of writes change them.
 #![tactic(auto)]
 
+mod attributes;
 mod changes;
 mod content;
 mod effect;
@@ -11,7 +12,6 @@ mod noted;
 mod object;
 mod places;
 mod print;
-mod room;
 
 pub use lent::AttributeRef;
 pub use object::Object;

@@ -107,13 +107,13 @@ fn copies_of(alloc: Global, lines: &[HeldLine]) -> Result<Vec<LineCopy>, AllocEr
 pub(crate) fn copies_for(
     alloc: Global,
     lines: &[HeldLine],
-) -> Result<Option<Vec<LineCopy>>, AllocError>
+) -> Result<Option<Box<Vec<LineCopy>>>, AllocError>
     ensures { IfOk result (AreCopiesFor lines.now) }
 {
     if are_short(lines) {
         return Ok(None);
     }
-    let copies = copies_of(alloc, lines)?;
+    let copies = Box::new(alloc, copies_of(alloc, lines)?)?;
     Ok(Some(copies))
 }
 

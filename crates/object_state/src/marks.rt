@@ -7,7 +7,7 @@ ghost use Rattle.object_state.specs.Entries.{attributes_in};
 ghost use Rattle.object_state.specs.Notes.{is_marked_then};
 ghost use Rattle.object_state.specs.MarkBefore.{IsMarkBefore, Resolves, StaysForetold, changes_mark};
 
-use crate::content::Attributes;
+use crate::attributes::Attributes;
 use crate::noted::{Noted, OrderedName};
 use pps_filter::Name;
 use pps_types::{Bytes, HeldLine, LineRef, WrittenLine};

@@ -10,27 +10,18 @@ ghost use Rattle.object_state.specs.Held.{matching_text, AppliesLines, IsReadyFo
 ghost use Rattle.object_state.specs.Limits.{lines_pass_limits, length_with, IsLimitRefusal};
 ghost use Rattle.object_state.specs.Short.{AreCopiesFor};
 
+use crate::attributes::Attributes;
 use crate::changes::{apply_ready, drop_nonpersistent};
-use crate::content::Attributes;
 use crate::effect::would_pass_limits;
 use crate::lent::AttributeRef;
 use crate::lines::{LineCopy, copies_for, len_with, set_marks};
 use crate::marks::{resolve, resolve_one};
 use crate::print::{matching_len, push_all, push_matching};
-use crate::room::make_room;
 use attr_text::passes_limits;
-use indexmap::IndexMap;
 use pps_filter::{Filter, Name};
 use pps_types::{AttributeContent, HeldLine, Refusal, WrittenLine};
 use std::alloc::{AllocError, Global};
 use std::marker::Model;
-
-// Whether both maps have the same entries in the same order.
-fn are_same(map: &Attributes, other: &Attributes) -> bool
-    ensures { IsTrue result ↔ (map.now.entries ≡ other.now.entries) }
-{
-    map.as_slice() == other.as_slice()
-}
 
 // An attribute, as it is lent.
 fn lend<'a>(name: &'a Name, content: &'a AttributeContent) -> AttributeRef<'a>
@@ -50,11 +41,12 @@ fn lend<'a>(name: &'a Name, content: &'a AttributeContent) -> AttributeRef<'a>
 /// There are at most 1,024 of them, and their printed lines have at most 65,536 bytes together. Both limits are our own.
 pub struct Object {
     map: Attributes,
-    text_len: usize,
+    // How long the printed lines are together. It fits, since there is a limit.
+    text_len: u32,
     // Whether an attribute may be nonpersistent. If not, no mark needs to be looked up.
     has_marks: bool,
     // Of the lines that were made ready, if some of their texts are too long to be copied without memory.
-    copies: Option<Vec<LineCopy>>,
+    copies: Option<Box<Vec<LineCopy>>>,
 }
 
 // Written out, since each crate that drops one would prove a derived drop anew, with those of all its parts.
@@ -88,7 +80,7 @@ impl Object {
         ensures copies { result.copies ≡ None }
     {
         Object {
-            map: IndexMap::new(alloc),
+            map: Attributes::new(alloc),
             text_len: 0,
             has_marks: false,
             copies: None,
@@ -122,7 +114,7 @@ impl Object {
     pub fn has(&self, name: &Name) -> bool
         ensures { result ≡ list_any (λ a. same a.name name.now) self.now.attributes }
     {
-        self.map.contains_key(name)
+        self.map.get_index_of(name).is_some()
     }
 
     /// How many bytes the printed lines of all attributes have. It is kept, so it costs nothing.
@@ -130,7 +122,7 @@ impl Object {
         ensures len { result ≡ text_length self.now.attributes }
         ensures limit { result ≤ 65536 }
     {
-        self.text_len
+        self.text_len as usize
     }
 
     /// How many bytes the printed lines of those attributes have that match. It takes no memory.
@@ -139,7 +131,7 @@ impl Object {
         ensures { result ≡ length (matching_text filter.entry self.now) }
     {
         match filter {
-            None => self.text_len,
+            None => self.text_len as usize,
             Some(filter) => matching_len(&self.map, filter),
         }
     }
@@ -151,7 +143,7 @@ impl Object {
         ensures capacity { vec_capacity out.old ≤ vec_capacity out.new }
     {
         match filter {
-            None => push_all(out, &self.map, self.text_len),
+            None => push_all(out, &self.map, self.text_len as usize),
             Some(filter) => push_matching(out, &self.map, filter),
         }
     }
@@ -165,7 +157,7 @@ impl Object {
         ensures ok { IfOk result (λ printed. printed.items ≡ matching_text filter.entry self.now) }
         ensures err { IsOkUnless result Refusal.OutOfMemory }
     {
-        let alloc: Global = *self.map.allocator();
+        let alloc = self.map.alloc();
         let mut printed = Vec::with_capacity(alloc, self.print_len(filter))?;
         self.push_print(&mut printed, filter);
         Ok(printed)
@@ -177,7 +169,7 @@ impl Object {
         ensures copies { self.new.copies ≡ None }
     {
         self.copies = None;
-        self.map.clear();
+        self.map.truncate(0);
         self.text_len = 0;
         self.has_marks = false;
     }
@@ -188,7 +180,7 @@ impl Object {
         ensures copies { self.new.copies ≡ None }
     {
         self.copies = None;
-        self.text_len = drop_nonpersistent(&mut self.map);
+        self.text_len = drop_nonpersistent(&mut self.map) as u32;
         self.has_marks = false;
     }
 
@@ -200,7 +192,7 @@ impl Object {
         ensures ok { IfOk result (λ made. made.items ≡ resolve self.now.attributes lines.items) }
         ensures err { IsOkUnless result Refusal.OutOfMemory }
     {
-        let alloc: Global = *self.map.allocator();
+        let alloc = self.map.alloc();
         Ok(resolve(alloc, &self.map, lines)?)
     }
 
@@ -213,7 +205,7 @@ impl Object {
         if !self.has_marks {
             return Ok(line.into_line());
         }
-        let alloc: Global = *self.map.allocator();
+        let alloc = self.map.alloc();
         resolve_one(alloc, &self.map, line)
     }
 
@@ -226,23 +218,23 @@ impl Object {
         if !passes_limits(self.map.len() + lines.len(), whole_len) {
             return Ok(false);
         }
-        let alloc: Global = *self.map.allocator();
-        would_pass_limits(alloc, &self.map, self.text_len, lines)
+        let alloc = self.map.alloc();
+        would_pass_limits(alloc, &self.map, self.text_len as usize, lines)
     }
 
     // The copies that are held of lines that do not pass a limit.
-    fn checked_copies(&self, lines: &[HeldLine]) -> Result<Option<Vec<LineCopy>>, Refusal>
+    fn checked_copies(&self, lines: &[HeldLine]) -> Result<Option<Box<Vec<LineCopy>>>, Refusal>
         ensures refusal { IsLimitRefusal (names.refusal_of result) self.now.attributes lines.now }
         ensures ok { IfOk result (AreCopiesFor lines.now) }
         ensures len { OnOk result (length_with self.now.attributes lines.now < 2 ^ 64) }
     {
-        let Some(whole_len) = len_with(self.text_len, lines) else {
+        let Some(whole_len) = len_with(self.text_len as usize, lines) else {
             return Err(Refusal::OutOfMemory);
         };
         if self.is_too_large(lines, whole_len)? {
             return Err(Refusal::TooLarge);
         }
-        let alloc: Global = *self.map.allocator();
+        let alloc = self.map.alloc();
         let copies = copies_for(alloc, lines)?;
         Ok(copies)
     }
@@ -260,7 +252,7 @@ impl Object {
     {
         self.copies = None;
         let copies = self.checked_copies(lines)?;
-        make_room(&mut self.map, lines.len())?;
+        self.map.reserve(lines.len())?;
         self.copies = copies;
         Ok(())
     }
@@ -290,7 +282,8 @@ impl Object {
     {
         self.has_marks |= set_marks(lines);
         let copies = self.copies.take();
-        self.text_len = apply_ready(&mut self.map, self.text_len, copies, lines);
+        let text_len = self.text_len as usize;
+        self.text_len = apply_ready(&mut self.map, text_len, copies, lines) as u32;
     }
 
     /// Another object with the same attributes. No copies of lines are in it. OutOfMemory is the only error.
@@ -299,7 +292,7 @@ impl Object {
         ensures copies { IfOk result (λ copy. copy.copies ≡ None) }
         ensures err { IsOkUnless result Refusal.OutOfMemory }
     {
-        let map = self.map.clone()?;
+        let map = self.map.copy()?;
         Ok(Object {
             map,
             text_len: self.text_len,
@@ -312,6 +305,6 @@ impl Object {
     pub fn same(&self, other: &Object) -> bool
         ensures { IsTrue result ↔ (self.now.attributes ≡ other.now.attributes) }
     {
-        self.text_len == other.text_len && are_same(&self.map, &other.map)
+        self.text_len == other.text_len && self.map.same(&other.map)
     }
 }

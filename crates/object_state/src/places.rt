@@ -4,7 +4,7 @@ ghost use Rattle.pps_filter.specs.Seen.{part_seen};
 ghost use Rattle.object_state.specs.Entries.{attributes_in};
 ghost use Rattle.object_state.specs.Places.{IsPlaceOf, IsFirstPlace, earlier_place};
 
-use crate::content::Attributes;
+use crate::attributes::Attributes;
 use pps_filter::{Filter, Part};
 
 // The place of the attribute that the part matches, where there is one. The map knows it by its name.

@@ -1,11 +1,12 @@
 //! Printing of attributes.
 ghost use Rattle.std.specs.Prelude.{◌≡◌, ◌+◌, ◌≤◌, ◌<◌, ◌^◌, ◌++◌, length, vec_len, vec_capacity};
 ghost use Rattle.attr_text.specs.Written.{overwritten};
-ghost use Rattle.object_state.specs.Entries.{attributes_in};
+ghost use Rattle.object_state.specs.Entries.{attributes_in, attributes_of};
 ghost use Rattle.object_state.specs.Held.{print_all};
 ghost use Rattle.object_state.specs.Printed.{print_entry, print_filtered};
 
-use crate::content::{Attributes, line_len};
+use crate::attributes::{Attributes, AttributesRef, Entry, Index};
+use crate::content::line_len;
 use crate::places::first_place;
 use attr_text::{push_attribute, write_attribute};
 use pps_filter::{Filter, Name};
@@ -43,14 +44,36 @@ fn write_entry(out: &mut [u8], at: usize, name: &Name, content: &AttributeConten
     write_attribute(out, at, name.as_slice(), &content.lend())
 }
 
-// Writes the printed lines of all attributes over what stands from `start` on.
+// Writes the printed lines of few attributes over what is there from `start` on.
+fn write_few(out: &mut [u8], start: usize, entries: &[Entry])
+    requires { start + length (print_all (attributes_of entries.now)) ≤ length out.old }
+    ensures { out.new ≡ overwritten out.old start (print_all (attributes_of entries.now)) }
+{
+    let mut at = start;
+    'entries: for entry in entries {
+        at = write_entry(out, at, &entry.0, &entry.1);
+    }
+}
+
+// The same of those of which there is an index.
+fn write_many(out: &mut [u8], start: usize, index: &Index)
+    requires { start + length (print_all (attributes_of index.now.entries)) ≤ length out.old }
+    ensures { out.new ≡ overwritten out.old start (print_all (attributes_of index.now.entries)) }
+{
+    let mut at = start;
+    'entries: for (name, content) in index {
+        at = write_entry(out, at, name, content);
+    }
+}
+
+// Writes the printed lines of all attributes over what is there from `start` on.
 fn write_all(out: &mut [u8], start: usize, map: &Attributes)
     requires { start + length (print_all (attributes_in map.now)) ≤ length out.old }
     ensures { out.new ≡ overwritten out.old start (print_all (attributes_in map.now)) }
 {
-    let mut at = start;
-    'entries: for (name, content) in map {
-        at = write_entry(out, at, name, content);
+    match map.lend() {
+        AttributesRef::Few(entries) => write_few(out, start, entries),
+        AttributesRef::Many(index) => write_many(out, start, index),
     }
 }
 

@@ -38,12 +38,12 @@ places-preserved c =
 
 pub returns-clause-attributes : goal.returns-clause-attributes
 returns-clause-attributes c =
-    ap attributes_of (c.truncate.ensures.entries ∙ FiltersInPlace-all c.places.invariant.moved (omega (arith, c.places-test.false, c.len-place-end.ensures.len)))
+    ap attributes_of (c.truncate.ensures ∙ FiltersInPlace-all c.places.invariant.moved (omega (arith, c.places-test.false, c.len-place-end.ensures.len)))
     ∙ attributes-filter c.args.map.now.entries
 
 pub returns-clause-kept : goal.returns-clause-kept
 returns-clause-kept c =
-    let all = ap attributes_of (c.truncate.ensures.entries ∙ FiltersInPlace-all c.places.invariant.moved (omega (arith, c.places-test.false, c.len-place-end.ensures.len)))
+    let all = ap attributes_of (c.truncate.ensures ∙ FiltersInPlace-all c.places.invariant.moved (omega (arith, c.places-test.false, c.len-place-end.ensures.len)))
     ∙ attributes-filter c.args.map.now.entries in
     let none : text_length (persistent (attributes_of (drop c.places.place c.args.map.now.entries))) ≡ 0 =
     ap (λ (es : List (List ℕ × Content)). text_length (persistent (attributes_of es))) (drop_all c.places.place c.args.map.now.entries (omega (arith, c.places-test.false, c.len-place-end.ensures.len))) in

@@ -20,7 +20,7 @@ lines-init c =
         lens = λ q. ap (λ notes. noted_or (noted_in notes q) (length_at q before)) c.new.ensures;
         counted = c.len.ensures.len ∙ sym (length-attributes c.args.map.now.entries);
         measured = c.requires.kept;
-        distinct = attributes-distinct c.args.map.now.entries c.len.ensures.unique;
+        distinct = attributes-distinct c.args.map.now.entries c.len.ensures.names;
       };
       fits = c.requires.fits;
       counts = omega (arith, c.len.ensures.len, length-attributes c.args.map.now.entries);

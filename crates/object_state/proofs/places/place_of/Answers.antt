@@ -19,7 +19,7 @@ returns-then-is_met_by c =
     let found : position (same c.name.result.now) (keys_of c.args.map.now.entries) ≡ Some c.in_ok-place.place = sym c.in_ok-place.ensures.index in
     let at : slice_get c.args.map.now.entries c.in_ok-place.place ≡ Some e = sym c.in_ok-content.ensures.entry in
     let met : value_meets (part_seen c.args.part.now).condition e.1.value ≡ true = ap (value_meets (part_seen c.args.part.now).condition) (sym (c.value.ensures ∙ ap (λ (k : Content). k.value) c.lend.ensures)) ∙ sym c.if-is_met_by.ensures in
-    place-met (part_seen c.args.part.now) c.args.map.now.entries c.in_ok-place.place e c.get_index_of.ensures.unique (rw c.name.ensures at found) at met
+    place-met (part_seen c.args.part.now) c.args.map.now.entries c.in_ok-place.place e c.get_index_of.ensures.names (rw c.name.ensures at found) at met
 
 pub returns : goal.returns
 returns c =
@@ -27,4 +27,4 @@ returns c =
     let found : position (same c.name.result.now) (keys_of c.args.map.now.entries) ≡ Some c.in_ok-place.place = sym c.in_ok-place.ensures.index in
     let at : slice_get c.args.map.now.entries c.in_ok-place.place ≡ Some e = sym c.in_ok-content.ensures.entry in
     let unmet : value_meets (part_seen c.args.part.now).condition e.1.value ≡ false = ap (value_meets (part_seen c.args.part.now).condition) (sym (c.value.ensures ∙ ap (λ (k : Content). k.value) c.lend.ensures)) ∙ sym c.if-is_met_by.ensures in
-    place-unmet (part_seen c.args.part.now) c.args.map.now.entries c.in_ok-place.place e c.get_index_of.ensures.unique (rw c.name.ensures at found) at unmet
+    place-unmet (part_seen c.args.part.now) c.args.map.now.entries c.in_ok-place.place e c.get_index_of.ensures.names (rw c.name.ensures at found) at unmet

@@ -11,10 +11,10 @@ use Rattle.object_state.proofs.object.Object.apply_commit.Goals as goal
 
 pub invariant_of-self : goal.invariant_of-self
 invariant_of-self c =
-    let changed = c.apply_ready-self-inside.ensures.attributes in
+    let changed = c.apply_ready.ensures.attributes in
     let held = ap (λ (h : Held). fold apply_line h.attributes c.args.lines.now) c.self.view_is in
     record {
-      kept = c.apply_ready-self-inside.ensures.kept;
+      kept = c.apply_ready.ensures.kept;
       within = subst IsWithinLimits (sym (changed ∙ held)) c.requires.takes.within;
       marked = λ none.
           let parts = or_parts c.self.inside.has_marks c.set_marks.result none in

@@ -8,5 +8,5 @@ use Rattle.object_state.proofs.object.Object.has.Goals as goal
 
 pub returns : goal.returns
 returns c =
-    c.contains_key.ensures ∙ has-key c.args.name.now c.self.inside.map.entries
+    c.is_some.ensures ∙ c.get_index_of.ensures.found ∙ has-key c.args.name.now c.self.inside.map.entries
     ∙ ap (λ (h : Held). list_any (λ (a : Attribute). same a.name c.args.name.now) h.attributes) c.self.view_is

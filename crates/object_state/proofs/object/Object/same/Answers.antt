@@ -9,8 +9,8 @@ pub returns-then-self-other : goal.returns-then-self-other
 returns-then-self-other c =
     let mine : attributes_of c.self.inside.map.entries ≡ c.args.self.now.attributes = λ i. (c.self.view_is i).attributes in
     let others : attributes_of c.other.inside.map.entries ≡ c.args.other.now.attributes = λ i. (c.other.view_is i).attributes in (
-      λ is. sym mine ∙ ap attributes_of (c.are_same.ensures.0 is) ∙ others,
-      λ e. c.are_same.ensures.1 (attributes-inj _ _ (mine ∙ e ∙ sym others)),
+      λ is. sym mine ∙ ap attributes_of (c.same.ensures.0 is) ∙ others,
+      λ e. c.same.ensures.1 (attributes-inj _ _ (mine ∙ e ∙ sym others)),
     )
 
 pub returns-else-self-other : goal.returns-else-self-other

@@ -1,0 +1,14 @@
+use Rattle.std.proofs.Common.{sym, subst}
+use Rattle.object_state.specs.Kept.{kept_in, HaveOwnNames}
+use Rattle.object_state.proofs.Kept.{names-insert}
+use Rattle.object_state.proofs.attributes.Attributes.insert.Goals.{in-Few, in-Many}
+use Rattle.object_state.proofs.attributes.Attributes.insert.Goals as goal
+
+pub invariant_of-self : goal.invariant_of-self
+invariant_of-self c =
+    elim c.match-self.branch [
+      | in-Few w ↦
+          let names = subst (λ form. HaveOwnNames (kept_in form).entries) w.in-Few.is c.self.invariant in
+          rw w.self-inside-is (subst HaveOwnNames (sym w.insert_in.ensures.entries) (names-insert c.args.name c.args.content w.in-Few.entries.items names))
+      | in-Many w ↦ rw w.self-inside-is w.insert.ensures.unique
+    ]
