@@ -1,5 +1,5 @@
 -- A directory by its names and what each has.
-use Rattle.std.proofs.Common.{◌≡◌, ◌↔◌, IsTrue, Bool, true, false, ℕ, zero, suc, ◌<◌, length, get_or, cond, Option, Some, None, List, [], ◌∷◌, ◌++◌, map, refl, ap, sym, subst, ◌∙◌, arith, append-nil}
+use Rattle.std.proofs.Common.{◌≡◌, ◌↔◌, IsTrue, Bool, true, false, ℕ, zero, suc, ◌<◌, length, get_or, cond, Option, Some, None, List, [], ◌∷◌, Box, ◌++◌, map, refl, ap, sym, subst, ◌∙◌, arith, append-nil}
 use Rattle.std.specs.List.{filter_map}
 use Rattle.std.specs.Ordering.{is_eq}
 use Rattle.std.proofs.lemmas.Cmp.{tied_itself}
@@ -163,9 +163,9 @@ key_at (x ∷ es) (y ∷ fs) (suc i) e f same h re rf = key_at es fs i e f (rest
     rest_same : (a b : Name × List (Path × Found)) (ks ls : List (Name × List (Path × Found))) → a ∷ ks ≡ b ∷ ls → ks ≡ ls
     rest_same a b ks ls e = cc
 
-pub no_object_is : (A : Type 0) (d : Contents) (id : ℕ) → standing {A = A} (Directory d) ≡ ([], FoundObject id) ∷ [] → ⊥
+pub no_object_is : (A : Type 0) (d : Box Contents A) (id : ℕ) → standing {A = A} (Directory d) ≡ ([], FoundObject id) ∷ [] → ⊥
 unfolding whole
-no_object_is A d id e = apart (ap (λ (x : Path × Found). x.1) (first_same ([], FoundDirectory d.id) ([], FoundObject id) _ [] e))
+no_object_is A d id e = apart (ap (λ (x : Path × Found). x.1) (first_same ([], FoundDirectory d.value.id) ([], FoundObject id) _ [] e))
   where
     apart : {n m : ℕ} → FoundDirectory n ≡ FoundObject m → ⊥
     apart e = cc

@@ -66,7 +66,7 @@ module _ {A X : Type 0} (own : Node A → List (Path × X)) where
 alone : {A : Type 0} (n : Name) (node : Node A) → members_in [] (under n (standing node)) ≡ (n, node_found node) ∷ []
 unfolding whole
 alone n (Object id) = refl
-alone {A = A} n (Directory d) = ap (λ l. (n, node_found {A = A} (Directory d)) ∷ l) (members_deep n (where_key path_cmp is_below (entries d.below)) (after_root (entries d.below)))
+alone {A = A} n (Directory d) = ap (λ l. (n, node_found {A = A} (Directory d)) ∷ l) (members_deep n (where_key path_cmp is_below (entries d.value.below)) (after_root (entries d.value.below)))
 
 -- the members of a directory are its entries
 pub members_here : {A : Type 0} (es : List (Entry A)) → members_in [] (flatten standing es) ≡ map (λ e. (e.name.items, node_found e.node)) es

@@ -133,7 +133,7 @@ all_own (e ∷ es) = (own e.node, all_own es)
   where
     own : {A : Type 0} (n : Node A) → IsOrdered (standing n)
     own (Object id) = (tt, tt)
-    own (Directory d) = ordered_whole d
+    own (Directory d) = ordered_whole d.value
 
 -- what a directory has, by its entries
 pub whole_view : {A : Type 0} (id : ℕ) (v : Vec (Entry A) A) → NamesRise v.items → whole (contents_of id v) ≡ ([], FoundDirectory id) ∷ flatten standing v.items

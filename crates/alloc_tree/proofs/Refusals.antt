@@ -1,5 +1,5 @@
 -- One level of a tree: why a change of what stands at a path is refused.
-use Rattle.std.proofs.Common.{◌≡◌, ℕ, suc, nat_eq, Bool, true, false, not, List, [], ◌∷◌, length, Some, None, Option, Result, Ok, Err, map, ok_or, if◌then◌else◌, refl, ap, ◌∙◌, arith}
+use Rattle.std.proofs.Common.{◌≡◌, ℕ, suc, nat_eq, Bool, true, false, not, List, [], ◌∷◌, Box, length, Some, None, Option, Result, Ok, Err, map, ok_or, if◌then◌else◌, refl, ap, ◌∙◌, arith}
 use Rattle.std.specs.Bool.{OnTrue}
 use Rattle.std.specs.Option.{option_or}
 use Rattle.std.proofs.lemmas.Bool.{eqb-true}
@@ -92,8 +92,8 @@ pub made_alone : {A : Type 0} (id : ℕ) (es : List (Entry A)) → nat_eq (lengt
 made_alone id [] h = refl
 made_alone id (e ∷ es) h = absurd (omega (arith, eqb-true (length (e ∷ es)) 0 h))
 
-pub not_empty_here : (A : Type 0) (d : Contents) → is_empty (members_in [] (whole d)) ≡ false → empty_refused {A = A} (DirectoryNode d) ≡ Some NotEmpty
-not_empty_here A d h = λ i. option_or (no_directory (ok_or (root_found d i) NotFound)) (refused_if (not (h i)) NotEmpty)
+pub not_empty_here : (A : Type 0) (d : Box Contents A) → is_empty (members_in [] (whole d.value)) ≡ false → empty_refused {A = A} (DirectoryNode d) ≡ Some NotEmpty
+not_empty_here A d h = λ i. option_or (no_directory (ok_or (root_found d.value i) NotFound)) (refused_if (not (h i)) NotEmpty)
 
 pub list_object : (o : ℕ) (p : Path) → list_refused (([], Object o) ∷ []) p ≡ Some NotDirectory
 list_object o [] = refl

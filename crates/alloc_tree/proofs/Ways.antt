@@ -1,12 +1,11 @@
 -- Where a path leads, name by name.
-use Rattle.std.proofs.Common.{◌≡◌, ℕ, suc, ◌+◌, ◌<◌, List, [], ◌∷◌, ◌++◌, length, get_or, take, drop, Some, None, Option, Result, Ok, Err, ok_or, if◌then◌else◌, refl, ap, sym, ◌∙◌, append_assoc, append-nil}
+use Rattle.std.proofs.Common.{◌≡◌, ℕ, ◌+◌, ◌<◌, List, [], ◌∷◌, Box, ◌++◌, length, get_or, take, drop, Some, None, Option, Result, Ok, Err, if◌then◌else◌, refl, ap, sym, ◌∙◌, append_assoc, append-nil}
 use Rattle.std.proofs.lemmas.List.{take-append-drop, drop_more}
 use Rattle.pps_types.specs.Bytes.{◌>>=◌}
 use Rattle.pps_types.specs.declared.found.Found.{Found}
-use Rattle.pps_types.specs.declared.found.Found.TheVariants.{Object as FoundObject, Directory as FoundDirectory}
 use Rattle.pps_types.specs.declared.refusal.Refusal.{Refusal}
 use Rattle.pps_types.specs.declared.refusal.Refusal.TheVariants.{NotFound, NotDirectory}
-use Rattle.pps_types.specs.Names.{Name, Path, beyond, place, find_at, members_in, is_object, refusal_of}
+use Rattle.pps_types.specs.Names.{Name, Path, beyond, place, members_in, is_object, refusal_of}
 use Rattle.alloc_tree.specs.Contents.{Contents, whole}
 use Rattle.alloc_tree.specs.Path.{at}
 use Rattle.alloc_tree.specs.Refused.{list_refused}
@@ -21,12 +20,11 @@ use Rattle.alloc_tree.proofs.Levels.{place_entry, place_gap, found_there}
 use Rattle.alloc_tree.proofs.Members.{members_at, members_absent, members_object}
 use Rattle.alloc_tree.proofs.Ordered.{root_found}
 use Rattle.alloc_tree.proofs.Refusals.{list_entry, list_gap, list_object, list_root}
-use Rattle.alloc_tree.proofs.Steps.{take_one_more}
 
 -- ---- one name
 
 module _ {A : Type 0} (id : ℕ) (es : List (Entry A)) (i : ℕ) (n : Name) where
-  pub way_in : (e : Entry A) (d : Contents) → IsAt es i e n → e.node ≡ Directory d → LeadsTo (made_of id es) (n ∷ []) (whole d)
+  pub way_in : (e : Entry A) (d : Box Contents A) → IsAt es i e n → e.node ≡ Directory d → LeadsTo (made_of id es) (n ∷ []) (whole d.value)
   way_in e d here is = record {
     place = λ q. place_entry id es i n q e here ∙ ap (λ m. place (at (standing m)) q) is;
     members = λ q. members_at id es i n q e here ∙ ap (λ m. members_in q (standing m)) is;
@@ -102,4 +100,4 @@ split_at path i n within read = sym (take-append-drop i path) ∙ ap (λ l. take
 -- what is found at a node itself
 pub found_alone : {A : Type 0} (n : Node A) → at (standing n) [] ≡ Some (node_found n)
 found_alone (Object id) = refl
-found_alone (Directory d) = root_found d
+found_alone (Directory d) = root_found d.value

@@ -12,7 +12,7 @@ use Rattle.alloc_tree.specs.declared.kind.NodeKind.TheVariants.{Object, Director
 abbrev pub ready_seen : {A : Type 0} → Option (Ready A) → Option (NodeKind × Name)
 ready_seen None = None
 ready_seen (Some (ReadyObject name)) = Some (Object, name.items)
-ready_seen (Some (ReadyDirectory name allocator)) = Some (Directory, name.items)
+ready_seen (Some (ReadyDirectory name place allocator)) = Some (Directory, name.items)
 
 abbrev pub held : {A : Type 0} → Contents → Option (Ready A) → Held
 held root ready = record { map = from_entries (whole root); ready = ready_seen ready; rooms = root.rooms }

@@ -29,7 +29,7 @@ flatten own (e ∷ es) = under e.name.items (own e.node) ++ flatten own es
 -- a node itself, and what stands below it
 abbrev pub standing : {A : Type 0} → Node A → List (Path × Found)
 standing (Object id) = ([], FoundObject id) ∷ []
-standing (Directory d) = whole d
+standing (Directory d) = whole d.value
 
 -- a directory itself, and what its entries have
 abbrev pub made_of : {A : Type 0} → ℕ → List (Entry A) → List (Path × Found)
@@ -38,11 +38,11 @@ made_of id es = ([], FoundDirectory id) ∷ flatten standing es
 -- the room at a node and below it
 abbrev pub room : {A : Type 0} → Node A → List (Path × ℕ)
 room (Object id) = []
-room (Directory d) = d.rooms
+room (Directory d) = d.value.rooms
 
 abbrev pub node_depth : {A : Type 0} → Node A → ℕ
 node_depth (Object id) = 0
-node_depth (Directory d) = d.depth
+node_depth (Directory d) = d.value.depth
 
 abbrev pub deepest : {A : Type 0} → List (Entry A) → ℕ
 deepest [] = 0
@@ -54,7 +54,7 @@ contents_of id v = record { id = id; below = from_entries (flatten standing v.it
 -- what a node is
 abbrev pub node_found : {A : Type 0} → Node A → Found
 node_found (Object id) = FoundObject id
-node_found (Directory d) = FoundDirectory d.id
+node_found (Directory d) = FoundDirectory d.value.id
 
 abbrev pub node_of : {A : Type 0} → ℕ → Node A
 node_of id = Object id

@@ -42,14 +42,14 @@ pub(crate) struct Entry<A: Allocator> {
 #[derive(Drop)]
 pub(crate) enum Node<A: Allocator> {
     Object(ObjId),
-    Directory(Directory<A>),
+    Directory(Box<Directory<A>, A>),
 }
 
-/// The memory of a new name: the name itself and, for a directory, an allocator of its own.
+/// The memory of a new name: the name itself and, for a directory, a place, and an allocator of its own.
 #[derive(Drop)]
 pub(crate) enum Ready<A: Allocator> {
     Object(Vec<u8, A>),
-    Directory(Vec<u8, A>, A),
+    Directory(Vec<u8, A>, Box<Directory<A>, A>, A),
 }
 
 impl<A: Allocator> Model for Directory<A> {
@@ -90,6 +90,16 @@ impl<A: Allocator> Directory<A> {
         }
     }
 
+    /// An empty directory, in a place that was made for one. It takes no memory.
+    pub(crate) fn in_place(place: Box<Self, A>, alloc: A, id: DirId) -> Box<Self, A>
+        ensures alone { whole result.value ≡ ([], FoundDirectory id) ∷ [] }
+        ensures number { result.value.id ≡ id }
+    {
+        let mut made = place;
+        *made = Directory::new(alloc, id);
+        made
+    }
+
     /// The directory that stands here under a name.
     fn child(&self, name: &[u8]) -> Result<&Directory<A>, Refusal>
         ensures found { IfOk result (λ d. LeadsTo (whole self.now) (name.now ∷ []) (whole d.now)) }
@@ -99,7 +109,7 @@ impl<A: Allocator> Directory<A> {
             Err(_) => Err(Refusal::NotFound),
             Ok(i) => match &self.entries[i].node {
                 Node::Object(_) => Err(Refusal::NotDirectory),
-                Node::Directory(inner) => Ok(inner),
+                Node::Directory(inner) => Ok(inner.as_ref()),
             },
         }
     }
@@ -362,7 +372,8 @@ impl<A: Allocator> Directory<A> {
                     entries.push(Entry { name, node })?;
                 }
                 Node::Directory(inner) => {
-                    let node = Node::Directory(inner.copy()?);
+                    let alloc = self.entries.allocator().clone()?;
+                    let node = Node::Directory(Box::new(alloc, inner.copy()?)?);
                     entries.push(Entry { name, node })?;
                 }
             }
@@ -398,7 +409,7 @@ impl<A: Allocator> Directory<A> {
                     let Node::Directory(inner_beside) = &beside.node else {
                         return false;
                     };
-                    if !inner.same(inner_beside) {
+                    if !inner.same(inner_beside.as_ref()) {
                         return false;
                     }
                 }

@@ -10,12 +10,12 @@ ghost use Rattle.alloc_tree.specs.HeldView.{ready_seen};
 
 use crate::compare::{order, same_name};
 use crate::copies::copy_name;
-use crate::directory::{Entry, Node, Ready};
+use crate::directory::{Directory, Entry, Node, Ready};
 use crate::edit::Edit;
 use crate::kind::NodeKind;
 use crate::listed::Member;
 use pps_types::limits::MEMBERS_MAX;
-use pps_types::{Found, ObjId, Refusal};
+use pps_types::{DirId, Found, ObjId, Refusal};
 use std::alloc::{AllocError, Allocator};
 use std::cmp::Ordering;
 
@@ -99,7 +99,14 @@ pub(crate) fn make_ready<A: Allocator + Clone>(
     let name = Vec::from_slice(entries.allocator().clone()?, name)?;
     let ready = match kind {
         NodeKind::Object => Ready::Object(name),
-        NodeKind::Directory => Ready::Directory(name, entries.allocator().clone()?),
+        NodeKind::Directory => {
+            let alloc = entries.allocator();
+            let place = Box::new(
+                alloc.clone()?,
+                Directory::new(alloc.clone()?, DirId::new(0)),
+            )?;
+            Ready::Directory(name, place, alloc.clone()?)
+        }
     };
     entries.reserve(1)?;
     Ok(ready)

@@ -164,9 +164,9 @@ impl<A: Allocator> Tree<A> {
         ensures ready { self.new.ready ≡ None }
     {
         match self.ready.take() {
-            Some(Ready::Directory(name, alloc)) => {
-                self.root
-                    .place(path, name, Node::Directory(Directory::new(alloc, id)))
+            Some(Ready::Directory(name, place, alloc)) => {
+                let made = Directory::in_place(place, alloc, id);
+                self.root.place(path, name, Node::Directory(made))
             }
             _ => unreachable!(),
         }

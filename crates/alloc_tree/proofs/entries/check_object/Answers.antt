@@ -6,4 +6,4 @@ use Rattle.alloc_tree.proofs.Refusals.{edit_root}
 use Rattle.alloc_tree.proofs.entries.check_object.Goals as goal
 
 pub returns-in-Directory-clause-refusal : goal.returns-in-Directory-clause-refusal
-returns-in-Directory-clause-refusal g c = sym (ap (λ n. object_refused (standing n) []) c.in-Directory.is ∙ edit_root RemovesObject c.in-Directory.field-0)
+returns-in-Directory-clause-refusal g c = sym (ap (λ n. object_refused (standing n) []) c.in-Directory.is ∙ edit_root RemovesObject c.in-Directory.field-0.value)

@@ -1,5 +1,6 @@
 use Rattle.std.proofs.Common.{◌≡◌, ℕ, Some, [], ◌∷◌, sym, ap, subst, ◌∙◌}
 use Rattle.std.proofs.lemmas.Result.{on_ok_weaker, on_err_weaker}
+use Rattle.std.specs.Box.{with_value}
 use Rattle.std.specs.Vec.{with_item}
 use Rattle.pps_types.specs.declared.found.Found.TheVariants.{Directory as FoundDirectory}
 use Rattle.alloc_tree.specs.declared.directory.Node.TheVariants.{Directory}
@@ -52,16 +53,16 @@ pub returns-clause-refusal : goal.returns-clause-refusal
 returns-clause-refusal g t c =
     let here = at_place _ _ _ _ c.self.invariant (rw (c.deref.ensures.value, c.as_slice.ensures) at c.in-Ok.ensures.found) c.index_mut-entry.ensures.value in
     word_at (edit_refused c.args.edit) (whole_is c.self.inside.id c.self.inside.entries _ c.self.view_is c.self.invariant) c.in-Some.ensures.cases.0
-    (c.edit.ensures.refusal ∙ sym (edit_below c.self.inside.id _ _ _ c.args.edit _ c.in-Some.rest.now here (cc) ∙ ap (λ n. edit_refused c.args.edit (standing n) c.in-Some.rest.now) c.in-Directory.is))
+    (c.edit.ensures.refusal ∙ ap (λ d. edit_refused c.args.edit (whole d) c.in-Some.rest.now) c.deref_mut.ensures.value ∙ sym (edit_below c.self.inside.id _ _ _ c.args.edit _ c.in-Some.rest.now here (cc) ∙ ap (λ n. edit_refused c.args.edit (standing n) c.in-Some.rest.now) c.in-Directory.is))
 
 pub returns-clause-ok : goal.returns-clause-ok
 returns-clause-ok g t c =
     let here = at_place _ _ _ _ c.self.invariant (rw (c.deref.ensures.value, c.as_slice.ensures) at c.in-Ok.ensures.found) c.index_mut-entry.ensures.value in
     rw (← c.self.view_is, c.in-Some.ensures.cases.0)
-    (on_ok_weaker c.edit.result (λ (h : Changes (whole c.in-Directory.inner) (whole c.edit.new.self) c.in-Some.rest.now (left_by c.args.edit)).
-    changed c.self.inside.id c.self.inside.entries (with_item c.self.inside.entries c.in-Ok.i record { name = c.index_mut-entry.result.now.name; node = Directory c.edit.new.self }) (c.in-Some.name.now ∷ c.in-Some.rest.now) (left_by c.args.edit) c.self.invariant (invariant_of-self-2 g t c)
-    (changes_set standing (FoundDirectory c.self.inside.id) _ _ _ c.index_mut-entry.result.now _ c.in-Some.rest.now (left_by c.args.edit) here here.name (subst (λ n. Changes (standing n) (whole c.edit.new.self) c.in-Some.rest.now (left_by c.args.edit)) (sym c.in-Directory.is) h))) c.edit.ensures.ok)
+    (on_ok_weaker c.edit.result (λ (h : Changes (whole c.deref_mut.result.now) (whole c.edit.new.self) c.in-Some.rest.now (left_by c.args.edit)).
+    changed c.self.inside.id c.self.inside.entries (with_item c.self.inside.entries c.in-Ok.i record { name = c.index_mut-entry.result.now.name; node = Directory (with_value c.in-Directory.inner c.edit.new.self) }) (c.in-Some.name.now ∷ c.in-Some.rest.now) (left_by c.args.edit) c.self.invariant (invariant_of-self-2 g t c)
+    (changes_set standing (FoundDirectory c.self.inside.id) _ _ _ c.index_mut-entry.result.now _ c.in-Some.rest.now (left_by c.args.edit) here here.name (subst (λ n. Changes (standing n) (whole c.edit.new.self) c.in-Some.rest.now (left_by c.args.edit)) (sym c.in-Directory.is) (rw c.deref_mut.ensures.value at h)))) c.edit.ensures.ok)
 
 pub returns-clause-err : goal.returns-clause-err
 returns-clause-err g t c =
-    on_err_weaker c.edit.result (λ (h : c.edit.new.self ≡ c.in-Directory.inner). same_contents c.self.inside.id c.self.inside.entries c.in-Ok.i c.index_mut-entry.result.now (Directory c.edit.new.self) c.index_mut-entry.ensures.value (c.in-Directory.is ∙ ap Directory (sym h)) ∙ c.self.view_is) c.edit.ensures.err
+    on_err_weaker c.edit.result (λ (h : c.edit.new.self ≡ c.deref_mut.result.now). same_contents c.self.inside.id c.self.inside.entries c.in-Ok.i c.index_mut-entry.result.now (Directory (with_value c.in-Directory.inner c.edit.new.self)) c.index_mut-entry.ensures.value (c.in-Directory.is ∙ ap (λ d. Directory (with_value c.in-Directory.inner d)) (sym (h ∙ c.deref_mut.ensures.value))) ∙ c.self.view_is) c.edit.ensures.err

@@ -1,6 +1,7 @@
 use Rattle.std.proofs.Common.{rules, true, ◌≡◌, [], ◌<◌, ◌-◌, ℕ, subst, ◌∙◌, arith, Some}
 use Rattle.std.specs.Result.{is_ok}
 use Rattle.std.specs.List.{insert}
+use Rattle.std.specs.Box.{with_value}
 use Rattle.std.specs.Vec.{with_item}
 use Rattle.pps_types.specs.declared.found.Found.TheVariants.{Directory as FoundDirectory}
 use Rattle.alloc_tree.specs.declared.directory.Node.TheVariants.{Directory}
@@ -45,7 +46,7 @@ place-requires g t c κs within =
     let room = rw (← c.self.view_is, c.in-Some.ensures.cases.0) at c.requires.room in
     let kept = subst (λ (k : ℕ). 0 < k) (room_at c.self.inside.id c.self.inside.entries.items c.in-Ok.i c.in-Some.first.now (c.self.inside.entries.cap - c.self.inside.entries.len) c.index_mut-entry.result.now c.in-Some.rest.now here on) room in
     let last = (rw c.in-Some.ensures.cases.0 at c.requires.name) ∙ last_of c.in-Some.first.now c.in-Some.rest.now on in
-    (search rules, (search rules, (rw c.in-Directory.is at (free_below c.self.inside.id _ _ _ c.in-Some.rest.now free _ here), (rw c.in-Directory.is at kept, (last, c.requires.alone)))))
+    (search rules, (search rules, (rw (c.in-Directory.is, ← c.deref_mut.ensures.value) at (free_below c.self.inside.id _ _ _ c.in-Some.rest.now free _ here), (rw (c.in-Directory.is, ← c.deref_mut.ensures.value) at kept, (last, c.requires.alone)))))
 
 pub invariant_of-self-2 : goal.invariant_of-self-2
 invariant_of-self-2 g t c =
@@ -56,4 +57,4 @@ pub returns : goal.returns
 returns g t c =
     let here = at_place _ _ _ _ c.self.invariant (rw (c.deref.ensures.value, c.as_slice.ensures) at c.in-Ok.ensures.found) c.index_mut-entry.ensures.value in
     rw (← c.self.view_is, c.in-Some.ensures.cases.0)
-    (changed c.self.inside.id c.self.inside.entries (with_item c.self.inside.entries c.in-Ok.i record { name = c.index_mut-entry.result.now.name; node = Directory c.place.new.self }) _ _ c.self.invariant (invariant_of-self-2 g t c) (changes_set standing (FoundDirectory c.self.inside.id) _ _ _ c.index_mut-entry.result.now _ c.in-Some.rest.now (Some (node_found c.args.node)) here here.name (rw c.in-Directory.is c.place.ensures)))
+    (changed c.self.inside.id c.self.inside.entries (with_item c.self.inside.entries c.in-Ok.i record { name = c.index_mut-entry.result.now.name; node = Directory (with_value c.in-Directory.inner c.place.new.self) }) _ _ c.self.invariant (invariant_of-self-2 g t c) (changes_set standing (FoundDirectory c.self.inside.id) _ _ _ c.index_mut-entry.result.now _ c.in-Some.rest.now (Some (node_found c.args.node)) here here.name (rw (c.in-Directory.is, ← c.deref_mut.ensures.value) c.place.ensures)))

@@ -1,5 +1,6 @@
 use Rattle.std.proofs.Common.{◌≡◌, ◌<◌, ◌≤◌, [], ◌∷◌, ◌++◌, map, length, refl, sym, ap, ◌∙◌, arith}
 use Rattle.std.proofs.lemmas.List.{take_all, length-map}
+use Rattle.alloc_tree.specs.Contents.{whole}
 use Rattle.alloc_tree.specs.View.{standing, made_of}
 use Rattle.alloc_tree.proofs.Keys.{key, keys_same, number_same, key_at, made_by_keys, no_object_is, says_no, refuted}
 use Rattle.alloc_tree.proofs.Ordered.{whole_is}
@@ -36,7 +37,7 @@ returns-in_default g t c = says_no _ (λ e.
 pub returns-then-not-same : goal.returns-then-not-same
 returns-then-not-same g t c = says_no _ (λ e.
     let keys = key_at c.deref-entry-items.result.now c.other.inside.entries.items c.loop-i.i c.entry-item.result c.index-beside.result.now (ap (map key) c.deref-entry-items.ensures.value ∙ keys_same c.self.inside.id c.other.inside.id _ _ c.self.invariant c.other.invariant (sym (whole_is c.self.inside.id c.self.inside.entries _ c.self.view_is c.self.invariant) ∙ e ∙ (whole_is c.other.inside.id c.other.inside.entries _ c.other.view_is c.other.invariant))) c.loop-i-test.true c.entry-item.is c.index-beside.ensures in
-    refuted c.same.result (cc) c.same.ensures (sym (ap standing c.in-Directory.is) ∙ ap (λ k. k.1) keys ∙ ap standing c.in-Directory-node.is))
+    refuted c.same.result (cc) c.same.ensures (ap whole c.deref-in-Directory.ensures ∙ sym (ap standing c.in-Directory.is) ∙ ap (λ k. k.1) keys ∙ ap standing c.in-Directory-node.is ∙ ap whole (sym c.as_ref.ensures)))
 
 pub loop-i-preserved : goal.loop-i-preserved
 loop-i-preserved g t c =
@@ -48,7 +49,7 @@ loop-i-preserved g t c =
     ∙ sym (map_one_more key c.other.inside.entries.items c.loop-i.i c.index-beside.result.now within c.index-beside.ensures) in
     elim c.match-entry.branch [
       | in-Object+else-not-same_object w ↦ step (ap standing w.in-Object.is ∙ sym (w.same_object.ensures.0 (cc)))
-      | in-Directory+in-Directory-node+else-not-same w ↦ step (ap standing w.in-Directory.is ∙ w.same.ensures.0 (cc) ∙ sym (ap standing w.in-Directory-node.is))
+      | in-Directory+in-Directory-node+else-not-same w ↦ step (ap standing w.in-Directory.is ∙ ap whole (sym w.deref-in-Directory.ensures) ∙ w.same.ensures.0 (cc) ∙ ap whole w.as_ref.ensures ∙ sym (ap standing w.in-Directory-node.is))
     ]
 
 pub returns : goal.returns

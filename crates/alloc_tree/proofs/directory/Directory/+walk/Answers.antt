@@ -1,6 +1,7 @@
 use Rattle.std.proofs.Common.{rules, ◌<◌, [], ◌∷◌, ◌++◌, sym, ap, subst, ◌∙◌, append_assoc, append-nil}
 use Rattle.std.proofs.lemmas.List.{take_all}
 use Rattle.pps_types.specs.declared.found.Found.TheVariants.{Object, Directory}
+use Rattle.alloc_tree.specs.Contents.{whole}
 use Rattle.alloc_tree.specs.Walk.{names, beyond_path}
 use Rattle.alloc_tree.specs.View.{flatten, standing}
 use Rattle.alloc_tree.proofs.Depths.{depth_below}
@@ -12,7 +13,7 @@ use Rattle.alloc_tree.proofs.directory.Directory.+walk.Goals as goal
 pub walk-requires : goal.walk-requires
 walk-requires g t c κs within =
     let below = depth_below c.self.inside.id c.self.inside.entries _ c.deref-entry-items.result.now c.loop-entry.entry-index c.entry-item.result c.in-Directory.inner c.self.view_is c.deref-entry-items.ensures.value c.loop-entry-test.true c.entry-item.is c.in-Directory.is in
-    (subst (λ k. c.in-Directory.inner.depth < k) c.decreases below, search rules)
+    (rw c.deref.ensures (subst (λ k. c.in-Directory.inner.value.depth < k) c.decreases below), search rules)
 
 pub loop-entry-preserved : goal.loop-entry-preserved
 loop-entry-preserved g t c =
@@ -28,7 +29,7 @@ loop-entry-preserved g t c =
       | in-Directory+in_ok-walk-in-Directory w ↦
           ap (λ v. v.items) w.walked-is ∙ walked_more standing c.deref-entry-items.result.now c.loop-entry.entry-index c.entry-item.result c.loop-entry-test.true c.entry-item.is p _ c.loop-entry.walked.items _
           (w.in_ok-walk-in-Directory.ensures
-          ∙ (λ j. c.loop-entry.walked.items ++ beyond_path ((ap names w.deref.ensures.value ∙ c.in_ok-longer.ensures) j) (standing (sym w.in-Directory.is j))))
+          ∙ (λ j. c.loop-entry.walked.items ++ beyond_path ((ap names w.deref-in-Directory.ensures.value ∙ c.in_ok-longer.ensures) j) ((ap whole w.deref.ensures ∙ ap standing (sym w.in-Directory.is)) j)))
           c.loop-entry.invariant
     ]
 

@@ -1,9 +1,3 @@
-use Rattle.std.proofs.Common.{[], ◌∷◌, sym, ap, ◌∙◌}
-use Rattle.pps_types.specs.Names.{members_in, place}
-use Rattle.alloc_tree.specs.Path.{at}
-use Rattle.alloc_tree.specs.Refused.{list_refused}
-use Rattle.alloc_tree.specs.View.{standing}
-use Rattle.alloc_tree.specs.Walk.{LeadsTo, LeadsNowhere}
 use Rattle.alloc_tree.proofs.Ordered.{whole_is}
 use Rattle.alloc_tree.proofs.Places.{at_place}
 use Rattle.alloc_tree.proofs.Ways.{way_in, way_past_object, way_absent}
@@ -24,4 +18,4 @@ pub returns-in-Directory-clause-found : goal.returns-in-Directory-clause-found
 returns-in-Directory-clause-found g c =
     let here = at_place _ _ _ _ c.self.invariant (rw c.deref.ensures.value at c.in-Ok.ensures.found) c.index.ensures in
     rw (whole_is c.self.inside.id c.self.inside.entries _ c.self.view_is c.self.invariant)
-    (way_in c.self.inside.id _ _ _ _ c.in-Directory.inner here c.in-Directory.is)
+    (rw c.as_ref.ensures (way_in c.self.inside.id _ _ _ _ c.in-Directory.inner here c.in-Directory.is))

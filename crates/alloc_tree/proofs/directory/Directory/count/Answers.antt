@@ -1,4 +1,4 @@
-use Rattle.std.proofs.Common.{[], sym, ap, ◌∙◌, count_by}
+use Rattle.std.proofs.Common.{sym, ap, ◌∙◌, count_by}
 use Rattle.alloc_tree.specs.Contents.{whole}
 use Rattle.alloc_tree.specs.Refused.{is_of}
 use Rattle.alloc_tree.proofs.Ways.{nowhere_members}

@@ -1,5 +1,5 @@
-use Rattle.std.proofs.Common.{[], sym, ap, ◌∙◌, count_by}
-use Rattle.alloc_tree.specs.Refused.{is_of, count_in}
+use Rattle.std.proofs.Common.{sym, ap, ◌∙◌, count_by}
+use Rattle.alloc_tree.specs.Refused.{is_of}
 use Rattle.alloc_tree.specs.View.{node_found}
 use Rattle.alloc_tree.proofs.Ordered.{whole_is}
 use Rattle.alloc_tree.proofs.News.{counted}

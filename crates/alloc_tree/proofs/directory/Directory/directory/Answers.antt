@@ -1,4 +1,4 @@
-use Rattle.std.proofs.Common.{◌≡◌, [], ◌∷◌, ◌++◌, Some, drop, take, ◌+◌, sym, ap, subst, ◌∙◌}
+use Rattle.std.proofs.Common.{◌≡◌, [], ◌∷◌, drop, take, ◌+◌, sym, subst}
 use Rattle.std.proofs.lemmas.List.{take_all}
 use Rattle.alloc_tree.specs.Contents.{whole}
 use Rattle.alloc_tree.specs.Walk.{LeadsTo, LeadsNowhere}

@@ -1,5 +1,4 @@
-use Rattle.std.proofs.Common.{[], ◌∷◌, Some, sym, ap, ◌∙◌}
-use Rattle.alloc_tree.specs.Path.{at}
+use Rattle.std.proofs.Common.{[], Some, sym, ap, ◌∙◌}
 use Rattle.alloc_tree.specs.View.{standing}
 use Rattle.alloc_tree.proofs.Ordered.{whole_is}
 use Rattle.alloc_tree.proofs.Places.{at_place}

@@ -1,4 +1,4 @@
-use Rattle.std.proofs.Common.{[], ◌∷◌, ◌++◌, Some, Ok, Err, sym, ap, ◌∙◌}
+use Rattle.std.proofs.Common.{[], ◌∷◌, Ok, sym, ap, ◌∙◌}
 use Rattle.pps_types.specs.Names.{place}
 use Rattle.alloc_tree.specs.Contents.{whole}
 use Rattle.alloc_tree.specs.Path.{at}

@@ -13,5 +13,5 @@ place-requires-clause-free g c = free_in_map ADirectory c.self.inside.root c.arg
 
 pub returns-clause-map : goal.returns-clause-map
 returns-clause-map g c = rw (← c.self.view_is)
-    (map_inserted (whole c.self.inside.root) (whole c.place.new.self) c.args.path.now (Directory c.new.result.id) c.place.ensures
-    ∙ ap (λ k. insert {R = path_cmp} (from_entries (whole c.self.inside.root)) c.args.path.now (Directory k)) c.new.ensures.number)
+    (map_inserted (whole c.self.inside.root) (whole c.place.new.self) c.args.path.now (Directory c.in_place-made.result.value.id) c.place.ensures
+    ∙ ap (λ k. insert {R = path_cmp} (from_entries (whole c.self.inside.root)) c.args.path.now (Directory k)) c.in_place-made.ensures.number)
