@@ -36,6 +36,7 @@ fn push_entry(out: &mut Vec<u8>, name: &Name, content: &AttributeContent)
 }
 
 // Writes the printed line of the attribute over what stands from `at` on, and says where it ends.
+#[inline(always)]
 fn write_entry(out: &mut [u8], at: usize, name: &Name, content: &AttributeContent) -> usize
     requires { at + length (print_entry name.now content.now) ≤ length out.old }
     ensures text { out.new ≡ overwritten out.old at (print_entry name.now content.now) }
