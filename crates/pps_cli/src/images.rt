@@ -11,6 +11,7 @@ use pps_engine::Engine;
 use pps_persist::{Contents, FileFault, ImageFiles, LoadError, load_from, save_to};
 use std::alloc::Global;
 use std::fs::{File, Files};
+use std::mem::forget;
 
 /// The files of the system. A read or a write that is interrupted is tried again.
 ///
@@ -91,8 +92,8 @@ pub(crate) fn cannot_replace<'w>(fault: FileFault, file: &'w str) -> Failure<'w>
     }
 }
 
-/// Saves a service to a file, if one is named.
-pub(crate) fn end<'w, F: ImageFiles>(
+// Saves a service to a file, if one is named.
+fn save<'w, F: ImageFiles>(
     alloc: Global,
     files: &mut F,
     engine: &Engine,
@@ -109,4 +110,22 @@ pub(crate) fn end<'w, F: ImageFiles>(
         Ok(()) => Ok(()),
         Err(fault) => Err(cannot_replace(fault, file)),
     }
+}
+
+/// Saves a service to a file, if one is named, and ends it with the process.
+///
+/// What the service holds goes back to the system with the process, all at once, and not piece by piece before.
+pub(crate) fn end<'w, F: ImageFiles>(
+    alloc: Global,
+    files: &mut F,
+    engine: Engine,
+    file: Option<&'w str>,
+) -> Result<(), Failure<'w>>
+    ensures saves { SavesAs (option_map (λ name. name.now) file.entry)
+        (F.replaced files.old) (F.replaced files.new) (image engine.content) result }
+    ensures files { IfErr result (FailsWithFiles (F.held files.old) (F.may_fail files.old)) }
+{
+    let saved = save(alloc, files, &engine, file);
+    forget(engine);
+    saved
 }

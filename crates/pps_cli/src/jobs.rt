@@ -37,7 +37,7 @@ pub(crate) fn run_script<'w, F: ImageFiles, I: Read, O: Write, B: BadLines>(
 {
     let mut engine = begin(alloc, files, options.service.beginning)?;
     run_exchange(alloc, &mut engine, options.manner, exchange, bad_lines)?;
-    end(alloc, files, &engine, options.service.save)
+    end(alloc, files, engine, options.service.save)
 }
 
 /// Serves a stream of requests with a service that begins and is saved as it is asked for.
@@ -59,5 +59,5 @@ pub(crate) fn run_frames<'w, F: ImageFiles, I: Read, O: Write>(
 {
     let mut engine = begin(alloc, files, options.beginning)?;
     serve_stream(alloc, &mut engine, exchange)?;
-    end(alloc, files, &engine, options.save)
+    end(alloc, files, engine, options.save)
 }
