@@ -11,7 +11,7 @@ use Rattle.pps_dispatch.specs.Printed.{sessions_text, connections_of}
 use Rattle.pps_dispatch.specs.Serving.{connection_at, IsOfScript, AreOfScripts, AreServedAs}
 use Rattle.pps_dispatch.specs.Sessions.{Conversation}
 use Rattle.pps_dispatch.proofs.SessionsServed.{same-connections}
-use Rattle.pps_cli.specs.declared.fault.Failure.{Failure}
+use Rattle.pps_jobs.specs.declared.fault.Failure.{Failure}
 use Rattle.pps_cli.specs.Sessions.{IsOfFile, AreOfFiles, FailsSession, FailsSessions, PrintsFiles, PrintsSomeFiles}
 
 -- what holds of a file's bytes holds of some

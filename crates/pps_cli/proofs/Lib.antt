@@ -1,3 +1,1 @@
-mod FilesRead
 mod FilesServed
-mod Reading

@@ -7,18 +7,18 @@ use Rattle.pps_types.specs.Writing.{SendsPart, FailsWithDevice}
 use Rattle.pps_types.specs.declared.exchange.Exchange.{Exchange}
 use Rattle.pps_persist.specs.Files.{Replaced, ReplacesNone}
 use Rattle.pps_script.specs.Served.{ReportsIf}
-use Rattle.pps_cli.specs.declared.command_line.Asked.{Asked}
-use Rattle.pps_cli.specs.declared.command_line.Asked.TheVariants.{Run, Frames, Serve, Text}
-use Rattle.pps_cli.specs.declared.command_line.ServeOptions.{ServeOptions}
-use Rattle.pps_cli.specs.declared.fault.Fault.{Fault}
-use Rattle.pps_cli.specs.declared.fault.Fault.TheVariants.{CannotWriteOutput}
-use Rattle.pps_cli.specs.declared.fault.Failure.{Failure}
-use Rattle.pps_cli.specs.declared.fault.Failure.TheVariants as failures
-use Rattle.pps_cli.specs.Faults.{IsFaultOfWords, status_of, status_after}
-use Rattle.pps_cli.specs.Images.{FailsWithFiles}
-use Rattle.pps_cli.specs.Jobs.{Does, RunsOver, ServesOver}
+use Rattle.command_line.specs.declared.asked.Asked.{Asked}
+use Rattle.command_line.specs.declared.asked.Asked.TheVariants.{Run, Frames, Serve, Text}
+use Rattle.command_line.specs.declared.asked.ServeOptions.{ServeOptions}
+use Rattle.command_line.specs.declared.fault.WordsFault.{WordsFault}
+use Rattle.pps_jobs.specs.declared.fault.Fault.TheVariants.{CannotWriteOutput}
+use Rattle.pps_jobs.specs.declared.fault.Failure.{Failure}
+use Rattle.pps_jobs.specs.declared.fault.Failure.TheVariants as failures
+use Rattle.pps_jobs.specs.Faults.{fault_of_words, status_of, status_after}
+use Rattle.pps_jobs.specs.Images.{FailsWithFiles}
+use Rattle.pps_jobs.specs.Jobs.{Does, RunsOver, ServesOver, manner_of}
 use Rattle.pps_cli.specs.Sessions.{Serves}
-use Rattle.pps_cli.specs.Words.{AsksFor}
+use Rattle.command_line.specs.Words.{AsksFor}
 
 -- ---- what is asked for
 
@@ -59,7 +59,7 @@ abbrev pub DoesAsked : {R W X : Type 0} → (R → Option (List ℕ)) → (W →
     → (held : List ℕ → Option (List ℕ)) → Asked → (from to : Exchange R W)
     → (old new : Option (List Replaced)) → Result X Failure → Type 0
 DoesAsked remaining contents held (Run options) from to old new outcome =
-    Does held options.service (RunsOver remaining contents options.manner from to) (to ≡ from)
+    Does held options.service (RunsOver remaining contents (manner_of options) from to) (to ≡ from)
     old new outcome
 DoesAsked remaining contents held (Frames options) from to old new outcome =
     Does held options (ServesOver remaining contents from to) (to ≡ from) old new outcome
@@ -70,7 +70,7 @@ DoesAsked remaining contents held (Text text) from to old new outcome =
 
 -- of nothing but a script that goes on after bad lines is a line reported
 abbrev pub ReportsFor : {B : Type 0} → Asked → (old new : B) → Type 0
-ReportsFor (Run options) old new = ReportsIf options.manner.patient old new
+ReportsFor (Run options) old new = ReportsIf options.interactive old new
 ReportsFor asked old new = new ≡ old
 
 -- ---- words
@@ -78,7 +78,7 @@ ReportsFor asked old new = new ≡ old
 -- nothing was written of what was done whole, but for the bad lines of a script that goes on after them
 abbrev pub IsQuiet : {X : Type 0} → Asked → Result X Failure → (before after : Option (List ℕ))
     → Type 0
-IsQuiet (Run options) (Ok done) before after = options.manner.patient ≡ false → Keeps before after
+IsQuiet (Run options) (Ok done) before after = options.interactive ≡ false → Keeps before after
 IsQuiet asked (Ok done) before after = Keeps before after
 IsQuiet asked (Err failure) before after = Unit {0}
 
@@ -96,16 +96,15 @@ pub record EndsAfter {R W : Type 0} (remaining : R → Option (List ℕ))
   pub quiet : IsQuiet asked outcome before after
 
 -- Words that are no command line ask for nothing, and nothing was done.
-pub record EndsAtOnce {R W : Type 0} (fault : Fault) (from to : Exchange R W)
+pub record EndsAtOnce {R W : Type 0} (fault : WordsFault) (from to : Exchange R W)
     (old new : Option (List Replaced)) (status : ℕ) : Type 0 where
-  pub why : IsFaultOfWords fault
   pub same : to ≡ from
   pub saved : ReplacesNone old new
-  pub ends : status ≡ status_of fault
+  pub ends : status ≡ status_of (fault_of_words fault)
 
 -- what became of words that were read so
 abbrev pub EndsAs : {R W : Type 0} → (R → Option (List ℕ)) → (W → Option (List ℕ))
-    → (held : List ℕ → Option (List ℕ)) → (may_fail : List ℕ → Type 0) → Result Asked Fault
+    → (held : List ℕ → Option (List ℕ)) → (may_fail : List ℕ → Type 0) → Result Asked WordsFault
     → (from to : Exchange R W) → (old new : Option (List Replaced))
     → (before after : Option (List ℕ)) → ℕ → Type 0
 EndsAs remaining contents held may_fail (Ok asked) from to old new before after status =
@@ -118,6 +117,6 @@ pub record RunsWords {R W : Type 0} (words : List (List ℕ)) (remaining : R →
     (contents : W → Option (List ℕ)) (held : List ℕ → Option (List ℕ))
     (may_fail : List ℕ → Type 0) (from to : Exchange R W) (old new : Option (List Replaced))
     (before after : Option (List ℕ)) (status : ℕ) : Type 0 where
-  pub read : Result Asked Fault
+  pub read : Result Asked WordsFault
   pub asks : IfOk read (AsksFor words)
   pub ends : EndsAs remaining contents held may_fail read from to old new before after status

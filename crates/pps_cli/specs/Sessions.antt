@@ -1,7 +1,8 @@
 -- What the program does with sessions of script files.
-use Rattle.std.specs.Prelude.{◌≡◌, ◌⊎◌, ◌<◌, ℕ, Bool, true, List, [], length, map, slice_index_or, option_map, Option, Result, Ok, Err}
+use Rattle.std.specs.Prelude.{◌≡◌, ◌⊎◌, ◌<◌, ℕ, Bool, true, List, [], length, slice_index_or, Option, Result, Ok, Err}
 use Rattle.std.specs.Io.KnownBytes.{Keeps}
 use Rattle.pps_types.specs.Device.{counted_once_more}
+use Rattle.command_line.specs.Names.{scripts_of, history_of}
 use Rattle.pps_dispatch.specs.History.{Pieces, joined}
 use Rattle.pps_dispatch.specs.Printed.{history_text}
 use Rattle.pps_dispatch.specs.Scripts.{IsSessionOf, TellsFirstBad}
@@ -9,19 +10,15 @@ use Rattle.pps_dispatch.specs.declared.session_fault.SessionFault.TheVariants.{B
 use Rattle.pps_dispatch.specs.Serving.{connection_at, PrintsAll, PrintsPart}
 use Rattle.pps_dispatch.specs.Sessions.{Conversation}
 use Rattle.pps_persist.specs.Files.{HoldsOf, Replaced, ReplacesNone}
-use Rattle.pps_cli.specs.declared.command_line.ServeOptions.{ServeOptions}
-use Rattle.pps_cli.specs.declared.fault.Fault.{Fault}
-use Rattle.pps_cli.specs.declared.fault.Fault.TheVariants.{OutOfMemory, CannotWriteOutput}
-use Rattle.pps_cli.specs.declared.fault.Failure.{Failure}
-use Rattle.pps_cli.specs.declared.fault.Failure.TheVariants as failures
-use Rattle.pps_cli.specs.declared.fault.Failure.TheVariants.{CannotRead, BadImage, BadLineOf}
-use Rattle.pps_cli.specs.Images.{IsSaved}
+use Rattle.command_line.specs.declared.asked.ServeOptions.{ServeOptions}
+use Rattle.pps_jobs.specs.declared.fault.Fault.{Fault}
+use Rattle.pps_jobs.specs.declared.fault.Fault.TheVariants.{OutOfMemory, CannotWriteOutput}
+use Rattle.pps_jobs.specs.declared.fault.Failure.{Failure}
+use Rattle.pps_jobs.specs.declared.fault.Failure.TheVariants as failures
+use Rattle.pps_jobs.specs.declared.fault.Failure.TheVariants.{CannotRead, BadImage, BadLineOf}
+use Rattle.pps_jobs.specs.Images.{IsSaved}
 
 -- ---- script files
-
--- the names of the script files
-abbrev pub scripts_of : ServeOptions → List (List ℕ)
-scripts_of options = map (λ file. file.now) options.scripts.items
 
 -- the session of the text that a file holds
 abbrev pub IsOfFile : (held : Option (List ℕ)) → ℕ → Conversation → Type 0
@@ -87,8 +84,7 @@ pub record ServesAll (held : List ℕ → Option (List ℕ)) (options : ServeOpt
     (before after : Option (List ℕ)) (old new : Option (List Replaced)) : Type 0 where
   pub history : Pieces
   pub prints : PrintsFiles held (scripts_of options) history before after
-  pub saved : IsSaved
-      (option_map (λ name. name.now) options.history) old new (history_text (joined history))
+  pub saved : IsSaved (history_of options) old new (history_text (joined history))
 
 -- A fault ended it before all was printed, or the history is not saved. No file was replaced.
 pub record ServesSome (held : List ℕ → Option (List ℕ)) (options : ServeOptions)

@@ -4,12 +4,11 @@ ghost use Rattle.pps_types.specs.Device.{device_inner};
 ghost use Rattle.pps_types.specs.Exchange.{IsFresh};
 ghost use Rattle.pps_types.specs.Writing.{FailsWithDevice};
 ghost use Rattle.pps_cli.specs.Commands.{DoesAsked, PrintsText, ReportsFor};
-ghost use Rattle.pps_cli.specs.Images.{FailsWithFiles};
+ghost use Rattle.pps_jobs.specs.Images.{FailsWithFiles};
 
-use crate::command_line::Asked;
-use crate::fault::{Failure, Fault};
-use crate::jobs::{run_frames, run_script};
 use crate::sessions::serve_scripts;
+use command_line::Asked;
+use pps_jobs::{Failure, Fault, run_frames, run_script};
 use pps_persist::ImageFiles;
 use pps_script::BadLines;
 use pps_types::{Device, Exchange};

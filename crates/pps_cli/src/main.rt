@@ -1,22 +1,16 @@
 //! `pps`: the service as a program.
 #![tactic(auto)]
 
-mod command_line;
 mod commands;
-mod fault;
-mod frames;
-mod images;
-mod jobs;
 mod patient;
-mod script;
-mod script_file;
+mod reporter;
 mod sessions;
+mod system_files;
 mod whole_file;
 mod words;
 
-use fault::{Failure, Fault};
-use images::SystemFiles;
 use patient::Patient;
+use pps_jobs::{Failure, Fault};
 use pps_types::{Device, Exchange};
 use std::convert::AsStr;
 use std::env;
@@ -25,6 +19,7 @@ use std::io::{ErrorKind, IsTerminal, Read, Write};
 use std::process::ExitCode;
 use std::sync::Wait;
 use std::thread::Threads;
+use system_files::SystemFiles;
 use words::{report, run_words};
 
 // Does what words ask for, over these streams and the system's files. A read or a write that is interrupted is tried again.

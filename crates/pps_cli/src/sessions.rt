@@ -3,20 +3,19 @@ ghost use Rattle.std.specs.Prelude.{◌≡◌, All, IfOk, IfErr, OnErr, length, 
 ghost use Rattle.pps_types.specs.Device.{device_inner, device_failed, device_stalls};
 ghost use Rattle.pps_types.specs.Writing.{SendsTo};
 ghost use Rattle.pps_dispatch.specs.History.{joined};
-ghost use Rattle.pps_cli.specs.Images.{FailsWithFiles, SavesAs};
-ghost use Rattle.pps_cli.specs.Sessions.{AnswersFaultAre, IsOfFile, AreOfFiles, FailsSession, FailsSessions, TellsOfScripts, PrintsFiles, PrintsSomeFiles, Serves, scripts_of};
+ghost use Rattle.pps_jobs.specs.Images.{FailsWithFiles, SavesAs};
+ghost use Rattle.pps_cli.specs.Sessions.{AnswersFaultAre, IsOfFile, AreOfFiles, FailsSession, FailsSessions, TellsOfScripts, PrintsFiles, PrintsSomeFiles, Serves};
+ghost use Rattle.command_line.specs.Names.{scripts_of};
 ghost use Rattle.pps_dispatch.specs.Named.{Names};
 ghost use Rattle.pps_dispatch.specs.Printed.{sessions_text, connections_of, history_text};
 
-use crate::command_line::ServeOptions;
-use crate::fault::{Failure, Fault};
-use crate::images::cannot_replace;
-use crate::script_file::read_file;
+use command_line::ServeOptions;
 use pps_dispatch::{
     Gate, Segment, ServeError, Served, Session, SessionFault, distinct, serve_named, session_of,
     write_history, write_sessions,
 };
 use pps_engine::Engine;
+use pps_jobs::{Failure, Fault, cannot_replace, read_file};
 use pps_persist::{Contents, FileFault, ImageFiles};
 use pps_types::{AnswerFault, Conn, Device};
 use std::alloc::Global;

@@ -1,13 +1,13 @@
 //! The words of the command line: what they ask for is done, and a failure is reported.
-ghost use Rattle.std.specs.Prelude.{◌≡◌, IfErr, map};
+ghost use Rattle.std.specs.Prelude.{◌≡◌, map};
 ghost use Rattle.pps_types.specs.Exchange.{IsFresh};
+ghost use Rattle.pps_jobs.specs.Faults.{status_of_failure};
 ghost use Rattle.pps_cli.specs.Commands.{EndsAs, RunsWords};
-ghost use Rattle.pps_cli.specs.Faults.{IsFaultOfWords, status_of_failure};
 
-use crate::command_line::{Asked, read_words};
 use crate::commands::run_as;
-use crate::fault::{Failure, Fault};
-use crate::script::Reporter;
+use crate::reporter::Reporter;
+use command_line::{Asked, WordsFault, read_words};
+use pps_jobs::{Failure, Fault};
 use pps_persist::ImageFiles;
 use pps_types::Exchange;
 use std::alloc::Global;
@@ -34,20 +34,19 @@ pub(crate) fn report<E: Write + IsTerminal>(failure: Failure<'_>, errors: &mut E
 fn run_read<'w, F: ImageFiles, R: Threads + Wait + Sync, I: Read, O: Write, E: Write + IsTerminal>(
     rt: &R,
     alloc: Global,
-    read: Result<Asked<'w>, Fault>,
+    read: Result<Asked<'w>, WordsFault>,
     files: &mut F,
     exchange: &mut Exchange<I, O>,
     errors: &mut E,
 ) -> u8
-    requires fresh { IsFresh exchange.old }
-    requires fault { IfErr read IsFaultOfWords }
+    requires { IsFresh exchange.old }
     ensures { EndsAs I.remaining O.contents (F.held files.old) (F.may_fail files.old) read.entry
         exchange.old exchange.new (F.replaced files.old) (F.replaced files.new)
         (E.contents errors.old) (E.contents errors.new) result }
 {
     let asked = match read {
         Ok(asked) => asked,
-        Err(fault) => return report(Failure::Fault(fault), errors),
+        Err(fault) => return report(Failure::Fault(Fault::from(fault)), errors),
     };
     let outcome = run_as(
         rt,

@@ -3,8 +3,8 @@ use Rattle.std.specs.Prelude.{slice_index_or}
 use Rattle.std.proofs.lemmas.List.{length-map, get_or-map}
 use Rattle.std.proofs.lemmas.Result.{err_from_is_err_and}
 use Rattle.pps_dispatch.specs.Serving.{connection_at}
-use Rattle.pps_cli.specs.declared.fault.Fault.TheVariants.{OutOfMemory}
-use Rattle.pps_cli.specs.declared.fault.Failure.TheVariants.{Fault}
+use Rattle.pps_jobs.specs.declared.fault.Fault.TheVariants.{OutOfMemory}
+use Rattle.pps_jobs.specs.declared.fault.Failure.TheVariants.{Fault}
 use Rattle.pps_cli.specs.Sessions.{IsOfFile, AreOfFiles}
 use Rattle.pps_cli.proofs.FilesServed.{fails-at, of_files-more}
 use Rattle.pps_cli.proofs.sessions.read_sessions.Goals as goal

@@ -1,0 +1,5 @@
+pub mod Faults
+pub mod Scripts
+pub mod Frames
+pub mod Images
+pub mod Jobs
