@@ -1,14 +1,18 @@
 -- What the words of a command line ask for, as `clap` reads them for the program's commands.
-use Rattle.std.specs.Prelude.{◌≡◌, ℕ, Bool, true, false, List, [], ◌∷◌, Option, Some, None, codes, option_map, unwrap_or, pos}
+use Rattle.std.specs.Prelude.{◌≡◌, ◌≢◌, ◌⊎◌, ◌&&◌, ℕ, Bool, true, false, List, [], ◌∷◌, Option, Some, None, codes, is_some, nat_le, option_map, unwrap_or, pos}
 use Rattle.std.specs.Str.Parse.{ParsesUnsigned}
 use Rattle.std.specs.declared.num.ParseIntError.{ParseIntError}
-use Rattle.clap.specs.Words.{App, Rule, Shape, ReadsOne, app_of, first_value, matched_of, new_rule, one_text, raw_values, rows_of, rule_of, shape_of, subcommand_of, with_rule}
+use Rattle.clap.specs.Words.{App, IsAmong, Rule, Shape, ReadsOne, app_of, fault_of, first_value, matched_of, new_rule, one_text, raw_values, rows_of, rule_of, shape_of, subcommand_of, with_rule}
 use Rattle.clap.specs.Simple.{new_shape}
 use Rattle.clap.specs.declared.builder.arg.Arg.{Arg}
 use Rattle.clap.specs.declared.builder.command.Command.{Command}
 use Rattle.clap.specs.declared.builder.command.Command.TheViews.{out-Command as fields_of}
 use Rattle.clap.specs.declared.parser.matches.Found.{Found}
 use Rattle.clap.specs.declared.builder.action.ArgAction.TheVariants.{SetTrue, Append, Version}
+use Rattle.clap.specs.declared.error.kind.ErrorKind.{ErrorKind}
+use Rattle.clap.specs.declared.error.kind.ErrorKind.TheVariants.{DisplayHelp, DisplayVersion}
+use Rattle.command_line.specs.declared.fault.WordsFault.{WordsFault}
+use Rattle.command_line.specs.declared.fault.WordsFault.TheVariants.{BadCommandLine, OutOfMemory}
 use Rattle.clap.specs.declared.builder.value_parser.ValueParser.TheVariants.{Signed}
 use Rattle.command_line.specs.declared.asked.Asked.{Asked}
 use Rattle.command_line.specs.declared.asked.Asked.TheVariants.{Run, Frames, Serve, Text}
@@ -33,13 +37,9 @@ option name = record (new_rule name) { long = Some name; value_names = 1 }
 abbrev pub number : List ℕ → Rule
 number name = record (option name) { parser = Some (Signed (pos 0) (pos 65535)) }
 
--- `--image`, which excludes `--limit`
-abbrev pub image_rule : Rule
-image_rule = record (option (codes "image")) { is_free = false }
-
 -- the options of a service
 abbrev pub service_rules : List Rule
-service_rules = image_rule ∷ option (codes "save") ∷ number (codes "limit") ∷ []
+service_rules = option (codes "image") ∷ option (codes "save") ∷ number (codes "limit") ∷ []
 
 -- `--workers`
 abbrev pub workers_rule : Rule
@@ -107,8 +107,14 @@ IsBeginning (Some image) limit (Empty n) = ⊥
 IsBeginning None limit (Image file) = ⊥
 IsBeginning None limit (Empty n) = IsNumber limit 256 n.value
 
+-- whether an image and a limit are given
+abbrev pub has_both : Found → Bool
+has_both found =
+    is_some (first_value found (codes "image")) && is_some (matched_of found (codes "limit"))
+
 -- the options of a service, by the entries of a command
 pub record ServiceIn (found : Found) (options : ServiceOptions) : Type 0 where
+  pub alone : has_both found ≡ false
   pub beginning : IsBeginning (first_value found (codes "image"))
       (one_text found (codes "limit")) options.beginning
   pub saved : saved_to options ≡ first_value found (codes "save")
@@ -136,13 +142,76 @@ CommandAsks name found (Text text) = ⊥
 pub record NamesCommand (words : List (List ℕ)) (asked : Asked) : Type 0 where
   pub name : List ℕ
   pub found : Found
+  pub taken : fault_of pps words ≡ []
   pub named : subcommand_of pps words ≡ Some (name, rows_of found)
   pub asks : CommandAsks name found asked
 
--- Of the help and the version nothing is said.
+-- Among the kinds that `clap` has for the words is this one.
+pub record HasFault (words : List (List ℕ)) (P : ErrorKind → Type 0) : Type 0 where
+  pub kind : ErrorKind
+  pub among : IsAmong kind (fault_of pps words)
+  pub is : P kind
+
+-- it is a text that is asked for
+abbrev pub IsShown : ErrorKind → Type 0
+IsShown k = (k ≡ DisplayHelp) ⊎ (k ≡ DisplayVersion)
+
+-- it is a fault of the words
+abbrev pub IsWrong : ErrorKind → Type 0
+IsWrong k = (k ≢ DisplayHelp) × (k ≢ DisplayVersion)
+
+-- A job is asked for by the words that name it, and a text by those that `clap` answers with one;
+-- which text is not said.
 abbrev pub AsksFor : List (List ℕ) → Asked → Type 0
-AsksFor words (Text text) = Unit {0}
+AsksFor words (Text text) = HasFault words IsShown
 AsksFor words asked = NamesCommand words asked
+
+-- ---- bad command lines
+
+-- a service begins with an image and with a limit, or its limit is 0
+abbrev pub BadService : Found → Type 0
+BadService found = (has_both found ≡ true) ⊎ IsNumber (one_text found (codes "limit")) 256 0
+
+-- the workers are not 1 to 8
+pub record BadWorkers (found : Found) : Type 0 where
+  pub count : ℕ
+  pub asked : IsNumber (one_text found (codes "workers")) 0 count
+  pub range : (nat_le 1 count && nat_le count 8) ≡ false
+
+-- they are not, or no files are there
+abbrev pub BadFiles : Found → Type 0
+BadFiles found = BadWorkers found ⊎ (option_map raw_values (matched_of found (codes "F")) ≡ None)
+
+-- it is no command of the program
+abbrev pub IsNoCommand : List ℕ → Type 0
+IsNoCommand name = (name ≢ codes "run") × ((name ≢ codes "frames") × (name ≢ codes "serve"))
+
+-- a command does not take the entries that it has
+abbrev pub CommandFails : (name : List ℕ) → Found → Type 0
+CommandFails name found =
+    ((name ≡ codes "run") × BadService found)
+    ⊎ (((name ≡ codes "frames") × BadService found)
+    ⊎ (((name ≡ codes "serve") × BadFiles found) ⊎ IsNoCommand name))
+
+-- why nothing is asked for by a command with these entries, unless memory is wanting
+abbrev pub FailsFor : (name : List ℕ) → Found → WordsFault → Type 0
+FailsFor name found BadCommandLine = CommandFails name found
+FailsFor name found OutOfMemory = Unit {0}
+
+-- words that `clap` takes name a command, which does not take the entries that they have for it
+pub record NamesFailing (words : List (List ℕ)) : Type 0 where
+  pub name : List ℕ
+  pub found : Found
+  pub taken : fault_of pps words ≡ []
+  pub named : subcommand_of pps words ≡ Some (name, rows_of found)
+  pub fails : CommandFails name found
+
+-- Words are a bad command line where `clap` has a fault for them, or takes them and has no command for
+-- them that takes its entries. Want of memory may be said of any.
+abbrev pub Refuses : List (List ℕ) → WordsFault → Type 0
+Refuses words BadCommandLine =
+    HasFault words IsWrong ⊎ (NamesFailing words ⊎ (subcommand_of pps words ≡ None))
+Refuses words OutOfMemory = Unit {0}
 
 -- ---- what a caller of `clap` knows of the commands that it makes
 
@@ -162,6 +231,6 @@ pub record IsCommand (shape : Shape) (command : Command) : Type 0 where
 -- the options of a service come to those that a command has
 pub record AddsService (old new : Command) : Type 0 where
   pub app : has_globals old ≡ false
-      → app_of new ≡ with_rule (with_rule (with_rule (app_of old) image_rule)
+      → app_of new ≡ with_rule (with_rule (with_rule (app_of old) (option (codes "image")))
       (option (codes "save"))) (number (codes "limit"))
   pub local : has_globals old ≡ false → has_globals new ≡ false

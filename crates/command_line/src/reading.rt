@@ -1,7 +1,8 @@
 //! What the words of a command line ask for.
-ghost use Rattle.std.specs.Prelude.{IfOk, codes, map};
+ghost use Rattle.std.specs.Prelude.{◌≡◌, false, IfErr, IfOk, OnErr, OnOk, codes, map};
 ghost use Rattle.clap.specs.Matches.{first_value, found_of, one_text};
-ghost use Rattle.command_line.specs.Words.{AsksFor, CommandAsks, FilesIn, IsBeginning, IsNumber, ScriptIn, ServiceIn};
+ghost use Rattle.command_line.specs.Words.{AsksFor, BadFiles, BadService, CommandAsks, FailsFor, FilesIn, IsBeginning, IsNumber, Refuses, ScriptIn, ServiceIn, has_both};
+ghost use Rattle.command_line.specs.declared.fault.WordsFault.TheVariants.{BadCommandLine};
 
 use crate::asked::{Asked, Beginning, RunOptions, ServeOptions, ServiceOptions, Workers};
 use crate::fault::WordsFault;
@@ -14,8 +15,10 @@ use std::convert::AsStr;
 use std::num::NonZeroU16;
 
 fn asked_limit(matches: &ArgMatches<'_>) -> Result<NonZeroU16, WordsFault>
-    ensures { IfOk result (λ limit.
+    ensures limit { IfOk result (λ limit.
         IsNumber (one_text (found_of matches.now) (codes "limit")) 256 limit.value) }
+    ensures fault { IfErr result (λ _.
+        IsNumber (one_text (found_of matches.now) (codes "limit")) 256 0) }
 {
     let limit = matches
         .get_one::<u16>("limit")
@@ -24,18 +27,22 @@ fn asked_limit(matches: &ArgMatches<'_>) -> Result<NonZeroU16, WordsFault>
 }
 
 fn asked_beginning<'w>(matches: &ArgMatches<'w>) -> Result<Beginning<'w>, WordsFault>
-    ensures { IfOk result (
+    ensures beginning { IfOk result (
         IsBeginning (first_value (found_of matches.now) (codes "image"))
         (one_text (found_of matches.now) (codes "limit"))) }
+    ensures alone { OnOk result (has_both (found_of matches.now) ≡ false) }
+    ensures fault { OnErr result (BadService (found_of matches.now)) }
 {
     match matches.get_str("image") {
+        Some(_) if matches.contains_id("limit") => Err(WordsFault::BadCommandLine),
         Some(image) => Ok(Beginning::Image(image)),
         None => Ok(Beginning::Empty(asked_limit(matches)?)),
     }
 }
 
 fn asked_service<'w>(matches: &ArgMatches<'w>) -> Result<ServiceOptions<'w>, WordsFault>
-    ensures { IfOk result (ServiceIn (found_of matches.now)) }
+    ensures service { IfOk result (ServiceIn (found_of matches.now)) }
+    ensures fault { OnErr result (BadService (found_of matches.now)) }
 {
     Ok(ServiceOptions {
         beginning: asked_beginning(matches)?,
@@ -47,7 +54,9 @@ fn asked_scripts<'w>(
     alloc: Global,
     matches: &ArgMatches<'w>,
 ) -> Result<ServeOptions<'w>, WordsFault>
-    ensures { IfOk result (FilesIn (found_of matches.now)) }
+    ensures files { IfOk result (FilesIn (found_of matches.now)) }
+    ensures fault { IfErr result (λ fault.
+        fault ≡ BadCommandLine → BadFiles (found_of matches.now)) }
 {
     let count = matches.get_one::<u16>("workers").unwrap_or(0);
     let workers = Workers::new(count).ok_or(WordsFault::BadCommandLine)?;
@@ -64,7 +73,8 @@ fn asked_scripts<'w>(
 }
 
 fn asked_script<'w>(matches: &ArgMatches<'w>) -> Result<RunOptions<'w>, WordsFault>
-    ensures { IfOk result (ScriptIn (found_of matches.now)) }
+    ensures script { IfOk result (ScriptIn (found_of matches.now)) }
+    ensures fault { OnErr result (BadService (found_of matches.now)) }
 {
     Ok(RunOptions {
         show: matches.get_flag("show"),
@@ -79,7 +89,8 @@ fn asked_command<'w>(
     name: &str,
     matches: &ArgMatches<'w>,
 ) -> Result<Asked<'w>, WordsFault>
-    ensures { IfOk result (CommandAsks name.now (found_of matches.now)) }
+    ensures asks { IfOk result (CommandAsks name.now (found_of matches.now)) }
+    ensures fault { IfErr result (FailsFor name.now (found_of matches.now)) }
 {
     match name {
         "run" => Ok(Asked::Run(asked_script(matches)?)),
@@ -94,7 +105,8 @@ fn asked_command<'w>(
 /// A job is the one that they name, as the contract of `clap` has it, with the options that they name for it. Which words
 /// ask for the help or the version, and which are a bad command line, is not promised, but tested.
 pub fn read_words<'w, S: AsStr>(alloc: Global, words: &'w [S]) -> Result<Asked<'w>, WordsFault>
-    ensures { IfOk result (AsksFor (map S.text words.entry.now)) }
+    ensures asks { IfOk result (AsksFor (map S.text words.entry.now)) }
+    ensures refused { IfErr result (Refuses (map S.text words.entry.now)) }
 {
     let matches = match whole_command(alloc)?.try_get_matches_from(words) {
         Ok(matches) => matches,

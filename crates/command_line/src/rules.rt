@@ -1,7 +1,7 @@
 //! The commands of the program, and their options.
 ghost use Rattle.std.specs.Prelude.{◌≡◌, IfOk, codes};
 ghost use Rattle.clap.specs.Simple.{app_of};
-ghost use Rattle.command_line.specs.Words.{AddsService, IsCommand, IsRule, frames_shape, image_rule, number, option, pps, run_shape, scripts_rule, serve_shape, version_rule, workers_rule};
+ghost use Rattle.command_line.specs.Words.{AddsService, IsCommand, IsRule, frames_shape, number, option, pps, run_shape, scripts_rule, serve_shape, version_rule, workers_rule};
 
 use clap::{Arg, ArgAction, Command, value_parser};
 use std::alloc::{AllocError, Global};
@@ -25,14 +25,12 @@ fn limit_option<'a>(alloc: Global) -> Arg<'a>
         .value_parser(value_parser!(u16))
 }
 
-fn image_option<'a>(alloc: Global) -> Result<Arg<'a>, AllocError>
-    ensures { IfOk result (IsRule image_rule) }
+fn image_option<'a>(alloc: Global) -> Arg<'a>
+    ensures { IsRule (option (codes "image")) result }
 {
-    Arg::new(alloc, "image")
-        .long("image")
-        .value_name("F")
-        .help("Begins with the image in file F, in place of an empty service")
-        .conflicts_with("limit")
+    Arg::new(alloc, "image").long("image").value_name("F").help(
+        "Begins with the image in file F, in place of an empty service",
+    )
 }
 
 fn save_option<'a>(alloc: Global) -> Arg<'a>
@@ -49,7 +47,7 @@ fn with_service<'a>(alloc: Global, command: Command<'a>) -> Result<Command<'a>, 
     ensures { IfOk result (AddsService command.entry) }
 {
     command
-        .arg(image_option(alloc)?)?
+        .arg(image_option(alloc))?
         .arg(save_option(alloc))?
         .arg(limit_option(alloc))
 }

@@ -18,7 +18,7 @@ use Rattle.pps_jobs.specs.Faults.{fault_of_words, status_of, status_after}
 use Rattle.pps_jobs.specs.Images.{FailsWithFiles}
 use Rattle.pps_jobs.specs.Jobs.{Does, RunsOver, ServesOver, manner_of}
 use Rattle.pps_cli.specs.Sessions.{Serves}
-use Rattle.command_line.specs.Words.{AsksFor}
+use Rattle.command_line.specs.Words.{AsksFor, Refuses}
 
 -- ---- what is asked for
 
@@ -112,11 +112,13 @@ EndsAs remaining contents held may_fail (Ok asked) from to old new before after 
 EndsAs remaining contents held may_fail (Err fault) from to old new before after status =
     EndsAtOnce fault from to old new status
 
--- The words were read, and that became of them. A job is the one that they name.
+-- The words were read, and that became of them. A job is the one that they name; and they are refused
+-- only if they are a bad command line, or memory was wanting.
 pub record RunsWords {R W : Type 0} (words : List (List ℕ)) (remaining : R → Option (List ℕ))
     (contents : W → Option (List ℕ)) (held : List ℕ → Option (List ℕ))
     (may_fail : List ℕ → Type 0) (from to : Exchange R W) (old new : Option (List Replaced))
     (before after : Option (List ℕ)) (status : ℕ) : Type 0 where
   pub read : Result Asked WordsFault
   pub asks : IfOk read (AsksFor words)
+  pub refused : IfErr read (Refuses words)
   pub ends : EndsAs remaining contents held may_fail read from to old new before after status

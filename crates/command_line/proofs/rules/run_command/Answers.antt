@@ -2,7 +2,7 @@ use Rattle.std.proofs.Common.{rules, ap, ap₂, codes, false, ◌≡◌, ◌∙�
 use Rattle.std.proofs.lemmas.Result.{IfOk-weaker}
 use Rattle.clap.specs.Walk.{rule_of}
 use Rattle.clap.specs.Simple.{App, app_of, new_app, with_rule}
-use Rattle.command_line.specs.Words.{AddsService, IsCommand, flag, has_globals, image_rule, number, option, run_shape}
+use Rattle.command_line.specs.Words.{AddsService, IsCommand, flag, has_globals, number, option, run_shape}
 use Rattle.command_line.proofs.Named.{local-more}
 use Rattle.command_line.proofs.rules.run_command.Goals as goal
 
@@ -21,6 +21,6 @@ returns c =
     IfOk-weaker c.with_service.result (AddsService c.in_ok-command.command) (IsCommand run_shape)
     (λ command adds. record {
       shape_is = ap (λ (a : App). a.top) (adds.app local
-          ∙ ap (λ (a : App). with_rule (with_rule (with_rule a image_rule) (option (codes "save"))) (number (codes "limit"))) app);
+          ∙ ap (λ (a : App). with_rule (with_rule (with_rule a (option (codes "image"))) (option (codes "save"))) (number (codes "limit"))) app);
       local = adds.local local;
     }) c.with_service.ensures
