@@ -102,8 +102,9 @@ fn asked_command<'w>(
 
 /// What the words of a command line ask for, the first of which is the program's name.
 ///
-/// A job is the one that they name, as the contract of `clap` has it, with the options that they name for it. Which words
-/// ask for the help or the version, and which are a bad command line, is not promised, but tested.
+/// A job is the one that they name, as the contract of `clap` has it, with the options that they name for it. Promised is
+/// also which words ask for the help or the version; what those texts say is tested. It fails with `BadCommandLine` if the
+/// words are no command line of this program, and with `OutOfMemory` if memory is refused.
 pub fn read_words<'w, S: AsStr>(alloc: Global, words: &'w [S]) -> Result<Asked<'w>, WordsFault>
     ensures asks { IfOk result (AsksFor (map S.text words.entry.now)) }
     ensures refused { IfErr result (Refuses (map S.text words.entry.now)) }

@@ -1,12 +1,11 @@
 -- What becomes of a command line: what it asks for is done, and the program ends with a status.
-use Rattle.std.specs.Prelude.{◌≡◌, ℕ, false, List, Option, Result, Ok, Err, IfErr, IfOk, string_bytes}
-use Rattle.std.specs.Io.KnownBytes.{Appends, Keeps}
+use Rattle.std.specs.Prelude.{◌≡◌, ℕ, List, Option, Result, Ok, Err, IfErr, IfOk, string_bytes}
+use Rattle.std.specs.Io.KnownBytes.{Appends}
 use Rattle.pps_types.specs.Device.{device_inner}
 use Rattle.pps_types.specs.Exchange.{output_of, with_output}
 use Rattle.pps_types.specs.Writing.{SendsPart, FailsWithDevice}
 use Rattle.pps_types.specs.declared.exchange.Exchange.{Exchange}
 use Rattle.pps_persist.specs.Files.{Replaced, ReplacesNone}
-use Rattle.pps_script.specs.Served.{ReportsIf}
 use Rattle.command_line.specs.declared.asked.Asked.{Asked}
 use Rattle.command_line.specs.declared.asked.Asked.TheVariants.{Run, Frames, Serve, Text}
 use Rattle.command_line.specs.declared.asked.ServeOptions.{ServeOptions}
@@ -17,7 +16,9 @@ use Rattle.pps_jobs.specs.declared.fault.Failure.TheVariants as failures
 use Rattle.pps_jobs.specs.Faults.{fault_of_words, status_of, status_after}
 use Rattle.pps_jobs.specs.Images.{FailsWithFiles}
 use Rattle.pps_jobs.specs.Jobs.{Does, RunsOver, ServesOver, manner_of}
-use Rattle.pps_cli.specs.Sessions.{Serves}
+use Rattle.pps_cli.specs.Sessions.{Serves, TellsOutput}
+use Rattle.pps_cli.specs.Reports.{Reports, Reported}
+use Rattle.pps_cli.specs.declared.reporter.Reporter.{Reporter}
 use Rattle.command_line.specs.Words.{AsksFor, Refuses}
 
 -- ---- what is asked for
@@ -52,6 +53,7 @@ pub record ServesFiles {R W X : Type 0} (contents : W → Option (List ℕ))
     (from to : Exchange R W) (old new : Option (List Replaced)) (outcome : Result X Failure)
     : Type 0 where
   pub serves : Serves held options (written contents from) (written contents to) old new outcome
+  pub output : TellsOutput (output_of from) (output_of to) outcome
   pub only : ChangesOutput from to
 
 -- what became of what is asked for
@@ -68,57 +70,48 @@ DoesAsked remaining contents held (Serve options) from to old new outcome =
 DoesAsked remaining contents held (Text text) from to old new outcome =
     Prints contents (string_bytes text) from to old new outcome
 
--- of nothing but a script that goes on after bad lines is a line reported
-abbrev pub ReportsFor : {B : Type 0} → Asked → (old new : B) → Type 0
-ReportsFor (Run options) old new = ReportsIf options.interactive old new
-ReportsFor asked old new = new ≡ old
-
 -- ---- words
-
--- nothing was written of what was done whole, but for the bad lines of a script that goes on after them
-abbrev pub IsQuiet : {X : Type 0} → Asked → Result X Failure → (before after : Option (List ℕ))
-    → Type 0
-IsQuiet (Run options) (Ok done) before after = options.interactive ≡ false → Keeps before after
-IsQuiet asked (Ok done) before after = Keeps before after
-IsQuiet asked (Err failure) before after = Unit {0}
 
 -- What was asked for was done or failed, and the program ends so. A file is said to fail only if it
 -- may.
-pub record EndsAfter {R W : Type 0} (remaining : R → Option (List ℕ))
-    (contents : W → Option (List ℕ)) (held : List ℕ → Option (List ℕ))
-    (may_fail : List ℕ → Type 0) (asked : Asked) (from to : Exchange R W)
-    (old new : Option (List Replaced)) (before after : Option (List ℕ)) (status : ℕ)
-    : Type 0 where
+pub record EndsAfter {R W E : Type 0} (remaining : R → Option (List ℕ))
+    (contents : W → Option (List ℕ)) (errors : E → Option (List ℕ))
+    (held : List ℕ → Option (List ℕ)) (may_fail : List ℕ → Type 0) (asked : Asked)
+    (from to : Exchange R W) (old new : Option (List Replaced)) (before after : Reporter E)
+    (status : ℕ) : Type 0 where
   pub outcome : Result (Unit {0}) Failure
   pub does : DoesAsked remaining contents held asked from to old new outcome
   pub files : IfErr outcome (FailsWithFiles held may_fail)
   pub ends : status ≡ status_after outcome
-  pub quiet : IsQuiet asked outcome before after
+  pub reported : Reported errors asked outcome before after
 
 -- Words that are no command line ask for nothing, and nothing was done.
-pub record EndsAtOnce {R W : Type 0} (fault : WordsFault) (from to : Exchange R W)
-    (old new : Option (List Replaced)) (status : ℕ) : Type 0 where
+pub record EndsAtOnce {R W E : Type 0} (errors : E → Option (List ℕ)) (fault : WordsFault)
+    (from to : Exchange R W) (old new : Option (List Replaced)) (before after : Reporter E)
+    (status : ℕ) : Type 0 where
   pub same : to ≡ from
   pub saved : ReplacesNone old new
   pub ends : status ≡ status_of (fault_of_words fault)
+  pub reported : Reports errors (failures.Fault (fault_of_words fault)) before after
 
 -- what became of words that were read so
-abbrev pub EndsAs : {R W : Type 0} → (R → Option (List ℕ)) → (W → Option (List ℕ))
-    → (held : List ℕ → Option (List ℕ)) → (may_fail : List ℕ → Type 0) → Result Asked WordsFault
-    → (from to : Exchange R W) → (old new : Option (List Replaced))
-    → (before after : Option (List ℕ)) → ℕ → Type 0
-EndsAs remaining contents held may_fail (Ok asked) from to old new before after status =
-    EndsAfter remaining contents held may_fail asked from to old new before after status
-EndsAs remaining contents held may_fail (Err fault) from to old new before after status =
-    EndsAtOnce fault from to old new status
+abbrev pub EndsAs : {R W E : Type 0} → (R → Option (List ℕ)) → (W → Option (List ℕ))
+    → (errors : E → Option (List ℕ)) → (held : List ℕ → Option (List ℕ))
+    → (may_fail : List ℕ → Type 0) → Result Asked WordsFault → (from to : Exchange R W)
+    → (old new : Option (List Replaced)) → (before after : Reporter E) → ℕ → Type 0
+EndsAs remaining contents errors held may_fail (Ok asked) from to old new before after status =
+    EndsAfter remaining contents errors held may_fail asked from to old new before after status
+EndsAs remaining contents errors held may_fail (Err fault) from to old new before after status =
+    EndsAtOnce errors fault from to old new before after status
 
 -- The words were read, and that became of them. A job is the one that they name; and they are refused
 -- only if they are a bad command line, or memory was wanting.
-pub record RunsWords {R W : Type 0} (words : List (List ℕ)) (remaining : R → Option (List ℕ))
-    (contents : W → Option (List ℕ)) (held : List ℕ → Option (List ℕ))
-    (may_fail : List ℕ → Type 0) (from to : Exchange R W) (old new : Option (List Replaced))
-    (before after : Option (List ℕ)) (status : ℕ) : Type 0 where
+pub record RunsWords {R W E : Type 0} (words : List (List ℕ)) (remaining : R → Option (List ℕ))
+    (contents : W → Option (List ℕ)) (errors : E → Option (List ℕ))
+    (held : List ℕ → Option (List ℕ)) (may_fail : List ℕ → Type 0) (from to : Exchange R W)
+    (old new : Option (List Replaced)) (before after : Reporter E) (status : ℕ) : Type 0 where
   pub read : Result Asked WordsFault
   pub asks : IfOk read (AsksFor words)
   pub refused : IfErr read (Refuses words)
-  pub ends : EndsAs remaining contents held may_fail read from to old new before after status
+  pub ends : EndsAs remaining contents errors held may_fail read from to old new before after
+      status

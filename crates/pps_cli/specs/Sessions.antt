@@ -1,7 +1,8 @@
 -- What the program does with sessions of script files.
 use Rattle.std.specs.Prelude.{◌≡◌, ◌⊎◌, ◌<◌, ℕ, Bool, true, List, [], length, slice_index_or, Option, Result, Ok, Err}
 use Rattle.std.specs.Io.KnownBytes.{Keeps}
-use Rattle.pps_types.specs.Device.{counted_once_more}
+use Rattle.pps_types.specs.Device.{counted_once_more, device_failed, device_stalls}
+use Rattle.pps_types.specs.declared.device.Device.{Device}
 use Rattle.command_line.specs.Names.{scripts_of, history_of}
 use Rattle.pps_dispatch.specs.History.{Pieces, joined}
 use Rattle.pps_dispatch.specs.Printed.{history_text}
@@ -11,12 +12,11 @@ use Rattle.pps_dispatch.specs.Serving.{connection_at, PrintsAll, PrintsPart}
 use Rattle.pps_dispatch.specs.Sessions.{Conversation}
 use Rattle.pps_persist.specs.Files.{HoldsOf, Replaced, ReplacesNone}
 use Rattle.command_line.specs.declared.asked.ServeOptions.{ServeOptions}
-use Rattle.pps_jobs.specs.declared.fault.Fault.{Fault}
 use Rattle.pps_jobs.specs.declared.fault.Fault.TheVariants.{OutOfMemory, CannotWriteOutput}
 use Rattle.pps_jobs.specs.declared.fault.Failure.{Failure}
 use Rattle.pps_jobs.specs.declared.fault.Failure.TheVariants as failures
-use Rattle.pps_jobs.specs.declared.fault.Failure.TheVariants.{CannotRead, BadImage, BadLineOf}
-use Rattle.pps_jobs.specs.Images.{IsSaved}
+use Rattle.pps_jobs.specs.declared.fault.Failure.TheVariants.{CannotRead, BadLineOf, Serve}
+use Rattle.pps_jobs.specs.Images.{IsSaved, FailsToSave}
 
 -- ---- script files
 
@@ -48,13 +48,20 @@ pub record FailsSessions (held : List ℕ → Option (List ℕ)) (files : List (
   pub why : FailsSession (held (slice_index_or files place [])) (connection_at place)
       (slice_index_or files place []) failure
 
--- what is said of a script file is so
+-- memory was wanting, or the output is not written
+abbrev pub FailsToAnswer : Failure → Type 0
+FailsToAnswer failure =
+    (failure ≡ failures.Fault OutOfMemory) ⊎ (failure ≡ failures.Fault CannotWriteOutput)
+
+-- A script file is not read, or has a line that is none; or the sessions are not served to their
+-- end, or not answered.
 abbrev pub TellsOfScripts : (held : List ℕ → Option (List ℕ)) → (files : List (List ℕ))
     → Failure → Type 0
+TellsOfScripts held files (failures.Fault fault) = FailsToAnswer (failures.Fault fault)
 TellsOfScripts held files (CannotRead named) = FailsSessions held files (CannotRead named)
 TellsOfScripts held files (BadLineOf named line) = FailsSessions held files (BadLineOf named line)
-TellsOfScripts held files (BadImage line) = ⊥
-TellsOfScripts held files failure = Unit {0}
+TellsOfScripts held files (Serve fault) = Unit {0}
+TellsOfScripts held files failure = ⊥
 
 -- ---- what is printed
 
@@ -86,11 +93,16 @@ pub record ServesAll (held : List ℕ → Option (List ℕ)) (options : ServeOpt
   pub prints : PrintsFiles held (scripts_of options) history before after
   pub saved : IsSaved (history_of options) old new (history_text (joined history))
 
+-- why it fails: the sessions do, or the history is not saved
+abbrev pub FailsToServe : (held : List ℕ → Option (List ℕ)) → ServeOptions → Failure → Type 0
+FailsToServe held options failure =
+    TellsOfScripts held (scripts_of options) failure ⊎ FailsToSave (history_of options) failure
+
 -- A fault ended it before all was printed, or the history is not saved. No file was replaced.
 pub record ServesSome (held : List ℕ → Option (List ℕ)) (options : ServeOptions)
     (before after : Option (List ℕ)) (old new : Option (List Replaced)) (failure : Failure)
     : Type 0 where
-  pub told : TellsOfScripts held (scripts_of options) failure
+  pub told : FailsToServe held options failure
   pub prints : PrintsSomeFiles held (scripts_of options) before after
       ⊎ ((history : Pieces) × PrintsFiles held (scripts_of options) history before after)
   pub saved : ReplacesNone old new
@@ -103,9 +115,20 @@ Serves held options before after old new (Ok done) = ServesAll held options befo
 Serves held options before after old new (Err failure) =
     ServesSome held options before after old new failure
 
--- ---- faults
+-- ---- faults of the output
 
--- A fault of the output is told where the device had it, and nowhere else.
-abbrev pub AnswersFaultAre : {X : Type 0} → Result X Fault → (failed_old failed_new : Bool) → (stalls_old stalls_new : ℕ) → Type 0
-AnswersFaultAre (Err CannotWriteOutput) failed_old failed_new old new = (failed_new ≡ true) ⊎ (new ≡ counted_once_more old)
-AnswersFaultAre _ failed_old failed_new old new = (failed_new ≡ failed_old) × (new ≡ old)
+-- it did not fail, and took some bytes at each call
+abbrev pub IsUntroubled : {W : Type 0} → (old new : Device W) → Type 0
+IsUntroubled old new =
+    (device_failed new ≡ device_failed old) × (device_stalls new ≡ device_stalls old)
+
+-- The output is said not to be written where it failed, or once took none of some bytes, and nowhere
+-- else.
+abbrev pub TellsOfOutput : {W : Type 0} → (old new : Device W) → Failure → Type 0
+TellsOfOutput old new (failures.Fault CannotWriteOutput) =
+    (device_failed new ≡ true) ⊎ (device_stalls new ≡ counted_once_more (device_stalls old))
+TellsOfOutput old new failure = IsUntroubled old new
+
+abbrev pub TellsOutput : {W X : Type 0} → (old new : Device W) → Result X Failure → Type 0
+TellsOutput old new (Ok done) = IsUntroubled old new
+TellsOutput old new (Err failure) = TellsOfOutput old new failure

@@ -3,7 +3,8 @@ ghost use Rattle.std.specs.Prelude.{IfErr};
 ghost use Rattle.pps_types.specs.Device.{device_inner};
 ghost use Rattle.pps_types.specs.Exchange.{IsFresh};
 ghost use Rattle.pps_types.specs.Writing.{FailsWithDevice};
-ghost use Rattle.pps_cli.specs.Commands.{DoesAsked, PrintsText, ReportsFor};
+ghost use Rattle.pps_cli.specs.Commands.{DoesAsked, PrintsText};
+ghost use Rattle.pps_cli.specs.Reports.{ReportsFor};
 ghost use Rattle.pps_jobs.specs.Images.{FailsWithFiles};
 
 use crate::sessions::serve_scripts;

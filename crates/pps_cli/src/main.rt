@@ -12,6 +12,7 @@ mod words;
 use patient::Patient;
 use pps_jobs::{Failure, Fault};
 use pps_types::{Device, Exchange};
+use reporter::Reporter;
 use std::convert::AsStr;
 use std::env;
 use std::fs::Files;
@@ -20,21 +21,29 @@ use std::process::ExitCode;
 use std::sync::Wait;
 use std::thread::Threads;
 use system_files::SystemFiles;
-use words::{report, run_words};
+use words::run_words;
 
 // Does what words ask for, over these streams and the system's files. A read or a write that is interrupted is tried again.
-fn run_over<
-    R: AllocGlobal + Files + Threads + Wait + Sync,
-    S: AsStr,
-    I: Read,
-    O: Write,
-    E: Write + IsTerminal,
->(rt: &R, words: &[S], input: &mut I, output: &mut O, errors: &mut E) -> u8 {
+fn run_over<R: AllocGlobal + Files + Threads + Wait + Sync, S: AsStr, I: Read, O: Write, E: Write>(
+    rt: &R,
+    words: &[S],
+    input: &mut I,
+    output: &mut O,
+    reporter: &mut Reporter<E>,
+) -> u8 {
     let input = Device::new(Patient::new(input));
     let output = Device::new(Patient::new(output));
     match Exchange::new(rt.alloc(), input, output) {
-        Ok(mut exchange) => run_words(rt, words, &mut SystemFiles::new(rt), &mut exchange, errors),
-        Err(_) => report(Failure::Fault(Fault::OutOfMemory), errors),
+        Ok(mut exchange) => {
+            run_words(
+                rt,
+                words,
+                &mut SystemFiles::new(rt),
+                &mut exchange,
+                reporter,
+            )
+        }
+        Err(_) => reporter.report_failure(Failure::Fault(Fault::OutOfMemory)),
     }
 }
 
@@ -49,14 +58,17 @@ fn words_of(rt: &HostRuntime) -> Result<Vec<String>, Fault> {
 }
 
 fn main(rt: HostRuntime) -> ExitCode {
+    let errors = rt.stderr();
+    let on_terminal = errors.is_terminal();
+    let mut reporter = Reporter::new(Patient::new(errors), on_terminal);
     let status = match words_of(&rt) {
-        Err(fault) => report(Failure::Fault(fault), &mut rt.stderr()),
+        Err(fault) => reporter.report_failure(Failure::Fault(fault)),
         Ok(words) => run_over(
             &rt,
             words.as_slice(),
             &mut rt.stdin(),
             &mut rt.stdout(),
-            &mut rt.stderr(),
+            &mut reporter,
         ),
     };
     ExitCode::from(status)

@@ -1,10 +1,10 @@
 //! Script files, served as sessions by several threads.
 ghost use Rattle.std.specs.Prelude.{◌≡◌, All, IfOk, IfErr, OnErr, length, map, option_map};
-ghost use Rattle.pps_types.specs.Device.{device_inner, device_failed, device_stalls};
+ghost use Rattle.pps_types.specs.Device.{device_inner};
 ghost use Rattle.pps_types.specs.Writing.{SendsTo};
 ghost use Rattle.pps_dispatch.specs.History.{joined};
 ghost use Rattle.pps_jobs.specs.Images.{FailsWithFiles, SavesAs};
-ghost use Rattle.pps_cli.specs.Sessions.{AnswersFaultAre, IsOfFile, AreOfFiles, FailsSession, FailsSessions, TellsOfScripts, PrintsFiles, PrintsSomeFiles, Serves};
+ghost use Rattle.pps_cli.specs.Sessions.{IsOfFile, AreOfFiles, FailsSession, FailsSessions, FailsToAnswer, TellsOfScripts, TellsOutput, PrintsFiles, PrintsSomeFiles, Serves};
 ghost use Rattle.command_line.specs.Names.{scripts_of};
 ghost use Rattle.pps_dispatch.specs.Named.{Names};
 ghost use Rattle.pps_dispatch.specs.Printed.{sessions_text, connections_of, history_text};
@@ -15,7 +15,7 @@ use pps_dispatch::{
     write_history, write_sessions,
 };
 use pps_engine::Engine;
-use pps_jobs::{Failure, Fault, cannot_replace, read_file};
+use pps_jobs::{Failure, Fault, ServingFault, cannot_replace, read_file};
 use pps_persist::{Contents, FileFault, ImageFiles};
 use pps_types::{AnswerFault, Conn, Device};
 use std::alloc::Global;
@@ -106,20 +106,20 @@ fn write_answers<'w, O: Write>(
     scripts: &[&'w str],
     served: &Served,
     output: &mut Device<O>,
-) -> Result<(), Fault>
+) -> Result<(), Failure<'w>>
     requires files { length scripts.now ≡ length served.now.sessions.items }
     requires named { All (Names served.now.segments.items) served.now.sessions.items }
     ensures bytes { SendsTo O.contents output.old output.new
         (sessions_text (map (λ file. file.now) scripts.now)
         (connections_of served.now.sessions.items) (joined served.now.segments.items)) result }
-    ensures fault { AnswersFaultAre result (device_failed output.old) (device_failed output.new)
-        (device_stalls output.old) (device_stalls output.new) }
+    ensures told { IfErr result FailsToAnswer }
+    ensures output { TellsOutput output.old output.new result }
 {
     let segments = served.segments.as_slice();
     match write_sessions(alloc, scripts, segments, served.sessions.as_slice(), output) {
         Ok(()) => Ok(()),
-        Err(AnswerFault::OutOfMemory) => Err(Fault::OutOfMemory),
-        Err(AnswerFault::WriteFault) => Err(Fault::CannotWriteOutput),
+        Err(AnswerFault::OutOfMemory) => Err(Failure::Fault(Fault::OutOfMemory)),
+        Err(AnswerFault::WriteFault) => Err(Failure::Fault(Fault::CannotWriteOutput)),
     }
 }
 
@@ -181,11 +181,12 @@ fn serve_sessions<'w, F: ImageFiles, R: Threads + Wait + Sync, O: Write>(
     ensures some { OnErr result (
         PrintsSomeFiles (F.held files.now) (scripts_of options.now)
         (O.contents (device_inner output.old)) (O.contents (device_inner output.new))) }
+    ensures output { TellsOutput output.old output.new result }
 {
     let scripts = options.scripts.as_slice();
     let sessions = read_sessions(alloc, files, scripts)?;
     if !distinct(sessions.as_slice()) {
-        return Err(Failure::Serve { name: "Mismatch" });
+        return Err(Failure::Serve(ServingFault::Mismatch));
     }
     let engine = Engine::new(alloc)?;
     let workers = options.workers.count();
@@ -195,16 +196,14 @@ fn serve_sessions<'w, F: ImageFiles, R: Threads + Wait + Sync, O: Write>(
             write_answers(alloc, scripts, &served, output)?;
             Ok(served)
         }
-        Err(ServeError::OutOfMemory) => Err(Failure::Serve {
-            name: "OutOfMemory",
-        }),
-        Err(ServeError::Mismatch) => Err(Failure::Serve { name: "Mismatch" }),
+        Err(ServeError::OutOfMemory) => Err(Failure::Serve(ServingFault::OutOfMemory)),
+        Err(ServeError::Mismatch) => Err(Failure::Serve(ServingFault::Mismatch)),
     }
 }
 
 /// Reads the scripts, serves their sessions together, and writes their answers to the output, and the order of their
 /// messages to a file where one is named. A file is said not to be read or written only if it may fail, or has more bytes
-/// than are read.
+/// than are read; the output, only where it failed, or once took none of some bytes.
 pub(crate) fn serve_scripts<'w, F: ImageFiles, R: Threads + Wait + Sync, O: Write>(
     rt: &R,
     alloc: Global,
@@ -216,6 +215,7 @@ pub(crate) fn serve_scripts<'w, F: ImageFiles, R: Threads + Wait + Sync, O: Writ
         (O.contents (device_inner output.old)) (O.contents (device_inner output.new))
         (F.replaced files.old) (F.replaced files.new) result }
     ensures files { IfErr result (FailsWithFiles (F.held files.old) (F.may_fail files.old)) }
+    ensures output { TellsOutput output.old output.new result }
 {
     let served = serve_sessions(rt, alloc, files, options, output)?;
     save_history(alloc, files, served.segments.as_slice(), options.history)

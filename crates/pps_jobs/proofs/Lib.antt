@@ -1,1 +1,2 @@
 mod FilesRead
+mod TextsWritten

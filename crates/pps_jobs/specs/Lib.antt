@@ -3,3 +3,4 @@ pub mod Scripts
 pub mod Frames
 pub mod Images
 pub mod Jobs
+pub mod Wording

@@ -8,8 +8,10 @@ mod images;
 mod jobs;
 mod script;
 mod script_file;
+mod wording;
 
-pub use fault::{Failure, Fault};
+pub use fault::{Failure, Fault, ServingFault};
 pub use images::cannot_replace;
 pub use jobs::{run_frames, run_script};
 pub use script_file::read_file;
+pub use wording::write_report;
