@@ -3,10 +3,10 @@
 use crate::page::Page;
 use crate::slip::Slip;
 use crate::words::Words;
-use pps_persist::{EntryLine, read_attribute, read_beginning, read_entry_line};
+use image_text::{EntryLine, read_attribute, read_beginning, read_entry_line};
 use pps_types::LineRef;
 
-/// Answers a row of the crate `pps_persist`.
+/// Answers a row of the crate `image_text`.
 pub(crate) fn answer(words: &mut Words<'_>, page: &mut Page) -> Result<(), Slip> {
     page.line(b"is")?;
     match words.word()? {

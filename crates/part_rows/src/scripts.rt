@@ -4,11 +4,11 @@ use crate::outcomes::read_answer;
 use crate::page::Page;
 use crate::slip::Slip;
 use crate::words::Words;
-use pps_script::{ScriptLine, print_answer, print_shown, read_line};
 use pps_types::{Action, Bytes, Conn, Event, Handle, Mode, Request};
+use script_text::{ScriptLine, print_answer, print_shown, read_line};
 use std::alloc::AllocError;
 
-/// Answers a row of the crate `pps_script`.
+/// Answers a row of the crate `script_text`.
 pub(crate) fn answer(words: &mut Words<'_>, page: &mut Page) -> Result<(), Slip> {
     page.line(b"is")?;
     match words.word()? {

@@ -1,8 +1,8 @@
 //! The words of a row, with a space between each two: plain ones, numbers, and texts in quotes.
 
 use crate::slip::Slip;
-use pps_script::{ScriptLine, read_line};
 use pps_types::{Bytes, Event, Handle, Request, digits_up_to, split_at_first};
+use script_text::{ScriptLine, read_line};
 use std::alloc::Global;
 
 /// The bytes of these characters, which have escapes as the writes of scripts have them.

@@ -4,7 +4,7 @@ use Rattle.std.specs.Prelude.{◌≢◌}
 use Rattle.std.proofs.lemmas.List.{nil_from_length}
 use Rattle.pps_types.specs.declared.event.Event.{Event}
 use Rattle.pps_types.specs.Frame.{stream_of, IsPartial, IsMalformed, too_short, too_long, no_event, Held, Feeds}
-use Rattle.pps_frame.proofs.FrameStreams.{one_reading}
+use Rattle.frame_codec.proofs.FrameStreams.{one_reading}
 use Rattle.pps_dispatch.specs.Sessions.{AreFrames, AreNoFrames}
 
 -- no bytes are the beginning of a frame

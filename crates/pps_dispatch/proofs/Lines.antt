@@ -11,12 +11,12 @@ use Rattle.pps_types.specs.Device.{last_count}
 use Rattle.pps_types.specs.Frame.{event_body, longest_body}
 use Rattle.pps_types.specs.Text.{lines_of, without_empty_end}
 use Rattle.pps_types.proofs.Cuts.{pieces-first, pieces-one}
-use Rattle.pps_script.specs.ScriptLines.{line_of}
-use Rattle.pps_script.specs.declared.script_line.ScriptLine.{ScriptLine}
-use Rattle.pps_script.specs.declared.script_line.ScriptLine.TheVariants.{Nothing, Command}
-use Rattle.pps_script.specs.Script.{script, with_line}
-use Rattle.pps_script.proofs.Pieces.{pieces-some, last-lines}
-use Rattle.pps_script.proofs.Scripts.{joined, script-good}
+use Rattle.script_text.specs.ScriptLines.{line_of}
+use Rattle.script_text.specs.declared.script_line.ScriptLine.{ScriptLine}
+use Rattle.script_text.specs.declared.script_line.ScriptLine.TheVariants.{Nothing, Command}
+use Rattle.script_text.specs.Script.{script, with_line}
+use Rattle.script_text.proofs.Pieces.{pieces-some, last-lines}
+use Rattle.script_text.proofs.Scripts.{joined, script-good}
 use Rattle.pps_dispatch.specs.Sessions.{Conversation, are_of, unanswered}
 use Rattle.pps_dispatch.specs.declared.session_fault.SessionFault.{SessionFault}
 use Rattle.pps_dispatch.specs.declared.session_fault.SessionFault.TheVariants.{BadLine, OutOfMemory}

@@ -10,7 +10,7 @@ use Rattle.pps_types.specs.Merge.{entries_of}
 use Rattle.pps_types.specs.Runs.{Answered}
 use Rattle.pps_lock.specs.declared.book.Receipt.{Receipt}
 use Rattle.pps_lock.specs.Trace.{Piece, receipt}
-use Rattle.pps_script.proofs.Pieces.{head-of}
+use Rattle.script_text.proofs.Pieces.{head-of}
 use Rattle.pps_dispatch.specs.Sessions.{Conversation}
 use Rattle.pps_dispatch.specs.History.{joined, named_in, named_for, Joins, AreServedByName}
 use Rattle.pps_dispatch.specs.Named.{entry_named, Names}

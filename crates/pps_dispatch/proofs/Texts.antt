@@ -9,8 +9,8 @@ use Rattle.pps_types.specs.Runs.{Answered}
 use Rattle.pps_types.specs.Writing.{SendsPart, Holds}
 use Rattle.pps_types.proofs.KnownBytes.{Appends-then, Appends-same}
 use Rattle.pps_types.proofs.Writing.{holds-part, holds-sent, part-more}
-use Rattle.pps_script.specs.Answer.{answer_line}
-use Rattle.pps_script.specs.Script.{answers_of}
+use Rattle.script_text.specs.Answer.{answer_line}
+use Rattle.script_text.specs.Script.{answers_of}
 use Rattle.pps_lock.specs.declared.book.Receipt.{Receipt}
 use Rattle.pps_lock.specs.Trace.{Piece}
 use Rattle.pps_dispatch.specs.History.{joined}

@@ -4,7 +4,7 @@ use Rattle.std.specs.List.{flat_map}
 use Rattle.pps_types.specs.Merge.{entries_of}
 use Rattle.pps_types.specs.Runs.{Answered}
 use Rattle.pps_dispatch.specs.Sessions.{Conversation}
-use Rattle.pps_script.specs.Script.{answers_of}
+use Rattle.script_text.specs.Script.{answers_of}
 
 -- ---- sessions
 

@@ -2,8 +2,8 @@
 use Rattle.std.specs.Prelude.{◌≡◌, ◌≤◌, ℕ, List, [], ◌∷◌, ◌++◌, length, false, Option, Some, None}
 use Rattle.pps_types.specs.declared.event.Event.{Event}
 use Rattle.pps_types.specs.Frame.{event_body, longest_body}
-use Rattle.pps_script.specs.declared.script_line.ScriptLine.{ScriptLine}
-use Rattle.pps_script.specs.declared.script_line.ScriptLine.TheVariants.{Nothing, Command}
+use Rattle.script_text.specs.declared.script_line.ScriptLine.{ScriptLine}
+use Rattle.script_text.specs.declared.script_line.ScriptLine.TheVariants.{Nothing, Command}
 use Rattle.pps_dispatch.specs.declared.session_fault.SessionFault.{SessionFault}
 use Rattle.pps_dispatch.specs.declared.session_fault.SessionFault.TheVariants.{BadLine, OutOfMemory}
 use Rattle.pps_dispatch.specs.Scripts.{is_own}

@@ -6,7 +6,7 @@ ghost use Rattle.pps_dispatch.specs.Named.{Names};
 use crate::fault::ServeError;
 use crate::named_entry::entry_at;
 use crate::session::Session;
-use pps_frame::encode_outcome;
+use frame_codec::encode_outcome;
 use pps_lock::Segment;
 use std::alloc::Global;
 

@@ -6,7 +6,7 @@ ghost use Rattle.pps_types.specs.Exchange.{AnswerFaultIs};
 ghost use Rattle.pps_types.specs.Merge.{entries_of};
 ghost use Rattle.pps_types.specs.Writing.{SendsTo};
 ghost use Rattle.pps_dispatch.specs.History.{joined};
-ghost use Rattle.pps_script.specs.Script.{answers_of};
+ghost use Rattle.script_text.specs.Script.{answers_of};
 ghost use Rattle.pps_dispatch.specs.Printed.{session_line, session_text};
 ghost use Rattle.pps_dispatch.specs.Printed.{sessions_text, connections_of};
 ghost use Rattle.pps_dispatch.specs.Named.{Names};
@@ -14,8 +14,8 @@ ghost use Rattle.pps_dispatch.specs.Named.{Names};
 use crate::named_entry::entry_at;
 use crate::session::Session;
 use pps_lock::Segment;
-use pps_script::print_answer;
 use pps_types::{AnswerFault, Conn, Device};
+use script_text::print_answer;
 use std::alloc::{AllocError, Global};
 use std::io::Write;
 

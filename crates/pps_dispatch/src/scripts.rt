@@ -1,15 +1,15 @@
 //! The session that a script asks for.
 ghost use Rattle.std.specs.Prelude.{◌≡◌, ◌≤◌, ◌↔◌, length, IsTrue, IfOk, IfErr, OnOk};
 ghost use Rattle.pps_types.specs.Frame.{event_body, longest_body};
-ghost use Rattle.pps_script.specs.ScriptLines.{line_of};
+ghost use Rattle.script_text.specs.ScriptLines.{line_of};
 ghost use Rattle.pps_dispatch.specs.Scripts.{Asks, IsSessionOf, TellsFirstBad};
 ghost use Rattle.pps_dispatch.specs.Reading.{AddsLine, FailsLine};
 
 use crate::session::Session;
 use crate::session_fault::SessionFault;
 use pps_lock::Message;
-use pps_script::{ScriptLine, read_line};
 use pps_types::{Conn, Event, Request, split_at_first};
+use script_text::{ScriptLine, read_line};
 use std::alloc::Global;
 
 /// The most bytes of the fields of a request's frame. Its kind and its connection are three bytes of its body beside them.

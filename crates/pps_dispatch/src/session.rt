@@ -5,7 +5,7 @@ ghost use Rattle.pps_types.specs.Merge.{are_distinct};
 ghost use Rattle.pps_dispatch.specs.History.{with_messages_of};
 ghost use Rattle.pps_dispatch.specs.Sessions.{unanswered, are_of, AreFrames, RefusesFrames, RefusesSession};
 
-use pps_frame::{Decoder, Fed};
+use frame_codec::{Decoder, Fed};
 use pps_lock::{Message, Receipt};
 use pps_types::{Conn, Event, Refusal};
 use std::alloc::{AllocError, Global};

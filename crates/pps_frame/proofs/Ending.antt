@@ -9,8 +9,8 @@ use Rattle.pps_types.specs.Writing.{SendsPart}
 use Rattle.pps_types.proofs.KnownBytes.{Appends-none, Appends-same, Consumes-none, keeps_itself}
 use Rattle.pps_engine.proofs.Runs.{runs-stand}
 use Rattle.pps_types.proofs.Writing.{holds-part, holds-sent, part-more}
-use Rattle.pps_frame.specs.declared.ends.Ended.{Ended}
-use Rattle.pps_frame.specs.declared.ends.Ended.TheVariants.{Clean}
+use Rattle.frame_codec.specs.declared.ends.Ended.{Ended}
+use Rattle.frame_codec.specs.declared.ends.Ended.TheVariants.{Clean}
 use Rattle.pps_frame.specs.declared.ends.RunError.{RunError}
 use Rattle.pps_frame.specs.declared.ends.RunError.TheVariants.{OutOfMemory, ReadFault, WriteFault}
 use Rattle.pps_frame.specs.Served.{answers_of, closing, Stops, Ran}

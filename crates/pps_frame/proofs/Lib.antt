@@ -1,8 +1,3 @@
-pub mod FrameEvents
-pub mod FrameStreams
-pub mod Fronts
-pub mod Gathering
-pub mod Pieces
 pub mod Taken
 pub mod Streams
 pub mod Ending

@@ -13,11 +13,12 @@ use Rattle.pps_types.specs.Writing.{SendsPart, Holds}
 use Rattle.pps_types.proofs.KnownBytes.{Appends-same, Consumes-none, Consumes-then, Consumes-same, keeps_itself}
 use Rattle.pps_engine.proofs.Runs.{runs-append, runs-stand}
 use Rattle.pps_types.proofs.Writing.{holds-none, holds-then, holds-part, holds-sent}
-use Rattle.pps_frame.specs.declared.ends.Ended.{Ended}
-use Rattle.pps_frame.specs.declared.ends.Ended.TheVariants.{Clean, Truncated, Malformed}
+use Rattle.frame_codec.specs.declared.ends.Ended.{Ended}
+use Rattle.frame_codec.specs.declared.ends.Ended.TheVariants.{Clean, Truncated, Malformed}
 use Rattle.pps_frame.specs.declared.ends.RunError.{RunError}
 use Rattle.pps_frame.specs.declared.ends.RunError.TheVariants.{OutOfMemory, ReadFault, WriteFault}
-use Rattle.pps_frame.specs.Served.{answers_of, closing, IsTail, MayEnd, Serves, AnswersWhole}
+use Rattle.frame_codec.specs.Ends.{IsTail}
+use Rattle.pps_frame.specs.Served.{answers_of, closing, MayEnd, Serves, AnswersWhole}
 use Rattle.pps_frame.specs.Sent.{AnswersFirst, ServesAll, ServesPart, ServesPiece, StopsInPiece, AnswersEndOr, Goes, HoldsAll, StopsStream, RunsStream}
 use Rattle.pps_frame.proofs.Taken.{events-append, answers-append, first-then, first-none}
 

@@ -10,10 +10,11 @@ use Rattle.pps_types.specs.Exchange.{input_of, output_of, held_in}
 use Rattle.pps_types.specs.Frame.{HasFrame, stream_of, Held, Feeds}
 use Rattle.pps_types.specs.Runs.{Answered, events_of}
 use Rattle.pps_types.specs.Stands.{RunsSeen}
-use Rattle.pps_frame.specs.declared.ends.Ended.{Ended}
+use Rattle.frame_codec.specs.declared.ends.Ended.{Ended}
 use Rattle.pps_frame.specs.declared.ends.RunError.{RunError}
 use Rattle.pps_frame.specs.declared.ends.RunError.TheVariants.{OutOfMemory, ReadFault, WriteFault}
-use Rattle.pps_frame.specs.Served.{answers_of, closing, IsTail, MayEnd, Serves, AnswersWhole, most_reads, reads_from}
+use Rattle.frame_codec.specs.Ends.{IsTail}
+use Rattle.pps_frame.specs.Served.{answers_of, closing, MayEnd, Serves, AnswersWhole, most_reads, reads_from}
 
 -- ---- bytes that answer, after those that were held
 

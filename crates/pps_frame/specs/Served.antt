@@ -7,20 +7,15 @@ use Rattle.pps_types.specs.Device.{counted_once_more, last_count}
 use Rattle.pps_types.specs.Frame.{HasFrame, stream_of, IsPartial, IsMalformed, answer_frame, bad_frame}
 use Rattle.pps_types.specs.Runs.{Answered, events_of}
 use Rattle.pps_types.specs.Stands.{Runs, RunsSeen}
-use Rattle.pps_frame.specs.declared.ends.Ended.{Ended}
-use Rattle.pps_frame.specs.declared.ends.Ended.TheVariants.{Clean, Malformed, Truncated}
+use Rattle.frame_codec.specs.declared.ends.Ended.{Ended}
+use Rattle.frame_codec.specs.declared.ends.Ended.TheVariants.{Clean, Malformed, Truncated}
+use Rattle.frame_codec.specs.Ends.{IsTail}
 use Rattle.pps_frame.specs.declared.ends.RunError.{RunError}
 use Rattle.pps_frame.specs.declared.ends.RunError.TheVariants.{OutOfMemory, ReadFault, WriteFault}
 
 -- the frames of the answers
 abbrev pub answers_of : List Answered → List ℕ
 answers_of answered = flat_map (λ x. answer_frame x.event.conn x.reply) answered
-
--- what stands behind the whole frames, and whether all was read
-abbrev pub IsTail : Ended → List ℕ → Option (List ℕ) → Type 0
-IsTail Clean tail left = (tail ≡ []) × IsAtEnd left
-IsTail Truncated tail left = (tail ≢ []) × IsPartial tail × IsAtEnd left
-IsTail Malformed tail left = IsMalformed tail
 
 -- what is written behind the answers
 abbrev pub closing : Ended → List ℕ

@@ -4,7 +4,8 @@ ghost use Rattle.pps_types.specs.Device.{device_failed, device_stalls};
 ghost use Rattle.pps_types.specs.Exchange.{input_of, output_of};
 ghost use Rattle.pps_frame.specs.Sent.{AnswersEnd, WriteFaultIs};
 
-use crate::ends::{Ended, RunError};
+use crate::ends::RunError;
+use frame_codec::Ended;
 use pps_types::Exchange;
 use std::io::Write;
 

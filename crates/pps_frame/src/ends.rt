@@ -1,21 +1,10 @@
-//! How a stream ends.
+//! Why a stream is left.
 ghost use Rattle.std.specs.Prelude.{◌≡◌};
 ghost use Rattle.pps_frame.specs.declared.ends.RunError.TheVariants as faults;
 ghost use Rattle.pps_frame.specs.Faults.{of_answer};
 
 use pps_types::{AnswerFault, WriteFault};
 use std::alloc::AllocError;
-
-/// How a stream ended.
-#[derive(Clone, Copy, Debug, PartialEq, Eq)]
-pub enum Ended {
-    /// Behind a whole frame, or before the first.
-    Clean,
-    /// At a malformed frame.
-    Malformed,
-    /// Within a frame.
-    Truncated,
-}
 
 /// Why a stream was left.
 #[derive(Clone, Copy, Debug, PartialEq, Eq)]

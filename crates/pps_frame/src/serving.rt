@@ -5,10 +5,9 @@ ghost use Rattle.pps_types.specs.Exchange.{input_of, output_of, held_in};
 ghost use Rattle.pps_frame.specs.Served.{Ran, FaultsAre};
 ghost use Rattle.pps_frame.specs.Sent.{ServesEvents, TakesPiece, WriteFaultIs, RunsPieces, PieceFaultsAre, ends_cut_off};
 
-use crate::answers::put_outcome;
 use crate::closing::answer_end;
-use crate::decoder::{Decoder, Fed};
-use crate::ends::{Ended, RunError};
+use crate::ends::RunError;
+use frame_codec::{Decoder, Ended, Fed, put_outcome};
 use pps_engine::Engine;
 use pps_types::limits::{PIECE, READS_MAX};
 use pps_types::{Event, Exchange};

@@ -2,7 +2,7 @@
 use Rattle.std.specs.Prelude.{◌≡◌, ℕ, List, Bool, false, Option, Result, Ok, Err}
 use Rattle.pps_types.specs.Content.{Content}
 use Rattle.pps_frame.specs.Served.{AnswersAll, AnswersWhole, Stops, FaultsAre}
-use Rattle.pps_frame.specs.declared.ends.Ended.TheVariants.{Clean, Malformed, Truncated}
+use Rattle.frame_codec.specs.declared.ends.Ended.TheVariants.{Clean, Malformed, Truncated}
 use Rattle.pps_frame.specs.declared.ends.RunError.TheVariants.{ReadFault, WriteFault}
 use Rattle.pps_jobs.specs.declared.fault.Fault.{Fault}
 use Rattle.pps_jobs.specs.declared.fault.Fault.TheVariants.{CannotReadInput, CannotWriteOutput, MalformedFrame, CutFrame}

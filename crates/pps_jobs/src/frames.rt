@@ -5,8 +5,9 @@ ghost use Rattle.pps_types.specs.Exchange.{input_of, output_of, held_in};
 ghost use Rattle.pps_jobs.specs.Frames.{ServesStream, DeviceFaults};
 
 use crate::fault::Fault;
+use frame_codec::Ended;
 use pps_engine::Engine;
-use pps_frame::{Ended, RunError, run};
+use pps_frame::{RunError, run};
 use pps_types::Exchange;
 use std::alloc::Global;
 use std::io::{Read, Write};

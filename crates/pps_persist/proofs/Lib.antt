@@ -1,6 +1,3 @@
-pub mod Numbers
-pub mod Paths
-pub mod Regroup
 pub mod Restored
 pub mod Added
 pub mod Judging
@@ -9,4 +6,3 @@ pub mod Cuts
 pub mod Inputs
 pub mod Sendings
 pub mod FromFiles
-pub mod SetLines

@@ -10,9 +10,9 @@ use Rattle.pps_types.specs.Content.{Content}
 use Rattle.pps_types.specs.Stands.{Stands}
 use Rattle.pps_types.specs.Image as image
 use Rattle.pps_types.specs.Image.{Image, Saved, SavedDirectory, SavedObject, Position, First, Between, Within, Behind, may_follow, with_entry, in_object, loaded_with, first_line, entry_line, attribute_line, line_read, IsImage}
-use Rattle.pps_persist.specs.declared.reading.EntryLine.{EntryLine}
-use Rattle.pps_persist.specs.declared.reading.EntryLine.TheVariants.{Directory, Object as ObjectLine, End}
-use Rattle.pps_persist.specs.Lines.{position_after}
+use Rattle.image_text.specs.declared.reading.EntryLine.{EntryLine}
+use Rattle.image_text.specs.declared.reading.EntryLine.TheVariants.{Directory, Object as ObjectLine, End}
+use Rattle.image_text.specs.Lines.{position_after}
 use Rattle.image_laws.specs.Images.{read_all, IsPrintable}
 use Rattle.image_laws.proofs.Good.{good}
 use Rattle.image_laws.proofs.Lines.{read_all-append}

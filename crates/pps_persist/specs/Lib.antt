@@ -1,5 +1,3 @@
-pub mod Lines
-pub mod Printed
 pub mod Judged
 pub mod Held
 pub mod Begun

@@ -1,12 +1,12 @@
 //! Entries of images, restored.
 ghost use Rattle.std.specs.Prelude.{◌≡◌, ◌<◌, length, IfOk};
-ghost use Rattle.pps_persist.specs.Lines.{IsPlain, IsReadPath};
+ghost use Rattle.image_text.specs.Lines.{IsPlain, IsReadPath};
 ghost use Rattle.pps_persist.specs.Held.{IsLoaded, IsLoadedObject, AddsDirectory, AddsObject, AddsLine};
 ghost use Rattle.pps_persist.specs.Judged.{judged};
 
 use crate::errors::Fault;
 use crate::place::{Loaded, Object};
-use crate::reading::read_attribute;
+use image_text::read_attribute;
 use pps_engine::path_order;
 use pps_types::limits::ATTRIBUTES_MAX;
 use pps_types::{Bytes, Refusal};

@@ -1,13 +1,13 @@
 //! Lines of images, taken one after the other.
 ghost use Rattle.std.specs.Prelude.{◌<◌, List, ℕ, length};
 ghost use Rattle.pps_persist.specs.declared.place.Place.TheVariants as places;
-ghost use Rattle.pps_persist.specs.Lines.{IsPlain};
+ghost use Rattle.image_text.specs.Lines.{IsPlain};
 ghost use Rattle.pps_persist.specs.Held.{IsAt, IsPlace, IsWithin, Takes};
 
 use crate::entries::{take_attribute, take_directory, take_object};
 use crate::errors::Fault;
 use crate::place::{Loaded, Object, Place};
-use crate::reading::{EntryLine, read_beginning, read_entry_line};
+use image_text::{EntryLine, read_beginning, read_entry_line};
 use pps_engine::Engine;
 use std::alloc::Global;
 

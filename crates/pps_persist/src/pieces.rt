@@ -1,6 +1,6 @@
 //! Lines of images, read from pieces.
 ghost use Rattle.std.specs.Prelude.{◌≡◌, ◌<◌, ◌+◌, ◌^◌, ◌∷◌, [], List, ℕ, length, IfOk};
-ghost use Rattle.pps_persist.specs.Lines.{IsPlain};
+ghost use Rattle.image_text.specs.Lines.{IsPlain};
 ghost use Rattle.pps_persist.specs.Begun.{has_room, IsReading, IsBegun, TakesBytes, Finishes};
 
 use crate::errors::{Fault, LoadError};

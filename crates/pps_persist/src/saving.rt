@@ -6,7 +6,7 @@ ghost use Rattle.pps_persist.specs.Sent.{Adds, SavesEntries, SavesImage, Answers
 
 use crate::errors::SaveError;
 use crate::output::Output;
-use crate::printing::{push_attribute, push_beginning, push_directory, push_end, push_object};
+use image_text::{push_attribute, push_beginning, push_directory, push_end, push_object};
 use pps_engine::{Engine, SavedEntry};
 use pps_types::Device;
 use std::alloc::{AllocError, Global};

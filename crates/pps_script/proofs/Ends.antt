@@ -13,7 +13,7 @@ use Rattle.pps_types.proofs.Writing.{holds-part, holds-sent, part-more}
 use Rattle.pps_script.specs.declared.manner.Manner.{Manner}
 use Rattle.pps_script.specs.declared.fault.ScriptFault.{ScriptFault}
 use Rattle.pps_script.specs.declared.fault.ScriptFault.TheVariants.{BadLine, OutOfMemory, ReadFault, WriteFault}
-use Rattle.pps_script.specs.Script.{answers_of}
+use Rattle.script_text.specs.Script.{answers_of}
 use Rattle.pps_script.specs.Served.{Serves, AnswersWhole, AnswersFirst, Ran}
 use Rattle.pps_script.specs.Lines.{ServesLines, ServesWhole, EndsInput, RunsInput, ends_cut_off}
 

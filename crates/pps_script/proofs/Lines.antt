@@ -14,16 +14,16 @@ use Rattle.pps_types.specs.Runs.{Answered, events_of}
 use Rattle.pps_engine.proofs.Runs.{runs-append}
 use Rattle.pps_types.proofs.Writing.{holds-then, holds-part, holds-same}
 use Rattle.pps_script.specs.declared.manner.Manner.{Manner}
-use Rattle.pps_script.specs.ScriptLines.{line_of}
-use Rattle.pps_script.specs.declared.script_line.ScriptLine.{ScriptLine}
-use Rattle.pps_script.specs.declared.script_line.ScriptLine.TheVariants.{Nothing, Command}
+use Rattle.script_text.specs.ScriptLines.{line_of}
+use Rattle.script_text.specs.declared.script_line.ScriptLine.{ScriptLine}
+use Rattle.script_text.specs.declared.script_line.ScriptLine.TheVariants.{Nothing, Command}
 use Rattle.pps_script.specs.declared.fault.ScriptFault.{ScriptFault}
 use Rattle.pps_script.specs.declared.fault.ScriptFault.TheVariants.{BadLine, OutOfMemory, ReadFault, WriteFault}
 use Rattle.pps_script.specs.Faults.{of_answer}
-use Rattle.pps_script.specs.Script.{script, heard, or_nothing, with_line, printed, answers_of}
+use Rattle.script_text.specs.Script.{script, heard, or_nothing, with_line, printed, answers_of}
 use Rattle.pps_script.specs.Served.{ReportsIf}
 use Rattle.pps_script.specs.Lines.{ServesLine, Unanswered, ServesLines, HoldsFirst, SendsFirst, EndsLines}
-use Rattle.pps_script.proofs.Scripts.{joined, script-good, script-bad, script-grows}
+use Rattle.script_text.proofs.Scripts.{joined, script-good, script-bad, script-grows}
 
 events-append : (first second : List Answered) → events_of (first ++ second) ≡ events_of first ++ events_of second
 events-append first second = map-append (λ x. x.event) first second

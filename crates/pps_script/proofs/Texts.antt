@@ -15,9 +15,9 @@ use Rattle.pps_types.proofs.Cuts.{pieces-first, pieces-one}
 use Rattle.pps_script.specs.declared.manner.Manner.{Manner}
 use Rattle.pps_script.specs.declared.fault.ScriptFault.{ScriptFault}
 use Rattle.pps_script.specs.declared.fault.ScriptFault.TheVariants.{BadLine, OutOfMemory, ReadFault, WriteFault}
-use Rattle.pps_script.specs.Script.{whole_lines, answers_of}
+use Rattle.script_text.specs.Script.{whole_lines, answers_of}
 use Rattle.pps_script.specs.Lines.{ServesLines, SendsFirst, EndsLines, IsPart, ServesText, EndsText, ServesInput, ServesWhole, EndsInput, RunsInput}
-use Rattle.pps_script.proofs.Pieces.{pieces-behind, none-behind, pieces-on, pieces-some, last-lines}
+use Rattle.script_text.proofs.Pieces.{pieces-behind, none-behind, pieces-on, pieces-some, last-lines}
 use Rattle.pps_script.proofs.Lines.{serves-none, serves-then, ends-then, ends-more, held-of, serves-shown, ends-shown}
 
 -- ---- one text

@@ -1,12 +1,3 @@
-pub mod Answer
-pub mod Asked
-pub mod Escapes
-pub mod Laws
-pub mod ScriptLines
-pub mod Digits
-pub mod ShownLines
-pub mod Spelled
-pub mod Script
 pub mod Faults
 pub mod Served
 pub mod Lines

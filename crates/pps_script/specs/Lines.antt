@@ -15,15 +15,15 @@ use Rattle.pps_types.specs.Runs.{Answered, events_of}
 use Rattle.pps_types.specs.Stands.{StepsSeen, RunsSeen}
 use Rattle.pps_engine.specs.Serving.{Serving}
 use Rattle.pps_script.specs.declared.manner.Manner.{Manner}
-use Rattle.pps_script.specs.declared.script_line.ScriptLine.{ScriptLine}
-use Rattle.pps_script.specs.declared.script_line.ScriptLine.TheVariants.{Nothing, Command}
+use Rattle.script_text.specs.declared.script_line.ScriptLine.{ScriptLine}
+use Rattle.script_text.specs.declared.script_line.ScriptLine.TheVariants.{Nothing, Command}
 use Rattle.pps_script.specs.declared.fault.ScriptFault.{ScriptFault}
 use Rattle.pps_script.specs.declared.fault.ScriptFault.TheVariants.{BadLine, OutOfMemory, ReadFault, WriteFault}
-use Rattle.pps_script.specs.declared.fault.LineFault.{LineFault}
-use Rattle.pps_script.specs.declared.fault.LineFault.TheVariants as lacks
+use Rattle.script_text.specs.declared.fault.LineFault.{LineFault}
+use Rattle.script_text.specs.declared.fault.LineFault.TheVariants as lacks
 use Rattle.pps_script.specs.declared.session.Session.{Session}
-use Rattle.pps_script.specs.ScriptLines.{line_of}
-use Rattle.pps_script.specs.Script.{script, whole_lines, printed, answers_of}
+use Rattle.script_text.specs.ScriptLines.{line_of}
+use Rattle.script_text.specs.Script.{script, whole_lines, printed, answers_of}
 use Rattle.pps_script.specs.Served.{most_reads, reads_from}
 
 -- ---- one line

@@ -11,7 +11,7 @@ use Rattle.pps_types.specs.Stands.{Runs, RunsSeen}
 use Rattle.pps_script.specs.declared.manner.Manner.{Manner}
 use Rattle.pps_script.specs.declared.fault.ScriptFault.{ScriptFault}
 use Rattle.pps_script.specs.declared.fault.ScriptFault.TheVariants.{BadLine, OutOfMemory, ReadFault, WriteFault}
-use Rattle.pps_script.specs.Script.{script, script_of, whole_lines, answers_of}
+use Rattle.script_text.specs.Script.{script, script_of, whole_lines, answers_of}
 
 -- This text was read, and these events were served: the answers are those of every machine that the service was.
 pub record Serves (from to : Option (List ℕ)) (old new : Content) (text : List ℕ) (answered : List Answered) : Type 0 where

@@ -1,26 +1,10 @@
-//! Why a line is not served, and what ends a script before its time.
+//! What ends a script before its time.
 ghost use Rattle.std.specs.Prelude.{◌≡◌};
-ghost use Rattle.pps_script.specs.declared.fault.LineFault.TheVariants as lacks;
 ghost use Rattle.pps_script.specs.declared.fault.ScriptFault.TheVariants as faults;
 ghost use Rattle.pps_script.specs.Faults.{of_answer};
 
 use pps_types::{AnswerFault, WriteFault};
 use std::alloc::AllocError;
-
-/// Why a line is not served.
-#[derive(Clone, Copy, Debug, PartialEq, Eq)]
-pub(crate) enum LineFault {
-    BadLine,
-    OutOfMemory,
-}
-
-impl From<AllocError> for LineFault {
-    ghost from_gives = { λ _ fault. fault ≡ lacks.OutOfMemory };
-
-    fn from(_refused: AllocError) -> LineFault {
-        LineFault::OutOfMemory
-    }
-}
 
 /// What ends a script before its time.
 #[derive(Clone, Copy, Debug, PartialEq, Eq)]

@@ -1,14 +1,11 @@
 //! One line of a script, served.
 ghost use Rattle.std.specs.Prelude.{◌≡◌, ◌++◌, IfErr, OnOk};
-ghost use Rattle.pps_script.specs.Script.{shown_for, printed};
+ghost use Rattle.script_text.specs.Script.{shown_for, printed};
 ghost use Rattle.pps_script.specs.Lines.{ServesBytes, FailsBytes};
 
-use crate::answer::print_answer;
-use crate::fault::LineFault;
-use crate::script_line::{read_command, says_nothing};
-use crate::shown::print_shown;
 use pps_engine::Engine;
 use pps_types::{Event, Outcome, Refusal, Request};
+use script_text::{LineFault, print_answer, print_shown, read_command, says_nothing};
 use std::alloc::{AllocError, Global};
 
 // Pushes what is shown of the values in an answer.

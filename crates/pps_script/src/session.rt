@@ -5,12 +5,13 @@ ghost use Rattle.pps_types.specs.Exchange.{input_of};
 ghost use Rattle.pps_script.specs.Served.{ReportsIf};
 ghost use Rattle.pps_script.specs.Lines.{RunsLine, ServesTextOn, EndsTextOn, RunsText, RunsRest, AnswersLineFault, IsPart, count_of};
 
-use crate::fault::{LineFault, ScriptFault};
+use crate::fault::ScriptFault;
 use crate::line::serve_line;
 use crate::manner::{BadLines, Manner};
 use memchr::memchr;
 use pps_engine::Engine;
 use pps_types::Exchange;
+use script_text::LineFault;
 use std::alloc::Global;
 use std::io::Write;
 

@@ -1,14 +1,15 @@
 //! The image of what a script leaves: saved, loaded, and restored line by line.
 ghost use Rattle.std.specs.Prelude.{◌≡◌, [], IfOk};
-ghost use Rattle.pps_persist.specs.Lines.{is_plain_line, IsImageAttribute, IsImagePath};
+ghost use Rattle.image_text.specs.Lines.{is_plain_line, IsImageAttribute, IsImagePath};
 
 use crate::engines::{copied, played};
 use crate::refused::{Call, Refused};
 use crate::rows::Row;
 use crate::slip::Slip;
+use image_text::read_attribute;
 use open_options::read_path;
 use pps_engine::Engine;
-use pps_persist::{load, read_attribute, save};
+use pps_persist::{load, save};
 use pps_types::{Bytes, Device, HeldLine, Refusal, split_at_first};
 use std::alloc::{AllocError, Global};
 

@@ -1,8 +1,8 @@
 //! Scripts whose commands each have an answer.
 
 use crate::slip::Slip;
-use pps_script::{ScriptLine, print_answer, read_line};
 use pps_types::{Conn, Event, Outcome, Refusal};
+use script_text::{ScriptLine, print_answer, read_line};
 use std::alloc::Global;
 
 /// A command, and the line that its answer is printed as.

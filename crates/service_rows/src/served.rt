@@ -3,8 +3,9 @@
 use crate::failing::{Narrow, Slow};
 use crate::rows::Row;
 use crate::slip::Slip;
+use frame_codec::{Ended, encode_outcome, encode_request};
 use pps_engine::Engine;
-use pps_frame::{Ended, RunError, encode_outcome, encode_request, run};
+use pps_frame::{RunError, run};
 use pps_types::{Device, Exchange};
 use std::alloc::Global;
 

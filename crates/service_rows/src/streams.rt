@@ -4,7 +4,7 @@ ghost use Rattle.std.specs.Prelude.{◌<◌};
 use crate::refused::{Call, Refused};
 use crate::rows::Row;
 use crate::slip::Slip;
-use pps_frame::{Decoder, Fed, encode_request};
+use frame_codec::{Decoder, Fed, encode_request};
 use pps_types::Event;
 use std::alloc::Global;
 

@@ -1,6 +1,6 @@
 //! Lines of images.
 
-use pps_persist::{push_attribute, push_beginning, push_directory, push_end, push_object};
+use image_text::{push_attribute, push_beginning, push_directory, push_end, push_object};
 use pps_types::Bytes;
 use std::alloc::{AllocError, Global};
 use std::test::Fail;

@@ -1,13 +1,13 @@
 //! What the calls restore that an image is loaded by, and what an image saves.
 ghost use Rattle.std.specs.Prelude.{◌≡◌, [], IfOk};
-ghost use Rattle.pps_persist.specs.Lines.{is_plain_line, IsImageAttribute, IsImagePath};
+ghost use Rattle.image_text.specs.Lines.{is_plain_line, IsImageAttribute, IsImagePath};
 
 use crate::scripts::Start::{New, Restored};
 use crate::scripts::Step::{Runs, Saves, Says};
 use crate::scripts::{Step, copy, play, same};
+use image_text::read_attribute;
 use open_options::read_path;
 use pps_engine::{Engine, SavedEntry};
-use pps_persist::read_attribute;
 use pps_types::{Bytes, HeldLine, Refusal};
 use std::alloc::{AllocError, Global};
 use std::process::Abort;

@@ -1,11 +1,11 @@
 //! The lines of scripts, and the answers to them.
 
 use crate::scripts::shared;
-use pps_script::{
-    ScriptLine, answers_are_lines, answers_are_told, commands_are_read, escapes_are_read,
-    numbers_are_decimal, print_answer, read_line,
-};
 use pps_types::{Bytes, Conn, Event, Handle, Outcome, Refusal, Request};
+use script_text::{
+    LineFault, ScriptLine, answers_are_lines, answers_are_told, commands_are_read,
+    escapes_are_read, numbers_are_decimal, print_answer, read_command, read_line, says_nothing,
+};
 use std::alloc::{AllocError, Global};
 use std::test::Fail;
 
@@ -47,5 +47,22 @@ fn every_byte_is_printed_and_read_again(rt: HostRuntime) -> Result<(), Fail> {
         read_line(alloc, line.as_slice())?,
         asks(Request::Write { handle, bytes })
     );
+    Ok(())
+}
+
+#[test]
+fn a_line_says_nothing_or_a_command_or_is_bad(rt: HostRuntime) -> Result<(), Fail> {
+    let alloc = rt.alloc();
+    assert!(rt; says_nothing(b""));
+    assert!(rt; says_nothing(b"# 7 attach"));
+    assert!(rt; !says_nothing(b" "));
+    let conn = Conn::new(7);
+    let request = Request::Attach;
+    assert_eq!(rt;
+        read_command(alloc, b"7 attach"),
+        Ok(Event { conn, request })
+    );
+    assert_eq!(rt; read_command(alloc, b"7  attach"), Err(LineFault::BadLine));
+    assert_eq!(rt; read_command(alloc, b"# 7 attach"), Err(LineFault::BadLine));
     Ok(())
 }

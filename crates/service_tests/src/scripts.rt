@@ -4,8 +4,8 @@ ghost use Rattle.std.specs.Prelude.{◌≡◌, IfOk};
 use crate::images::{restored, saved};
 use open_options::read_path;
 use pps_engine::Engine;
-use pps_script::{ScriptLine, print_answer, read_line};
 use pps_types::{Bytes, Conn, Event, Handle, Outcome, Refusal, SharedBytes};
+use script_text::{ScriptLine, print_answer, read_line};
 use std::alloc::{AllocError, Global};
 use std::process::Abort;
 

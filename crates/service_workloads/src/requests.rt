@@ -2,8 +2,9 @@
 
 use crate::digest::{Digest, Sums};
 use crate::fault::Fault;
+use frame_codec::encode_request;
 use pps_engine::Engine;
-use pps_frame::{encode_request, run};
+use pps_frame::run;
 use pps_types::{Action, Bytes, Conn, Device, Event, Exchange, Handle, Mode, Request};
 use std::alloc::Global;
 

@@ -3,7 +3,7 @@ ghost use Rattle.std.specs.Prelude.{IfOk};
 ghost use Rattle.pps_types.specs.Outcome.{IsSendable};
 
 use crate::scripts::shared;
-use pps_frame::encode_outcome;
+use frame_codec::{encode_outcome, put_outcome};
 use pps_types::{Conn, Handle, Item, Outcome, Refusal};
 use std::alloc::{AllocError, Global};
 use std::test::Fail;
@@ -68,6 +68,22 @@ fn each_answer_has_its_frame(rt: HostRuntime) -> Result<(), Fail> {
     for (number, (conn, frame)) in FRAMES.iter().enumerate() {
         let encoded = encoded(rt.alloc(), *conn, number)?;
         assert_eq!(rt; encoded.as_slice(), *frame, "{number}");
+    }
+    Ok(())
+}
+
+#[test]
+fn a_buffer_holds_the_last_frame_alone(rt: HostRuntime) -> Result<(), Fail> {
+    let alloc = rt.alloc();
+    let mut buffer = Vec::from_slice(alloc, b"what an answer before it left")?;
+    for (number, (conn, frame)) in FRAMES.iter().enumerate() {
+        put_outcome(
+            alloc,
+            &mut buffer,
+            Conn::new(*conn),
+            &answer(alloc, number)?,
+        )?;
+        assert_eq!(rt; buffer.as_slice(), *frame, "{number}");
     }
     Ok(())
 }

@@ -1,7 +1,7 @@
 //! Requests as frames.
 
 use super::{FRAMES, event};
-use pps_frame::{Decoder, encode_request, read_conn};
+use frame_codec::{Decoder, encode_request, read_conn};
 use pps_types::{Bytes, Conn, Event, Handle, Refusal, Request};
 use std::alloc::{AllocError, Global};
 use std::process::Abort;

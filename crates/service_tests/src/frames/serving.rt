@@ -1,8 +1,9 @@
 //! Streams that are served.
 
 use crate::scripts::new_engine;
+use frame_codec::Ended;
 use pps_engine::Engine;
-use pps_frame::{Ended, RunError, run};
+use pps_frame::{RunError, run};
 use pps_types::{Device, Exchange};
 use std::alloc::{AllocError, Global};
 use std::io;

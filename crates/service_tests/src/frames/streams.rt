@@ -1,7 +1,7 @@
 //! Streams in pieces.
 
 use super::{FRAMES, event, stream};
-use pps_frame::{Decoder, FeedFault};
+use frame_codec::{Decoder, Ended, FeedFault};
 use pps_types::Event;
 use std::alloc::{AllocError, Global};
 use std::process::Abort;
@@ -93,6 +93,12 @@ fn a_rest_is_held_until_it_is_whole(rt: HostRuntime) -> Result<(), Fail> {
         let (whole, rest) = whole_within(cut);
         let fed = feed(alloc, &mut decoder, first)?;
         assert!(rt; fed == (Some(whole), rest), "{cut}");
+        let ended = if rest == 0 {
+            Ended::Clean
+        } else {
+            Ended::Truncated
+        };
+        assert_eq!(rt; decoder.ended(), ended, "{cut}");
         let fed = feed(alloc, &mut decoder, second)?;
         assert!(rt; fed == (FRAMES.len().checked_sub(whole), 0), "{cut}");
     }
@@ -145,6 +151,7 @@ fn assert_begun(
     if told.is_some() {
         assert_eq!(rt; told, Some(count));
         assert!(rt; feed(alloc, &mut decoder, &[]) == Err(FeedFault::Failed));
+        assert_eq!(rt; decoder.ended(), Ended::Malformed);
     }
     assert!(rt;
         feed(alloc, &mut Decoder::new(alloc), begun)? == wanted,

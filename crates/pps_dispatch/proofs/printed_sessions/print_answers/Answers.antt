@@ -1,8 +1,8 @@
 use Rattle.std.proofs.Common.{◌++◌, map, ap, ◌∙◌, false}
-use Rattle.pps_script.specs.Answer.{answer_line}
+use Rattle.script_text.specs.Answer.{answer_line}
 use Rattle.pps_types.specs.Merge.{entries_of}
 use Rattle.pps_dispatch.specs.History.{joined}
-use Rattle.pps_script.specs.Script.{answers_of}
+use Rattle.script_text.specs.Script.{answers_of}
 use Rattle.pps_dispatch.specs.Named.{entry_named}
 use Rattle.pps_dispatch.proofs.Names.{names-next, some-next, found-next}
 use Rattle.pps_dispatch.proofs.Texts.{answers-next}

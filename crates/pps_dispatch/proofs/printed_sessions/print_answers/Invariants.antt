@@ -1,6 +1,6 @@
 use Rattle.std.proofs.Common.{◌≡◌, ◌++◌, false, drop}
 use Rattle.pps_types.specs.Merge.{entries_of}
-use Rattle.pps_script.specs.Script.{answers_of}
+use Rattle.script_text.specs.Script.{answers_of}
 use Rattle.pps_dispatch.specs.History.{joined}
 use Rattle.pps_dispatch.proofs.printed_sessions.print_answers.Given as goal
 

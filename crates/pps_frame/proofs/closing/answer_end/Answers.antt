@@ -1,8 +1,8 @@
 use Rattle.std.proofs.Common.{◌≡◌, refl, inl, inr, ◌⊎◌, ap}
 use Rattle.std.proofs.lemmas.Result.{err_from_is_err_and}
 use Rattle.pps_types.specs.Frame.{bad_frame}
-use Rattle.pps_frame.specs.declared.ends.Ended.{Ended}
-use Rattle.pps_frame.specs.declared.ends.Ended.TheVariants.{Malformed, Truncated}
+use Rattle.frame_codec.specs.declared.ends.Ended.{Ended}
+use Rattle.frame_codec.specs.declared.ends.Ended.TheVariants.{Malformed, Truncated}
 use Rattle.pps_frame.specs.Served.{closing}
 use Rattle.pps_frame.proofs.Taken.{first-refused}
 use Rattle.pps_frame.proofs.closing.answer_end.Goals as goal

@@ -4,7 +4,7 @@ use Rattle.pps_types.specs.Device.{device_inner, device_failed, device_reads, de
 use Rattle.pps_types.specs.Exchange.{input_of, output_of, held_in}
 use Rattle.pps_types.proofs.KnownBytes.{Consumes-none, keeps_itself}
 use Rattle.pps_types.proofs.Writing.{or_false}
-use Rattle.pps_frame.specs.declared.ends.Ended.TheVariants.{Malformed}
+use Rattle.frame_codec.specs.declared.ends.Ended.TheVariants.{Malformed}
 use Rattle.pps_frame.specs.Sent.{ServesPiece}
 use Rattle.pps_frame.proofs.Streams.{goes-none, goes-sent, goes-unsent, goes-whole, goes-end, goes-on, goes-wrong, goes-stop, stopped, ends-so, partial-none, read-none}
 use Rattle.pps_frame.proofs.serving.run_pieces.Goals as goal
@@ -39,7 +39,7 @@ returns-in-Ok-eq0-clause-runs g c =
     (omega (arith, c.pieces.invariant.room, c.read.auto.buf)) in
     rw (ap (λ d. remaining (device_inner d)) c.answer_end.ensures.input)
     (ends-so _ to _ _ _ _ _ _ _ c.pieces.decoder.rest c.ended.result c.answer_end.result
-    (goes-end _ here _ _ _ _ _ c.pieces.decoder.rest goes to ended.0) (c.ended.ensures to ended.1) c.answer_end.ensures.bytes)
+    (goes-end _ here _ _ _ _ _ c.pieces.decoder.rest goes to ended.0) (c.ended.ensures.tail c.pieces.invariant.sound to ended.1) c.answer_end.ensures.bytes)
 
 pub returns-in-Err-clause-runs : goal.returns-in-Err-clause-runs
 returns-in-Err-clause-runs g c =

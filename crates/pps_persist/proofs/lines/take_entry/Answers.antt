@@ -2,9 +2,9 @@ use Rattle.std.proofs.Common.{◌≡◌, ℕ, [], ◌∷◌, ◌++◌, Option, S
 use Rattle.std.specs.Prelude.{IfSome}
 use Rattle.std.proofs.lemmas.Result.{err_from_is_err_and}
 use Rattle.pps_types.specs.Names.{Path}
-use Rattle.pps_persist.specs.declared.reading.EntryLine.{EntryLine}
-use Rattle.pps_persist.specs.declared.reading.EntryLine.TheVariants.{Directory, Object}
-use Rattle.pps_persist.specs.Lines.{IsReadPath, NamesReadPath}
+use Rattle.image_text.specs.declared.reading.EntryLine.{EntryLine}
+use Rattle.image_text.specs.declared.reading.EntryLine.TheVariants.{Directory, Object}
+use Rattle.image_text.specs.Lines.{IsReadPath, NamesReadPath}
 use Rattle.pps_persist.proofs.Taken.{loaded-is, leads-nowhere, leads-behind-directory, leads-into-object, leads-to-end, leads-to-no-end, directory-fault, object-fault}
 use Rattle.pps_persist.proofs.lines.take_entry.Goals as goal
 

@@ -5,7 +5,7 @@ use Rattle.pps_types.specs.Exchange.{input_of, output_of, held_in}
 use Rattle.pps_types.proofs.KnownBytes.{Consumes-none, keeps_itself}
 use Rattle.pps_types.proofs.Writing.{or_false}
 use Rattle.pps_script.specs.Lines.{IsPart, count_of}
-use Rattle.pps_script.proofs.Pieces.{read-none}
+use Rattle.pps_script.proofs.Searches.{read-none}
 use Rattle.pps_script.proofs.Lines.{reports-on}
 use Rattle.pps_script.proofs.Texts.{so_far-none, so_far-sent, so_far-moved, so_far-unsent, so_far-more, so_far-stop, so_far-whole, so_far-finish, ends-input, text-shown, end-shown}
 use Rattle.pps_script.proofs.serving.run_pieces.Goals as goal

@@ -1,6 +1,6 @@
 use Rattle.std.proofs.Common.{sym, subst}
-use Rattle.pps_persist.specs.Lines.{IsImagePath}
-use Rattle.pps_persist.proofs.Paths.{path-read}
+use Rattle.image_text.specs.Lines.{IsImagePath}
+use Rattle.image_text.proofs.Paths.{path-read}
 use Rattle.service_rows.proofs.images.names.Goals as goal
 
 pub returns : goal.returns

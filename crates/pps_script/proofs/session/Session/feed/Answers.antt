@@ -4,7 +4,8 @@ use Rattle.std.proofs.lemmas.Result.{err_from_is_err_and}
 use Rattle.pps_types.specs.Device.{device_inner}
 use Rattle.pps_types.specs.Exchange.{output_of, held_in}
 use Rattle.pps_script.specs.Lines.{count_of}
-use Rattle.pps_script.proofs.Pieces.{found, missing, none-behind}
+use Rattle.script_text.proofs.Pieces.{none-behind}
+use Rattle.pps_script.proofs.Searches.{found, missing}
 use Rattle.pps_script.proofs.Texts.{none-served, feeds-part, feeds-bad, feeds-rest}
 use Rattle.pps_script.proofs.session.Session.feed.Goals as goal
 

@@ -3,7 +3,7 @@ use Rattle.std.proofs.lemmas.Result.{err_from_is_err_and}
 use Rattle.pps_types.specs.Device.{device_inner}
 use Rattle.pps_types.specs.Exchange.{output_of, held_in}
 use Rattle.pps_types.specs.Writing.{Holds}
-use Rattle.pps_script.specs.ScriptLines.{line_of}
+use Rattle.script_text.specs.ScriptLines.{line_of}
 use Rattle.pps_script.specs.Lines.{count_of}
 use Rattle.pps_script.proofs.Lines.{ends-bad, passes-bad, served-heard, unanswered-heard, holds-one, serves-one, answer-refused, holds-itself}
 use Rattle.pps_script.proofs.session.Session.run_line.Goals as goal

@@ -5,7 +5,7 @@ use Rattle.pps_types.proofs.Cuts.{length-behind}
 use Rattle.pps_types.specs.Device.{device_inner}
 use Rattle.pps_types.specs.Exchange.{output_of, held_in}
 use Rattle.pps_script.specs.Lines.{count_of}
-use Rattle.pps_script.proofs.Pieces.{found, missing}
+use Rattle.pps_script.proofs.Searches.{found, missing}
 use Rattle.pps_script.proofs.Lines.{serves-shown, ends-shown, reports-on}
 use Rattle.pps_script.proofs.Texts.{runs-start, runs-line, runs-stop, runs-end}
 use Rattle.pps_script.proofs.session.Session.run_lines.Goals as goal

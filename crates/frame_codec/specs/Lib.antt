@@ -1,0 +1,4 @@
+pub mod Ends
+pub mod FrameLaws
+pub mod Encoded
+pub mod Front

@@ -1,5 +1,0 @@
-use Rattle.pps_frame.proofs.FrameEvents as laws
-use Rattle.pps_frame.proofs.laws_of_frames.conn_is_read.Goals as goal
-
-pub returns : goal.returns
-returns c = laws.conn_again

@@ -1,5 +1,0 @@
-use Rattle.pps_frame.proofs.FrameEvents as laws
-use Rattle.pps_frame.proofs.laws_of_frames.event_is_read_again.Goals as goal
-
-pub returns : goal.returns
-returns c = laws.event_again

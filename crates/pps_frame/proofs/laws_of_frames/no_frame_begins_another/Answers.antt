@@ -1,5 +1,0 @@
-use Rattle.pps_frame.proofs.FrameStreams as laws
-use Rattle.pps_frame.proofs.laws_of_frames.no_frame_begins_another.Goals as goal
-
-pub returns : goal.returns
-returns c = laws.no_prefix

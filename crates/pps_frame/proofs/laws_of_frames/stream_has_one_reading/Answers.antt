@@ -1,5 +1,0 @@
-use Rattle.pps_frame.proofs.FrameStreams as laws
-use Rattle.pps_frame.proofs.laws_of_frames.stream_has_one_reading.Goals as goal
-
-pub returns : goal.returns
-returns c = laws.one_reading

@@ -1,5 +1,0 @@
-use Rattle.pps_frame.proofs.FrameStreams as laws
-use Rattle.pps_frame.proofs.laws_of_frames.stream_is_read.Goals as goal
-
-pub returns : goal.returns
-returns c = laws.stream_is_read

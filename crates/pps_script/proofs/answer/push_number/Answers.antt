@@ -1,6 +1,0 @@
-use Rattle.std.proofs.Common.{◌++◌, ◌∙◌, ap, sym}
-use Rattle.std.proofs.lemmas.Fmt.{decimal_digit}
-use Rattle.pps_script.proofs.answer.push_number.Goals as goal
-
-pub returns-then-number-lt10 : goal.returns-then-number-lt10
-returns-then-number-lt10 c = c.in_ok-push.ensures.items ∙ ap (λ ds. c.args.out.now.items ++ ds) (sym (decimal_digit c.args.number c.if-number-lt10.true))

@@ -1,5 +1,0 @@
-use Rattle.pps_script.proofs.Escaping.{put-front}
-use Rattle.pps_script.proofs.chunks.put_front.Goals as goal
-
-pub returns-clause-text : goal.returns-clause-text
-returns-clause-text c = put-front c.args.text.now c.args.bytes.now c.args.at c.args.count c.requires.room c.requires.chunk c.requires.count

@@ -1,5 +1,0 @@
-use Rattle.pps_script.proofs.Decimals.{number-decimal, number-only}
-use Rattle.pps_script.proofs.laws.numbers_are_decimal.Goals as goal
-
-pub returns : goal.returns
-returns c = record { reads = number-decimal; only = number-only }

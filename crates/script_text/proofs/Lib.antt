@@ -1,0 +1,12 @@
+pub mod Decimals
+pub mod Escaping
+pub mod Regroup
+pub mod Replies
+pub mod RoundTrip
+pub mod Spellings
+pub mod Unescaping
+pub mod NumberWords
+pub mod ValueLines
+pub mod Visible
+pub mod Pieces
+pub mod Scripts

@@ -1,0 +1,9 @@
+pub mod Answer
+pub mod Asked
+pub mod Escapes
+pub mod Laws
+pub mod ScriptLines
+pub mod Digits
+pub mod ShownLines
+pub mod Spelled
+pub mod Script
