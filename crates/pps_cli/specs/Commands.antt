@@ -15,9 +15,10 @@ use Rattle.pps_jobs.specs.declared.fault.Failure.{Failure}
 use Rattle.pps_jobs.specs.declared.fault.Failure.TheVariants as failures
 use Rattle.pps_jobs.specs.Faults.{fault_of_words, status_of, status_after}
 use Rattle.pps_jobs.specs.Images.{FailsWithFiles}
-use Rattle.pps_jobs.specs.Jobs.{Does, RunsOver, ServesOver, manner_of}
+use Rattle.pps_jobs.specs.Jobs.{Does, IsUntouched, RunsOver, ServesOver, manner_of}
+use Rattle.pps_script.specs.BadLines.{ReportsEach}
 use Rattle.pps_cli.specs.Sessions.{Serves, TellsOutput}
-use Rattle.pps_cli.specs.Reports.{Reports, Reported}
+use Rattle.pps_cli.specs.Reports.{Reports, ReportsBadLine, ReportsOutcome}
 use Rattle.pps_cli.specs.declared.reporter.Reporter.{Reporter}
 use Rattle.command_line.specs.Words.{AsksFor, Refuses}
 
@@ -56,34 +57,40 @@ pub record ServesFiles {R W X : Type 0} (contents : W → Option (List ℕ))
   pub output : TellsOutput (output_of from) (output_of to) outcome
   pub only : ChangesOutput from to
 
--- what became of what is asked for
-abbrev pub DoesAsked : {R W X : Type 0} → (R → Option (List ℕ)) → (W → Option (List ℕ))
-    → (held : List ℕ → Option (List ℕ)) → Asked → (from to : Exchange R W)
-    → (old new : Option (List Replaced)) → Result X Failure → Type 0
-DoesAsked remaining contents held (Run options) from to old new outcome =
-    Does held options.service (RunsOver remaining contents (manner_of options) from to) (to ≡ from)
-    old new outcome
-DoesAsked remaining contents held (Frames options) from to old new outcome =
+-- What became of what is asked for. Nothing is reported but the bad lines of a script that goes on
+-- after them.
+abbrev pub DoesAsked : {R W B X : Type 0} → (R → Option (List ℕ)) → (W → Option (List ℕ))
+    → (reports : B → ℕ → B → Type 0) → (held : List ℕ → Option (List ℕ)) → Asked
+    → (from to : Exchange R W) → (old new : Option (List Replaced)) → (before after : B)
+    → Result X Failure → Type 0
+DoesAsked remaining contents reports held (Run options) from to old new before after outcome =
+    Does held options.service
+    (RunsOver remaining contents (manner_of options) (ReportsEach reports before after) from to)
+    (IsUntouched from to before after) old new outcome
+DoesAsked remaining contents reports held (Frames options) from to old new before after outcome =
     Does held options (ServesOver remaining contents from to) (to ≡ from) old new outcome
-DoesAsked remaining contents held (Serve options) from to old new outcome =
-    ServesFiles contents held options from to old new outcome
-DoesAsked remaining contents held (Text text) from to old new outcome =
-    Prints contents (string_bytes text) from to old new outcome
+    × (after ≡ before)
+DoesAsked remaining contents reports held (Serve options) from to old new before after outcome =
+    ServesFiles contents held options from to old new outcome × (after ≡ before)
+DoesAsked remaining contents reports held (Text text) from to old new before after outcome =
+    Prints contents (string_bytes text) from to old new outcome × (after ≡ before)
 
 -- ---- words
 
 -- What was asked for was done or failed, and the program ends so. A file is said to fail only if it
--- may.
+-- may. Bad lines are reported first, and then a failure.
 pub record EndsAfter {R W E : Type 0} (remaining : R → Option (List ℕ))
     (contents : W → Option (List ℕ)) (errors : E → Option (List ℕ))
     (held : List ℕ → Option (List ℕ)) (may_fail : List ℕ → Type 0) (asked : Asked)
     (from to : Exchange R W) (old new : Option (List Replaced)) (before after : Reporter E)
     (status : ℕ) : Type 0 where
   pub outcome : Result (Unit {0}) Failure
-  pub does : DoesAsked remaining contents held asked from to old new outcome
+  pub between : Reporter E
+  pub does : DoesAsked remaining contents (ReportsBadLine errors) held asked from to old new before
+      between outcome
   pub files : IfErr outcome (FailsWithFiles held may_fail)
   pub ends : status ≡ status_after outcome
-  pub reported : Reported errors asked outcome before after
+  pub reported : ReportsOutcome errors outcome between after
 
 -- Words that are no command line ask for nothing, and nothing was done.
 pub record EndsAtOnce {R W E : Type 0} (errors : E → Option (List ℕ)) (fault : WordsFault)

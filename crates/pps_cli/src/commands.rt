@@ -4,7 +4,6 @@ ghost use Rattle.pps_types.specs.Device.{device_inner};
 ghost use Rattle.pps_types.specs.Exchange.{IsFresh};
 ghost use Rattle.pps_types.specs.Writing.{FailsWithDevice};
 ghost use Rattle.pps_cli.specs.Commands.{DoesAsked, PrintsText};
-ghost use Rattle.pps_cli.specs.Reports.{ReportsFor};
 ghost use Rattle.pps_jobs.specs.Images.{FailsWithFiles};
 
 use crate::sessions::serve_scripts;
@@ -33,8 +32,8 @@ fn print_text<'w, O: Write>(text: &str, output: &mut Device<O>) -> Result<(), Fa
 /// Does what a command line asks for, over this exchange: it runs a script or serves frames from the input, serves script
 /// files in several threads, or prints a text.
 ///
-/// Bad lines are reported of a script that goes on after them, and of nothing else. A file is said not to be read or
-/// written only if it may fail, or has more bytes than are read.
+/// Each bad line is reported of a script that goes on after them, and nothing of anything else. A file is said not to be
+/// read or written only if it may fail, or has more bytes than are read.
 pub(crate) fn run_as<'w, F: ImageFiles, R: Threads + Wait + Sync, I: Read, O: Write, B: BadLines>(
     rt: &R,
     alloc: Global,
@@ -44,10 +43,10 @@ pub(crate) fn run_as<'w, F: ImageFiles, R: Threads + Wait + Sync, I: Read, O: Wr
     bad_lines: &mut B,
 ) -> Result<(), Failure<'w>>
     requires { IsFresh exchange.old }
-    ensures does { DoesAsked I.remaining O.contents (F.held files.old) asked.entry
-        exchange.old exchange.new (F.replaced files.old) (F.replaced files.new) result }
+    ensures does { DoesAsked I.remaining O.contents B.reports (F.held files.old) asked.entry
+        exchange.old exchange.new (F.replaced files.old) (F.replaced files.new)
+        bad_lines.old bad_lines.new result }
     ensures files { IfErr result (FailsWithFiles (F.held files.old) (F.may_fail files.old)) }
-    ensures reports { ReportsFor asked.entry bad_lines.old bad_lines.new }
 {
     match asked {
         Asked::Run(options) => run_script(alloc, files, options, exchange, bad_lines),

@@ -2,7 +2,7 @@
 ghost use Rattle.std.specs.Prelude.{◌≡◌, false};
 ghost use Rattle.pps_types.specs.Device.{device_failed, device_inner};
 ghost use Rattle.pps_jobs.specs.Faults.{status_of_failure};
-ghost use Rattle.pps_cli.specs.Reports.{Reports};
+ghost use Rattle.pps_cli.specs.Reports.{Reports, ReportsBadLine};
 
 use pps_jobs::{Failure, Fault, write_report};
 use pps_script::BadLines;
@@ -41,6 +41,8 @@ impl<E: Write> Reporter<E> {
 
 /// Bad lines are reported one by one, with what a line looks like.
 impl<E: Write> BadLines for Reporter<E> {
+    ghost reports = { λ old line new. ReportsBadLine E.contents old line new };
+
     fn report(&mut self, line: u64) {
         let failure = Failure::Fault(Fault::BadLine { line });
         let _ = write_report(failure, true, &mut self.errors);

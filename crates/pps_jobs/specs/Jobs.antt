@@ -23,11 +23,11 @@ use Rattle.pps_jobs.specs.Scripts.{RunsScript, ScriptFaultsAre}
 abbrev pub Use : Type 1
 Use = Content → Content → Result (Unit {0}) Fault → Type 0
 
--- a script, over this exchange
+-- a script, over this exchange, where a list of bad lines may be all that are reported
 abbrev pub RunsOver : {R W : Type 0} → (R → Option (List ℕ)) → (W → Option (List ℕ))
-    → Manner → (old new : Exchange R W) → Use
-RunsOver remaining contents how old new begun ended outcome =
-    RunsScript how
+    → Manner → (List ℕ → Type 0) → (old new : Exchange R W) → Use
+RunsOver remaining contents how Reported old new begun ended outcome =
+    RunsScript how Reported
     (remaining (device_inner (input_of old))) (remaining (device_inner (input_of new)))
     (contents (device_inner (output_of old))) (contents (device_inner (output_of new)))
     begun ended outcome
@@ -50,6 +50,10 @@ ServesOver remaining contents old new begun ended outcome =
     (device_stalls (output_of old)) (device_stalls (output_of new))
 
 -- ---- jobs
+
+-- nothing is read, written or reported
+abbrev pub IsUntouched : {X B : Type 0} → (from to : X) → (before after : B) → Type 0
+IsUntouched from to before after = (to ≡ from) × (after ≡ before)
 
 -- how a script is served, as the command line asks for it
 abbrev pub manner_of : RunOptions → Manner

@@ -11,12 +11,12 @@ use Rattle.pps_jobs.specs.declared.fault.Fault.{Fault}
 use Rattle.pps_jobs.specs.declared.fault.Fault.TheVariants.{BadLine, CannotReadInput, CannotWriteOutput}
 
 -- All lines are answered, or those before the first bad one, whose number is told; or, where no more can be read, all that
--- came whole; or, at another fault, the first ones.
-abbrev pub RunsScript : {X : Type 0} → Manner → (from to before after : Option (List ℕ)) → Content → Content → Result X Fault → Type 0
-RunsScript how from to before after old new (Ok done) = AnswersAll how from to before after old new
-RunsScript how from to before after old new (Err (BadLine line)) = AnswersUntil how line from to before after old new
-RunsScript how from to before after old new (Err CannotReadInput) = AnswersWhole how from to before after old new
-RunsScript how from to before after old new (Err _) = AnswersFirst how from to before after old new
+-- came whole; or, at another fault, the first ones. The bad lines that it goes on after are reported as far.
+abbrev pub RunsScript : {X : Type 0} → Manner → (List ℕ → Type 0) → (from to before after : Option (List ℕ)) → Content → Content → Result X Fault → Type 0
+RunsScript how Reported from to before after old new (Ok done) = AnswersAll how Reported from to before after old new
+RunsScript how Reported from to before after old new (Err (BadLine line)) = AnswersUntil how Reported line from to before after old new
+RunsScript how Reported from to before after old new (Err CannotReadInput) = AnswersWhole how Reported from to before after old new
+RunsScript how Reported from to before after old new (Err _) = AnswersFirst how Reported from to before after old new
 
 -- A fault of the input or of the output is told where the device had it, and nowhere else.
 abbrev pub ScriptFaultsAre : {X : Type 0} → Result X Fault → (read_failed write_failed : Bool) → (reads_old reads_new stalls_old stalls_new : ℕ) → Type 0
@@ -28,9 +28,9 @@ ScriptFaultsAre _ r w reads_old reads_new stalls_old stalls_new = (r ≡ false) 
 
 -- what became of a script that came in over it
 abbrev pub RunsScriptOver : {R W X : Type 0} → (R → Option (List ℕ)) → (W → Option (List ℕ)) → Manner
-    → (from to : Exchange R W) → Content → Content → Result X Fault → Type 0
-RunsScriptOver remaining contents how from to old new result =
-    RunsScript how
+    → (List ℕ → Type 0) → (from to : Exchange R W) → Content → Content → Result X Fault → Type 0
+RunsScriptOver remaining contents how Reported from to old new result =
+    RunsScript how Reported
     (remaining (device_inner (input_of from))) (remaining (device_inner (input_of to)))
     (contents (device_inner (output_of from))) (contents (device_inner (output_of to)))
     old new result

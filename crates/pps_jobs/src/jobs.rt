@@ -1,9 +1,9 @@
 //! Jobs: a service begins, is used, and is saved, as the command line asks for it.
 ghost use Rattle.std.specs.Prelude.{◌≡◌, IfErr};
 ghost use Rattle.pps_types.specs.Exchange.{IsFresh};
-ghost use Rattle.pps_script.specs.Served.{ReportsIf};
+ghost use Rattle.pps_script.specs.BadLines.{ReportsEach};
 ghost use Rattle.pps_jobs.specs.Images.{FailsWithFiles};
-ghost use Rattle.pps_jobs.specs.Jobs.{Does, RunsOver, ServesOver, manner_of};
+ghost use Rattle.pps_jobs.specs.Jobs.{Does, IsUntouched, RunsOver, ServesOver, manner_of};
 
 use crate::fault::Failure;
 use crate::frames::serve_stream;
@@ -18,8 +18,8 @@ use std::io::{Read, Write};
 
 /// Runs a script on a service that begins and is saved as it is asked for.
 ///
-/// Nothing is saved if a bad line or a fault ends it. Bad lines are reported only of an interactive script. A file is said
-/// not to be read or written only if it may fail, or has more bytes than are read.
+/// Nothing is saved if a bad line or a fault ends it. Bad lines are reported only of an interactive script, each by its
+/// number, in order. A file is said not to be read or written only if it may fail, or has more bytes than are read.
 pub fn run_script<'w, F: ImageFiles, I: Read, O: Write, B: BadLines>(
     alloc: Global,
     files: &mut F,
@@ -29,11 +29,11 @@ pub fn run_script<'w, F: ImageFiles, I: Read, O: Write, B: BadLines>(
 ) -> Result<(), Failure<'w>>
     requires { IsFresh exchange.old }
     ensures does { Does (F.held files.old) options.entry.service
-        (RunsOver I.remaining O.contents (manner_of options.entry) exchange.old exchange.new)
-        (exchange.new ≡ exchange.old)
+        (RunsOver I.remaining O.contents (manner_of options.entry)
+        (ReportsEach B.reports bad_lines.old bad_lines.new) exchange.old exchange.new)
+        (IsUntouched exchange.old exchange.new bad_lines.old bad_lines.new)
         (F.replaced files.old) (F.replaced files.new) result }
     ensures files { IfErr result (FailsWithFiles (F.held files.old) (F.may_fail files.old)) }
-    ensures reports { ReportsIf options.entry.interactive bad_lines.old bad_lines.new }
 {
     let manner = Manner {
         show: options.show,

@@ -2,7 +2,7 @@
 ghost use Rattle.std.specs.Prelude.{◌≡◌, [], false};
 ghost use Rattle.pps_types.specs.Device.{device_failed};
 ghost use Rattle.pps_types.specs.Exchange.{input_of, output_of, held_in};
-ghost use Rattle.pps_script.specs.Served.{ReportsIf};
+ghost use Rattle.pps_script.specs.BadLines.{ReportsEach};
 ghost use Rattle.pps_jobs.specs.Scripts.{RunsScriptOver, AnswersScriptFault};
 
 use crate::fault::Fault;
@@ -13,8 +13,8 @@ use std::alloc::Global;
 use std::io::{Read, Write};
 
 /// Runs a script from the input on a service, and writes its answers to the output, before it reads on. The first fault
-/// ends it; the answers before it are written. In an interactive script a bad line is no fault: it is reported, and only
-/// then is one.
+/// ends it; the answers before it are written. In an interactive script a bad line is no fault: each is reported, and only
+/// in one.
 pub(crate) fn run_exchange<I: Read, O: Write, B: BadLines>(
     alloc: Global,
     engine: &mut Engine,
@@ -25,10 +25,10 @@ pub(crate) fn run_exchange<I: Read, O: Write, B: BadLines>(
     requires input { device_failed (input_of exchange.old) ≡ false }
     requires output { device_failed (output_of exchange.old) ≡ false }
     requires held { held_in exchange.old ≡ [] }
-    ensures runs { RunsScriptOver I.remaining O.contents manner exchange.old exchange.new
+    ensures runs { RunsScriptOver I.remaining O.contents manner
+        (ReportsEach B.reports bad_lines.old bad_lines.new) exchange.old exchange.new
         engine.old.content engine.new.content result }
     ensures fault { AnswersScriptFault exchange.old exchange.new result }
-    ensures reports { ReportsIf manner.patient bad_lines.old bad_lines.new }
 {
     match serve_script(alloc, engine, manner, exchange, bad_lines) {
         Ok(()) => Ok(()),

@@ -1,5 +1,5 @@
 -- Lines served one after the other, and the answers to them.
-use Rattle.std.proofs.Common.{◌≡◌, ◌+◌, ℕ, length, min, Bool, true, false, List, [], ◌∷◌, ◌++◌, Option, Some, None, Err, append_assoc, append-nil, refl, sym, ap, subst, ◌∙◌, inl, inr, arith}
+use Rattle.std.proofs.Common.{◌≡◌, ◌≢◌, ◌+◌, ℕ, length, min, Bool, true, false, List, [], ◌∷◌, ◌++◌, Option, Some, None, Err, append_assoc, append-nil, refl, sym, ap, subst, ◌∙◌, inl, inr, arith}
 use Rattle.std.specs.Prelude.{option_map}
 use Rattle.std.proofs.lemmas.Grind.{flat_map-append}
 use Rattle.std.proofs.lemmas.List.{map-append}
@@ -21,7 +21,6 @@ use Rattle.pps_script.specs.declared.fault.ScriptFault.{ScriptFault}
 use Rattle.pps_script.specs.declared.fault.ScriptFault.TheVariants.{BadLine, OutOfMemory, ReadFault, WriteFault}
 use Rattle.pps_script.specs.Faults.{of_answer}
 use Rattle.script_text.specs.Script.{script, heard, or_nothing, with_line, printed, answers_of}
-use Rattle.pps_script.specs.Served.{ReportsIf}
 use Rattle.pps_script.specs.Lines.{ServesLine, Unanswered, ServesLines, HoldsFirst, SendsFirst, EndsLines}
 use Rattle.script_text.proofs.Scripts.{joined, script-good, script-bad, script-grows}
 
@@ -70,6 +69,11 @@ pub served-heard : (patient show : Bool) (said : Option ScriptLine) (text : List
 served-heard false show said text old new serves = serves
 served-heard true show None text old new serves = absurd serves
 served-heard true show (Some said) text old new serves = serves
+
+-- it is not bad
+pub served-said : (show : Bool) (said : Option ScriptLine) (text : List ℕ) (old new : Content) → ServesLine show old said text new → said ≢ None
+served-said show None text old new serves = absurd serves
+served-said show (Some said) text old new serves = λ e. let h = e in cc
 
 pub unanswered-heard : (patient : Bool) (said : Option ScriptLine) (old new : Content) → Unanswered old said new → Unanswered old (or_nothing patient said) new
 unanswered-heard false said old new un = un
@@ -284,8 +288,3 @@ serves-shown {a} {b} {held} {left} {old} {new} {lines} {bad} other how same p = 
 pub ends-shown : (count : ℕ) (a b : Option (List ℕ)) (held left : List ℕ) (old new : Content) (lines : List (List ℕ)) (fault : ScriptFault) (other how : Manner) → other ≡ how
     → EndsLines other count a held b left old new lines fault → EndsLines how count a held b left old new lines fault
 ends-shown count a b held left old new lines fault other how same p = subst (λ s. EndsLines s count a held b left old new lines fault) same p
-
--- what is reported of some lines, and then of others
-pub reports-on : {B : Type 0} (other how : Manner) → other ≡ how → (a b c : B)
-    → ReportsIf how.patient a b → ReportsIf other.patient b c → ReportsIf how.patient a c
-reports-on other how same a b c first then = λ quiet. then (ap (λ m. m.patient) same ∙ quiet) ∙ first quiet

@@ -18,6 +18,8 @@ use Rattle.pps_script.specs.declared.fault.ScriptFault.TheVariants.{BadLine, Out
 use Rattle.script_text.specs.Script.{whole_lines, answers_of}
 use Rattle.pps_script.specs.Lines.{ServesLines, SendsFirst, EndsLines, IsPart, ServesText, EndsText, ServesInput, ServesWhole, EndsInput, RunsInput}
 use Rattle.script_text.proofs.Pieces.{pieces-behind, none-behind, pieces-on, pieces-some, last-lines}
+use Rattle.pps_script.specs.BadLines.{passed, ReportsEach, ReportsFirst, ReportsLines}
+use Rattle.pps_script.proofs.Reported.{passed-append, whole-of, lines-front, each-none, first-lines-more, lines-then}
 use Rattle.pps_script.proofs.Lines.{serves-none, serves-then, ends-then, ends-more, held-of, serves-shown, ends-shown}
 
 -- ---- one text
@@ -130,24 +132,26 @@ module _ (how : Manner) (count now : ℕ) (a b c : Option (List ℕ)) (held midd
   }
 
 -- the end of the input is one of its ends
-pub ends-input : (X : Type 0) (how : Manner) (from to before after : Option (List ℕ)) (left : List ℕ) (old new : Content) (fault : ScriptFault) → EndsInput how from to before after left old new fault
-    → RunsInput {X = X} how from to before after left old new (Err fault)
-ends-input X how from to before after left old new (BadLine line) e = e
-ends-input X how from to before after left old new OutOfMemory e = e
-ends-input X how from to before after left old new WriteFault e = e
-ends-input X how from to before after left old new ReadFault e = absurd e.ends
+pub ends-input : (X : Type 0) (how : Manner) (Reported : List ℕ → Type 0) (from to before after : Option (List ℕ)) (left : List ℕ) (old new : Content) (fault : ScriptFault)
+    → EndsInput how Reported from to before after left old new fault → RunsInput {X = X} how Reported from to before after left old new (Err fault)
+ends-input X how Reported from to before after left old new (BadLine line) e = e
+ends-input X how Reported from to before after left old new OutOfMemory e = e
+ends-input X how Reported from to before after left old new WriteFault e = e
+ends-input X how Reported from to before after left old new ReadFault e = absurd e.ends
 
 -- ---- all pieces of an input
 
 -- what was read so far is served, but for the part of a line at its end
-pub record SoFar (how : Manner) (from to before after : Option (List ℕ)) (left : List ℕ) (old new : Content) (count : ℕ) (part : List ℕ) : Type 0 where
+pub record SoFar {B : Type 0} (reports : B → ℕ → B → Type 0) (first now : B) (how : Manner) (from to before after : Option (List ℕ)) (left : List ℕ) (old new : Content) (count : ℕ)
+    (part : List ℕ) : Type 0 where
   pub text : List ℕ
   pub read : Consumes from to text
   pub serves : ServesText how 0 count before [] after left old new text part
+  pub reported : ReportsEach reports first now (passed how.patient 0 serves.lines)
 
-pub so_far-none : (how : Manner) (from before : Option (List ℕ)) (c : Content) (count : ℕ) (part : List ℕ) → count ≡ 0 → part ≡ []
-    → SoFar how from from before before [] c c count part
-so_far-none how from before c count part zero none = record {
+pub so_far-none : {B : Type 0} (reports : B → ℕ → B → Type 0) (first : B) (how : Manner) (from before : Option (List ℕ)) (c : Content) (count : ℕ) (part : List ℕ) → count ≡ 0 → part ≡ []
+    → SoFar reports first first how from from before before [] c c count part
+so_far-none reports first how from before c count part zero none = record {
   text = [];
   read = Consumes-none from from (keeps_itself from);
   serves = record {
@@ -156,12 +160,13 @@ so_far-none how from before c count part zero none = record {
     serves = serves-none how before [] c;
     counted = omega (arith, zero);
   };
+  reported = each-none reports how.patient 0 first;
 }
 
-module _ (how : Manner) (from here before middle : Option (List ℕ)) (left : List ℕ) (old next : Content) (count : ℕ) (part : List ℕ)
-    (far : SoFar how from here before middle left old next count part) where
+module _ {B : Type 0} (reports : B → ℕ → B → Type 0) (first now : B) (how : Manner) (from here before middle : Option (List ℕ)) (left : List ℕ) (old next : Content) (count : ℕ) (part : List ℕ)
+    (far : SoFar reports first now how from here before middle left old next count part) where
   -- all that is held is sent
-  pub so_far-sent : (after : Option (List ℕ)) (none : List ℕ) → Appends middle after left → none ≡ [] → SoFar how from here before after none old next count part
+  pub so_far-sent : (after : Option (List ℕ)) (none : List ℕ) → Appends middle after left → none ≡ [] → SoFar reports first now how from here before after none old next count part
   so_far-sent after none sends is = record {
     text = far.text;
     read = far.read;
@@ -180,6 +185,7 @@ module _ (how : Manner) (from here before middle : Option (List ℕ)) (left : Li
       };
       counted = far.serves.counted;
     };
+    reported = far.reported;
   }
 
   all-lines : (more : List ℕ) → pieces 10 (far.text ++ more) ≡ far.serves.lines ++ pieces 10 (part ++ more)
@@ -189,8 +195,13 @@ module _ (how : Manner) (from here before middle : Option (List ℕ)) (left : Li
   lines-here : lines_of far.text ≡ far.serves.lines ++ without_empty_end (part ∷ [])
   lines-here = ap without_empty_end far.serves.parts ∙ last-lines far.serves.lines (part ∷ []) (λ e. let h = e in cc)
 
+  -- the bad ones of these are those of the lines so far, and of others
+  passed-here : (others : List (List ℕ)) → passed how.patient 0 (far.serves.lines ++ others) ≡ passed how.patient 0 far.serves.lines ++ passed how.patient count others
+  passed-here others = passed-append how.patient 0 count far.serves.lines others (omega arith) far.serves.counted
+
   -- or a part of it
-  pub so_far-unsent : (to after : Option (List ℕ)) (other : List ℕ) → to ≡ here → SendsPart middle after left → EndsInput how from to before after other old next WriteFault
+  pub so_far-unsent : (to after : Option (List ℕ)) (other : List ℕ) → to ≡ here → SendsPart middle after left
+      → EndsInput how (ReportsEach reports first now) from to before after other old next WriteFault
   so_far-unsent to after other same sends = record {
     text = far.text;
     read = subst (λ t. Consumes from t far.text) (sym same) far.read;
@@ -204,21 +215,27 @@ module _ (how : Manner) (from here before middle : Option (List ℕ)) (left : Li
           written = subst (λ t. SendsPart before after t) (append-nil _)
               (holds-part before middle after left _ [] far.serves.serves.written (subst (λ t. SendsPart middle after t) (sym (append-nil left)) sends));
         });
+    numbers = passed how.patient 0 far.serves.lines;
+    others = passed how.patient count (without_empty_end (part ∷ []));
+    bad = ap (λ (ls : List (List ℕ)). passed how.patient 0 ls) lines-here ∙ passed-here (without_empty_end (part ∷ []));
+    reported = far.reported;
   }
 
   -- the same input, and as much that is written and held
-  pub so_far-moved : (here' middle' : Option (List ℕ)) (left' : List ℕ) → here' ≡ here → middle' ≡ middle → left' ≡ left → SoFar how from here' before middle' left' old next count part
+  pub so_far-moved : (here' middle' : Option (List ℕ)) (left' : List ℕ) → here' ≡ here → middle' ≡ middle → left' ≡ left
+      → SoFar reports first now how from here' before middle' left' old next count part
   so_far-moved here' middle' left' h m l =
-      subst (λ x. SoFar how from x before middle' left' old next count part) (sym h)
-      (subst (λ x. SoFar how from here before x left' old next count part) (sym m) (subst (λ x. SoFar how from here before middle x old next count part) (sym l) far))
+      subst (λ x. SoFar reports first now how from x before middle' left' old next count part) (sym h)
+      (subst (λ x. SoFar reports first now how from here before x left' old next count part) (sym m) (subst (λ x. SoFar reports first now how from here before middle x old next count part) (sym l) far))
 
   module _ (to after : Option (List ℕ)) (rest : List ℕ) (new : Content) (piece : List ℕ) (reads : Consumes here to piece) where
     read-on : Consumes from to (far.text ++ piece)
     read-on = Consumes-then from here to far.text piece far.read reads
 
-    pub so_far-more : (more : ℕ) (others : List ℕ) → ServesText how count more middle left after rest next new (part ++ piece) others
-        → SoFar how from to before after rest old new more others
-    so_far-more more others t = record {
+    pub so_far-more : (more : ℕ) (others : List ℕ) (then : B) → ServesText how count more middle left after rest next new (part ++ piece) others
+        → ReportsEach reports now then (passed how.patient count (whole_lines (part ++ piece)))
+        → SoFar reports first then how from to before after rest old new more others
+    so_far-more more others then t reported = record {
       text = far.text ++ piece;
       read = read-on;
       serves = record {
@@ -227,55 +244,89 @@ module _ (how : Manner) (from here before middle : Option (List ℕ)) (left : Li
         serves = serves-then how before middle after [] left rest old next new far.serves.lines far.serves.serves t.lines None t.serves;
         counted = omega (arith, t.counted, far.serves.counted, length-append far.serves.lines t.lines);
       };
+      reported = lines-then {X = Unit {0}} reports how.patient 0 count first now then far.serves.lines t.lines (Ok tt) (omega arith) far.serves.counted far.reported
+          (subst (λ (ls : List (List ℕ)). ReportsEach reports now then (passed how.patient count ls)) (whole-of (part ++ piece) others t.lines t.parts) reported);
     }
 
-    pub so_far-stop : (fault : ScriptFault) → EndsText how count middle left after rest next new (part ++ piece) fault
-        → EndsInput how from to before after rest old new fault
-    so_far-stop fault t = record {
+    pub so_far-stop : (fault : ScriptFault) (then : B) → EndsText how count middle left after rest next new (part ++ piece) fault
+        → ReportsFirst reports now then (passed how.patient count (whole_lines (part ++ piece)))
+        → EndsInput how (ReportsEach reports first then) from to before after rest old new fault
+    so_far-stop fault then t reported = record {
       text = far.text ++ piece;
       read = read-on;
       ends = subst (λ ls. EndsLines how 0 before [] after rest old new ls fault) (sym these)
           (ends-more how 0 before after [] rest old new (far.serves.lines ++ t.lines) (without_empty_end t.first.rest) fault
           (ends-then how before middle after [] left rest old next new far.serves.lines far.serves.serves 0 count t.lines fault far.serves.counted t.ends));
+      numbers = those.up_to.first;
+      others = those.left;
+      bad = those.up_to.parts;
+      reported = those.up_to.each;
     }
       where
         these : lines_of (far.text ++ piece) ≡ (far.serves.lines ++ t.lines) ++ without_empty_end t.first.rest
         these = ap without_empty_end (all-lines piece ∙ ap (λ behind. far.serves.lines ++ behind) t.first.parts ∙ sym (append_assoc far.serves.lines t.lines t.first.rest))
             ∙ last-lines (far.serves.lines ++ t.lines) t.first.rest t.first.some
 
+        -- the whole lines come first
+        there : (lines : List (List ℕ)) × (lines_of (far.text ++ piece) ≡ (far.serves.lines ++ whole_lines (part ++ piece)) ++ lines)
+        there =
+            let front = lines-front (pieces 10 (part ++ piece)) in (
+              front.0,
+              ap without_empty_end (all-lines piece) ∙ last-lines far.serves.lines (pieces 10 (part ++ piece)) (pieces-some 10 (part ++ piece))
+                  ∙ ap (λ (ls : List (List ℕ)). far.serves.lines ++ ls) front.1 ∙ sym (append_assoc far.serves.lines (whole_lines (part ++ piece)) front.0),
+            )
+
+        those : ReportsFirst reports first then (passed how.patient 0 (lines_of (far.text ++ piece)))
+        those =
+            subst (λ (ls : List (List ℕ)). ReportsFirst reports first then (passed how.patient 0 ls)) (sym there.1)
+            (first-lines-more reports how.patient 0 first then (far.serves.lines ++ whole_lines (part ++ piece)) there.0 (omega arith)
+            (lines-then {X = Unit {0}} reports how.patient 0 count first now then far.serves.lines (whole_lines (part ++ piece)) (Err fault) (omega arith) far.serves.counted far.reported reported))
+
   -- the end of the input
-  pub so_far-end : (to after : Option (List ℕ)) (rest : List ℕ) (new : Content) → Consumes here to [] → IsAtEnd to
-      → ServesLines how middle left after rest next new (without_empty_end (part ∷ [])) None → ServesInput how from to before after rest old new
-  so_far-end to after rest new reads at_end last = record {
+  pub so_far-end : (to after : Option (List ℕ)) (rest : List ℕ) (new : Content) (then : B) → Consumes here to [] → IsAtEnd to
+      → ServesLines how middle left after rest next new (without_empty_end (part ∷ [])) None → ReportsEach reports now then (passed how.patient count (without_empty_end (part ∷ [])))
+      → ServesInput how (ReportsEach reports first then) from to before after rest old new
+  so_far-end to after rest new then reads at_end last reported = record {
     text = far.text;
     read = Consumes-same from to _ _ (append-nil far.text) (Consumes-then from here to far.text [] far.read reads);
     whole = at_end;
     serves = subst (λ ls. ServesLines how before [] after rest old new ls None) (sym lines-here)
         (serves-then how before middle after [] left rest old next new far.serves.lines far.serves.serves (without_empty_end (part ∷ [])) None last);
+    reported = subst (λ (ls : List (List ℕ)). ReportsEach reports first then (passed how.patient 0 ls)) (sym lines-here)
+        (lines-then {X = Unit {0}} reports how.patient 0 count first now then far.serves.lines (without_empty_end (part ∷ [])) (Ok tt) (omega arith) far.serves.counted far.reported reported);
   }
 
-  pub so_far-bad : (to after : Option (List ℕ)) (rest : List ℕ) (new : Content) (fault : ScriptFault) → Consumes here to []
-      → EndsLines how count middle left after rest next new (without_empty_end (part ∷ [])) fault → EndsInput how from to before after rest old new fault
-  so_far-bad to after rest new fault reads last = record {
+  pub so_far-bad : (to after : Option (List ℕ)) (rest : List ℕ) (new : Content) (fault : ScriptFault) (then : B) → Consumes here to []
+      → EndsLines how count middle left after rest next new (without_empty_end (part ∷ [])) fault
+      → ReportsFirst reports now then (passed how.patient count (without_empty_end (part ∷ []))) → EndsInput how (ReportsEach reports first then) from to before after rest old new fault
+  so_far-bad to after rest new fault then reads last reported = record {
     text = far.text;
     read = Consumes-same from to _ _ (append-nil far.text) (Consumes-then from here to far.text [] far.read reads);
     ends = subst (λ ls. EndsLines how 0 before [] after rest old new ls fault) (sym lines-here)
         (ends-then how before middle after [] left rest old next new far.serves.lines far.serves.serves 0 count (without_empty_end (part ∷ [])) fault far.serves.counted last);
+    numbers = those.up_to.first;
+    others = those.left;
+    bad = those.up_to.parts;
+    reported = those.up_to.each;
   }
+    where
+      those : ReportsFirst reports first then (passed how.patient 0 (lines_of far.text))
+      those =
+          subst (λ (ls : List (List ℕ)). ReportsFirst reports first then (passed how.patient 0 ls)) (sym lines-here)
+          (lines-then {X = Unit {0}} reports how.patient 0 count first now then far.serves.lines (without_empty_end (part ∷ [])) (Err fault) (omega arith) far.serves.counted far.reported reported)
 
   -- no more can be read
-  pub so_far-whole : (to : Option (List ℕ)) → Consumes here to [] → left ≡ [] → ServesWhole how from to before middle left old next
+  pub so_far-whole : (to : Option (List ℕ)) → Consumes here to [] → left ≡ [] → ServesWhole how (ReportsEach reports first now) from to before middle left old next
   so_far-whole to reads none = record {
     text = far.text;
     read = Consumes-same from to _ _ (append-nil far.text) (Consumes-then from here to far.text [] far.read reads);
     sent = none;
     serves = subst (λ ls. ServesLines how before [] middle left old next ls None) (sym these) far.serves.serves;
+    reported = subst (λ (ls : List (List ℕ)). ReportsEach reports first now (passed how.patient 0 ls)) (sym these) far.reported;
   }
     where
       these : whole_lines far.text ≡ far.serves.lines
-      these = ap (λ (ps : List (List ℕ)). take (length ps - 1) ps) far.serves.parts
-          ∙ ap (λ n. take n (far.serves.lines ++ part ∷ [])) (omega (arith, length-append far.serves.lines (part ∷ [])))
-          ∙ take-append_seam far.serves.lines (part ∷ [])
+      these = whole-of far.text part far.serves.lines far.serves.parts
 
 -- ---- the same where whether values are shown stayed as it was
 
@@ -299,13 +350,17 @@ feeds-rest X how other count now more a b c held middle left old next new part p
     feeds-stop how count now a b c held middle left old next new part piece whole line behind is cut made fault counted one (end-shown other how same t)
 
 -- the last line, if there is one
-pub so_far-finish : (X : Type 0) (how other : Manner) (from here before middle : Option (List ℕ)) (left : List ℕ) (old next : Content) (count : ℕ) (part : List ℕ)
-    (to after : Option (List ℕ)) (rest : List ℕ) (new : Content) (r : Result X ScriptFault) → SoFar how from here before middle left old next count part → other ≡ how → Consumes here to [] → IsAtEnd to
+pub so_far-finish : {B : Type 0} (reports : B → ℕ → B → Type 0) (first now then : B) (X : Type 0) (how other : Manner) (from here before middle : Option (List ℕ)) (left : List ℕ)
+    (old next : Content) (count : ℕ) (part : List ℕ) (to after : Option (List ℕ)) (rest : List ℕ) (new : Content) (r : Result X ScriptFault)
+    → SoFar reports first now how from here before middle left old next count part → other ≡ how → Consumes here to [] → IsAtEnd to
     → MatchResult r (λ done. ServesLines other middle left after rest next new (without_empty_end (part ∷ [])) None) (λ fault. EndsLines other count middle left after rest next new (without_empty_end (part ∷ [])) fault)
-    → RunsInput how from to before after rest old new r
-so_far-finish X how other from here before middle left old next count part to after rest new (Ok x) far same reads at_end last =
-    so_far-end how from here before middle left old next count part far to after rest new reads at_end (serves-shown other how same last)
-so_far-finish X how other from here before middle left old next count part to after rest new (Err fault) far same reads at_end last =
-    ends-input X how from to before after rest old new fault
-    (so_far-bad how from here before middle left old next count part far to after rest new fault reads
-    (ends-shown count middle after left rest next new (without_empty_end (part ∷ [])) fault other how same last))
+    → ReportsLines reports other.patient count (without_empty_end (part ∷ [])) now then r
+    → RunsInput how (ReportsEach reports first then) from to before after rest old new r
+so_far-finish reports first now then X how other from here before middle left old next count part to after rest new (Ok x) far same reads at_end last reported =
+    so_far-end reports first now how from here before middle left old next count part far to after rest new then reads at_end (serves-shown other how same last)
+    (subst (λ (m : Manner). ReportsEach reports now then (passed m.patient count (without_empty_end (part ∷ [])))) same reported)
+so_far-finish reports first now then X how other from here before middle left old next count part to after rest new (Err fault) far same reads at_end last reported =
+    ends-input X how (ReportsEach reports first then) from to before after rest old new fault
+    (so_far-bad reports first now how from here before middle left old next count part far to after rest new fault then reads
+    (ends-shown count middle after left rest next new (without_empty_end (part ∷ [])) fault other how same last)
+    (subst (λ (m : Manner). ReportsFirst reports now then (passed m.patient count (without_empty_end (part ∷ [])))) same reported))

@@ -1,3 +1,4 @@
 pub mod Faults
+pub mod BadLines
 pub mod Served
 pub mod Lines

@@ -24,6 +24,7 @@ use Rattle.script_text.specs.declared.fault.LineFault.TheVariants as lacks
 use Rattle.pps_script.specs.declared.session.Session.{Session}
 use Rattle.script_text.specs.ScriptLines.{line_of}
 use Rattle.script_text.specs.Script.{script, whole_lines, printed, answers_of}
+use Rattle.pps_script.specs.BadLines.{passed, ReportsLines}
 use Rattle.pps_script.specs.Served.{most_reads, reads_from}
 
 -- ---- one line
@@ -167,39 +168,51 @@ RunsRest contents session x y old new part result =
     (λ done. ServesLines session.manner (contents (device_inner (output_of x))) (held_in x) (contents (device_inner (output_of y))) (held_in y) old new (without_empty_end (part ∷ [])) None)
     (λ fault. EndsLines session.manner (count_of session) (contents (device_inner (output_of x))) (held_in x) (contents (device_inner (output_of y))) (held_in y) old new (without_empty_end (part ∷ [])) fault)
 
+-- ---- what is reported
+
+-- the bad lines among these, which a session comes to, are reported, or the first of them if the script ends here
+abbrev pub ReportsBad : {B X : Type 0} → (B → ℕ → B → Type 0) → Session → List (List ℕ) → (old new : B) → Result X ScriptFault → Type 0
+ReportsBad reports session lines old new result = ReportsLines reports session.manner.patient (count_of session) lines old new result
+
 -- ---- all pieces of an input
 
 -- the input was read to its end, and all its lines are served
-pub record ServesInput (how : Manner) (from to before after : Option (List ℕ)) (left : List ℕ) (old new : Content) : Type 0 where
+pub record ServesInput (how : Manner) (Reported : List ℕ → Type 0) (from to before after : Option (List ℕ)) (left : List ℕ) (old new : Content) : Type 0 where
   pub text : List ℕ
   pub read : Consumes from to text
   pub whole : IsAtEnd to
   pub serves : ServesLines how before [] after left old new (lines_of text) None
+  pub reported : Reported (passed how.patient 0 (lines_of text))
 
 -- this was read, and its whole lines are served and answered
-pub record ServesWhole (how : Manner) (from to before after : Option (List ℕ)) (left : List ℕ) (old new : Content) : Type 0 where
+pub record ServesWhole (how : Manner) (Reported : List ℕ → Type 0) (from to before after : Option (List ℕ)) (left : List ℕ) (old new : Content) : Type 0 where
   pub text : List ℕ
   pub read : Consumes from to text
   pub sent : left ≡ []
   pub serves : ServesLines how before [] after left old new (whole_lines text) None
+  pub reported : Reported (passed how.patient 0 (whole_lines text))
 
 -- this was read, and the script ends in it
-pub record EndsInput (how : Manner) (from to before after : Option (List ℕ)) (left : List ℕ) (old new : Content) (fault : ScriptFault) : Type 0 where
+pub record EndsInput (how : Manner) (Reported : List ℕ → Type 0) (from to before after : Option (List ℕ)) (left : List ℕ) (old new : Content) (fault : ScriptFault) : Type 0 where
   pub text : List ℕ
   pub read : Consumes from to text
   pub ends : EndsLines how 0 before [] after left old new (lines_of text) fault
+  pub numbers : List ℕ
+  pub others : List ℕ
+  pub bad : passed how.patient 0 (lines_of text) ≡ numbers ++ others
+  pub reported : Reported numbers
 
-abbrev pub RunsInput : {X : Type 0} → Manner → (from to before after : Option (List ℕ)) → List ℕ → Content → Content → Result X ScriptFault → Type 0
-RunsInput how from to before after left old new (Ok done) = ServesInput how from to before after left old new
-RunsInput how from to before after left old new (Err ReadFault) = ServesWhole how from to before after left old new
-RunsInput how from to before after left old new (Err (BadLine line)) = EndsInput how from to before after left old new (BadLine line)
-RunsInput how from to before after left old new (Err OutOfMemory) = EndsInput how from to before after left old new OutOfMemory
-RunsInput how from to before after left old new (Err WriteFault) = EndsInput how from to before after left old new WriteFault
+abbrev pub RunsInput : {X : Type 0} → Manner → (List ℕ → Type 0) → (from to before after : Option (List ℕ)) → List ℕ → Content → Content → Result X ScriptFault → Type 0
+RunsInput how Reported from to before after left old new (Ok done) = ServesInput how Reported from to before after left old new
+RunsInput how Reported from to before after left old new (Err ReadFault) = ServesWhole how Reported from to before after left old new
+RunsInput how Reported from to before after left old new (Err (BadLine line)) = EndsInput how Reported from to before after left old new (BadLine line)
+RunsInput how Reported from to before after left old new (Err OutOfMemory) = EndsInput how Reported from to before after left old new OutOfMemory
+RunsInput how Reported from to before after left old new (Err WriteFault) = EndsInput how Reported from to before after left old new WriteFault
 
 -- the same of an exchange
-abbrev pub RunsPieces : {R W X : Type 0} → (R → Option (List ℕ)) → (W → Option (List ℕ)) → Manner → Exchange R W → Exchange R W → Content → Content → Result X ScriptFault → Type 0
-RunsPieces remaining contents how x y old new result =
-    RunsInput how (remaining (device_inner (input_of x))) (remaining (device_inner (input_of y))) (contents (device_inner (output_of x))) (contents (device_inner (output_of y)))
+abbrev pub RunsPieces : {R W X : Type 0} → (R → Option (List ℕ)) → (W → Option (List ℕ)) → Manner → (List ℕ → Type 0) → Exchange R W → Exchange R W → Content → Content → Result X ScriptFault → Type 0
+RunsPieces remaining contents how Reported x y old new result =
+    RunsInput how Reported (remaining (device_inner (input_of x))) (remaining (device_inner (input_of y))) (contents (device_inner (output_of x))) (contents (device_inner (output_of y)))
     (held_in y) old new result
 
 -- a device's fault is told where the device had it, and nowhere else; the output did not stall before

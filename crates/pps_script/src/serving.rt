@@ -2,7 +2,8 @@
 ghost use Rattle.std.specs.Prelude.{◌≡◌, ◌<◌, [], false, length};
 ghost use Rattle.pps_types.specs.Device.{device_failed};
 ghost use Rattle.pps_types.specs.Exchange.{input_of, output_of, held_in};
-ghost use Rattle.pps_script.specs.Served.{RanOver, AnswersFault, ReportsIf};
+ghost use Rattle.pps_script.specs.BadLines.{ReportsEach};
+ghost use Rattle.pps_script.specs.Served.{RanOver, AnswersFault};
 ghost use Rattle.pps_script.specs.Lines.{RunsPieces, PieceFaultsAre, count_of, ends_cut_off};
 
 use crate::fault::ScriptFault;
@@ -29,10 +30,10 @@ fn run_pieces<R: Read, W: Write, B: BadLines>(
     requires input { device_failed (input_of exchange.old) ≡ false }
     requires output { device_failed (output_of exchange.old) ≡ false }
     requires held { held_in exchange.old ≡ [] }
-    ensures runs { RunsPieces R.remaining W.contents session.old.manner exchange.old exchange.new
+    ensures runs { RunsPieces R.remaining W.contents session.old.manner
+        (ReportsEach B.reports bad_lines.old bad_lines.new) exchange.old exchange.new
         engine.old.content engine.new.content result }
     ensures fault { PieceFaultsAre exchange.old exchange.new result }
-    ensures reports { ReportsIf session.old.manner.patient bad_lines.old bad_lines.new }
 {
     'pieces: for _ in 0..READS_MAX {
         exchange.send()?;
@@ -58,10 +59,11 @@ fn is_cut_off(ended: &Result<(), ScriptFault>) -> bool
 /// it where that is asked for. Answers are sent before more is read.
 ///
 /// BadLine is the end at the first line that is none of a script, unless the script is to go on after bad lines: then each
-/// is reported, and asks for nothing; else none is reported. OutOfMemory comes if memory is wanting for what is read or for an answer's line;
-/// ReadFault if the reader fails, or was read 4,294,967,295 times: the lines that were whole are answered; WriteFault if
-/// the writer fails, or takes none of some bytes. What was written until then answers the first lines that were read, and
-/// the engine has the state that these leave.
+/// is reported by its number, in order, and asks for nothing; else none is reported. OutOfMemory comes if memory is wanting
+/// for what is read or for an answer's line; ReadFault if the reader fails, or was read 4,294,967,295 times: the lines that
+/// were whole are answered, and the bad ones of them reported; WriteFault if the writer fails, or takes none of some bytes.
+/// What was written until then answers the first lines that were read, what was reported are the first bad ones, and the
+/// engine has the state that these leave.
 pub fn serve_script<R: Read, W: Write, B: BadLines>(
     alloc: Global,
     engine: &mut Engine,
@@ -72,10 +74,10 @@ pub fn serve_script<R: Read, W: Write, B: BadLines>(
     requires input { device_failed (input_of exchange.old) ≡ false }
     requires output { device_failed (output_of exchange.old) ≡ false }
     requires held { held_in exchange.old ≡ [] }
-    ensures ran { RanOver R.remaining W.contents manner exchange.old exchange.new
+    ensures ran { RanOver R.remaining W.contents manner
+        (ReportsEach B.reports bad_lines.old bad_lines.new) exchange.old exchange.new
         engine.old.content engine.new.content result }
     ensures fault { AnswersFault exchange.old exchange.new result }
-    ensures reports { ReportsIf manner.patient bad_lines.old bad_lines.new }
 {
     let mut buffer = Vec::new(alloc);
     buffer.resize(PIECE, 0u8)?;

@@ -1,9 +1,10 @@
 //! The lines of a script, as they come.
-ghost use Rattle.std.specs.Prelude.{◌≡◌, ◌++◌, [], IfOk, IfErr, OnOk};
+ghost use Rattle.std.specs.Prelude.{◌≡◌, ◌++◌, ◌∷◌, [], IfOk, IfErr, OnOk};
 ghost use Rattle.pps_types.specs.Device.{counted_once_more};
 ghost use Rattle.pps_types.specs.Exchange.{input_of};
-ghost use Rattle.pps_script.specs.Served.{ReportsIf};
-ghost use Rattle.pps_script.specs.Lines.{RunsLine, ServesTextOn, EndsTextOn, RunsText, RunsRest, AnswersLineFault, IsPart, count_of};
+ghost use Rattle.pps_types.specs.Text.{without_empty_end};
+ghost use Rattle.script_text.specs.Script.{whole_lines};
+ghost use Rattle.pps_script.specs.Lines.{RunsLine, ServesTextOn, EndsTextOn, RunsText, RunsRest, AnswersLineFault, IsPart, ReportsBad, count_of};
 
 use crate::fault::ScriptFault;
 use crate::line::serve_line;
@@ -52,7 +53,8 @@ impl Session {
         ensures runs { RunsLine W.contents self.old exchange.old exchange.new
             engine.old.content engine.new.content line.now result }
         ensures fault { AnswersLineFault exchange.old exchange.new result }
-        ensures reports { ReportsIf self.old.manner.patient bad_lines.old bad_lines.new }
+        ensures reports { ReportsBad B.reports self.old (line.now ∷ [])
+            bad_lines.old bad_lines.new result }
         ensures input { input_of exchange.new ≡ input_of exchange.old }
     {
         self.lines = self.lines.saturating_add(1);
@@ -86,7 +88,8 @@ impl Session {
         ensures ends { IfErr result (λ fault. EndsTextOn W.contents self.old
             exchange.old exchange.new engine.old.content engine.new.content text.now fault) }
         ensures fault { AnswersLineFault exchange.old exchange.new result }
-        ensures reports { ReportsIf self.old.manner.patient bad_lines.old bad_lines.new }
+        ensures reports { ReportsBad B.reports self.old (whole_lines text.now)
+            bad_lines.old bad_lines.new result }
         ensures input { input_of exchange.new ≡ input_of exchange.old }
     {
         let mut rest = text;
@@ -112,7 +115,8 @@ impl Session {
         ensures runs { RunsText W.contents self.old self.new exchange.old exchange.new
             engine.old.content engine.new.content piece.now part.new.items result }
         ensures fault { AnswersLineFault exchange.old exchange.new result }
-        ensures reports { ReportsIf self.old.manner.patient bad_lines.old bad_lines.new }
+        ensures reports { ReportsBad B.reports self.old (whole_lines piece.now)
+            bad_lines.old bad_lines.new result }
         ensures input { input_of exchange.new ≡ input_of exchange.old }
     {
         let rest = self.run_lines(engine, exchange, bad_lines, piece)?;
@@ -136,7 +140,8 @@ impl Session {
             engine.old.content engine.new.content
             (part.old.items ++ piece.now) part.new.items result }
         ensures fault { AnswersLineFault exchange.old exchange.new result }
-        ensures reports { ReportsIf self.old.manner.patient bad_lines.old bad_lines.new }
+        ensures reports { ReportsBad B.reports self.old (whole_lines (part.old.items ++ piece.now))
+            bad_lines.old bad_lines.new result }
         ensures input { input_of exchange.new ≡ input_of exchange.old }
     {
         if part.is_empty() {
@@ -163,7 +168,8 @@ impl Session {
         ensures runs { RunsRest W.contents self.old exchange.old exchange.new
             engine.old.content engine.new.content part.now result }
         ensures fault { AnswersLineFault exchange.old exchange.new result }
-        ensures reports { ReportsIf self.old.manner.patient bad_lines.old bad_lines.new }
+        ensures reports { ReportsBad B.reports self.old (without_empty_end (part.now ∷ []))
+            bad_lines.old bad_lines.new result }
         ensures input { input_of exchange.new ≡ input_of exchange.old }
     {
         if part.is_empty() {

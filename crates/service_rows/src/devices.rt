@@ -1,4 +1,5 @@
 //! Scripts and images over devices of which each call fails in turn.
+ghost use Rattle.std.specs.Prelude.{◌≡◌};
 
 use crate::engines::{Giving, play as play_engine};
 use crate::failing::{Narrow, Slow};
@@ -16,6 +17,8 @@ use std::alloc::Global;
 struct NoBadLines;
 
 impl BadLines for NoBadLines {
+    ghost reports = { λ old _ new. new ≡ old };
+
     fn report(&mut self, _line: u64) {}
 }
 

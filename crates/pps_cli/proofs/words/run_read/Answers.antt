@@ -6,22 +6,20 @@ use Rattle.pps_cli.proofs.words.run_read.Goals as goal
 pub returns-in-Ok-run_as : goal.returns-in-Ok-run_as
 returns-in-Ok-run_as g c = rw c.in-Ok.is (record {
   outcome = Ok c.in-Ok-run_as.field-0;
+  between = c.run_as.new.bad_lines;
   does = c.in-Ok-run_as.ensures.does;
   files = tt;
   ends = refl;
-  reported = record { after = c.run_as.new.bad_lines; bad_lines = c.in-Ok-run_as.ensures.reports; ends = refl };
+  reported = refl;
 })
 
 -- a failure is reported behind them
 pub returns-in-Err-run_as : goal.returns-in-Err-run_as
 returns-in-Err-run_as g c = rw c.in-Ok.is (record {
   outcome = Err c.in-Err-run_as.failure;
+  between = c.run_as.new.bad_lines;
   does = c.in-Err-run_as.ensures.does;
   files = c.in-Err-run_as.ensures.files;
   ends = c.report_failure-in-Err-run_as.ensures.status;
-  reported = record {
-    after = c.run_as.new.bad_lines;
-    bad_lines = c.in-Err-run_as.ensures.reports;
-    ends = c.report_failure-in-Err-run_as.ensures.written;
-  };
+  reported = c.report_failure-in-Err-run_as.ensures.written;
 })

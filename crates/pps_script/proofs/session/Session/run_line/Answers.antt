@@ -5,7 +5,8 @@ use Rattle.pps_types.specs.Exchange.{output_of, held_in}
 use Rattle.pps_types.specs.Writing.{Holds}
 use Rattle.script_text.specs.ScriptLines.{line_of}
 use Rattle.pps_script.specs.Lines.{count_of}
-use Rattle.pps_script.proofs.Lines.{ends-bad, passes-bad, served-heard, unanswered-heard, holds-one, serves-one, answer-refused, holds-itself}
+use Rattle.pps_script.proofs.Lines.{ends-bad, passes-bad, served-heard, unanswered-heard, served-said, holds-one, serves-one, answer-refused, holds-itself}
+use Rattle.pps_script.proofs.Reported.{first-none, reports-none, reports-one}
 use Rattle.pps_script.proofs.session.Session.run_line.Goals as goal
 
 pub returns-then-not-self-clause-runs : goal.returns-then-not-self-clause-runs
@@ -46,3 +47,23 @@ returns-clause-runs g c =
     (served-heard c.args.self.now.manner.patient c.args.self.now.manner.show (line_of c.args.line.now) _ _ _ c.in-Ok.ensures.served)
     (subst (λ (t : List ℕ). Holds (g.W.Write.contents (device_inner (output_of c.args.exchange.now))) (g.W.Write.contents (device_inner (output_of c.answer.new.self))) (held_in c.answer.new.self)
     (held_in c.args.exchange.now ++ t)) c.as_slice.ensures.value c.in_ok-answer.ensures.bytes)
+
+pub returns-then-not-self-clause-reports : goal.returns-then-not-self-clause-reports
+returns-then-not-self-clause-reports g c = first-none _ _ _
+
+pub returns-in-Err-BadLine-clause-reports : goal.returns-in-Err-BadLine-clause-reports
+returns-in-Err-BadLine-clause-reports g c =
+    let bad = rw c.in-Err-BadLine.field-0-is at c.in-Err-BadLine.ensures.fault in
+    reports-one _ _ (count_of c.args.self.now) _ _ _ c.args.line.now c.if-not-self.false bad.0 (omega (arith, c.saturating_add-self.ensures)) c.report.ensures
+
+pub returns-in-Err-OutOfMemory-clause-reports : goal.returns-in-Err-OutOfMemory-clause-reports
+returns-in-Err-OutOfMemory-clause-reports g c = first-none _ _ _
+
+pub returns-in_err-answer-clause-reports : goal.returns-in_err-answer-clause-reports
+returns-in_err-answer-clause-reports g c =
+    let p = err_from_is_err_and c.from_residual.result c.from_residual.ensures.1 in
+    rw p.1 (first-none _ _ _)
+
+pub returns-clause-reports : goal.returns-clause-reports
+returns-clause-reports g c =
+    reports-none _ _ (count_of c.args.self.now) _ c.args.line.now (served-said c.args.self.now.manner.show (line_of c.args.line.now) _ _ _ c.in-Ok.ensures.served)

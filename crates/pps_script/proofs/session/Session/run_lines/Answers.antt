@@ -1,4 +1,4 @@
-use Rattle.std.proofs.Common.{◌∷◌, [], take, arith, refl, sym, ◌∙◌}
+use Rattle.std.proofs.Common.{◌∷◌, [], take, arith, refl, sym, subst, ◌∙◌}
 use Rattle.std.proofs.lemmas.List.{take_rest}
 use Rattle.std.proofs.lemmas.Result.{err_from_is_err_and}
 use Rattle.pps_types.proofs.Cuts.{length-behind}
@@ -6,7 +6,10 @@ use Rattle.pps_types.specs.Device.{device_inner}
 use Rattle.pps_types.specs.Exchange.{output_of, held_in}
 use Rattle.pps_script.specs.Lines.{count_of}
 use Rattle.pps_script.proofs.Searches.{found, missing}
-use Rattle.pps_script.proofs.Lines.{serves-shown, ends-shown, reports-on}
+use Rattle.pps_script.specs.BadLines.{passed, ReportsEach, ReportsFirst}
+use Rattle.pps_script.specs.declared.manner.Manner.{Manner}
+use Rattle.pps_script.proofs.Lines.{serves-shown, ends-shown}
+use Rattle.pps_script.proofs.Reported.{up_to-none, up_to-line, up_to-stop, up_to-end}
 use Rattle.pps_script.proofs.Texts.{runs-start, runs-line, runs-stop, runs-end}
 use Rattle.pps_script.proofs.session.Session.run_lines.Goals as goal
 
@@ -18,7 +21,7 @@ lines-init g c = record {
   failed = refl;
   stalls = refl;
   input = refl;
-  reports = (λ quiet. refl);
+  reports = up_to-none _ _ _;
 }
 
 pub returns-in_err-run_line-clause-ends : goal.returns-in_err-run_line-clause-ends
@@ -46,7 +49,9 @@ lines-preserved g c =
       failed = c.in_ok-run_line.ensures.fault.0 ∙ c.lines.invariant.failed;
       stalls = c.in_ok-run_line.ensures.fault.1 ∙ c.lines.invariant.stalls;
       input = c.run_line.ensures.input ∙ c.lines.invariant.input;
-      reports = reports-on _ _ c.lines.invariant.manner _ _ _ c.lines.invariant.reports c.run_line.ensures.reports;
+      reports = up_to-line _ _ (count_of c.lines.self) _ _ _ _ c.lines.rest.now _ _ (omega arith) cut c.lines.invariant.reports _ c.run_line.ensures.count
+          (subst (λ (m : Manner). ReportsEach g.B.BadLines.reports c.lines.bad_lines c.run_line.new.bad_lines (passed m.patient (count_of c.lines.self) (take c.in-Some.end c.lines.rest.now ∷ [])))
+          c.lines.invariant.manner c.in_ok-run_line.ensures.reports);
     })
 
 pub returns-clause-part : goal.returns-clause-part
@@ -55,3 +60,16 @@ returns-clause-part g c = sym (missing c.lines.rest.now c.memchr.result c.memchr
 pub returns-clause-serves : goal.returns-clause-serves
 returns-clause-serves g c =
     runs-end _ _ _ _ _ _ _ _ _ c.args.text.now c.lines.rest.now (missing c.lines.rest.now c.memchr.result c.memchr.ensures c.in_default.is) c.lines.invariant.on
+
+pub returns-in_err-run_line-clause-reports : goal.returns-in_err-run_line-clause-reports
+returns-in_err-run_line-clause-reports g c =
+    let p = err_from_is_err_and c.from_residual.result c.from_residual.ensures.1 in
+    let cut = found c.lines.rest.now c.memchr.result c.in-Some.end c.memchr.ensures c.in-Some.is in
+    rw p.1
+    (up_to-stop _ _ (count_of c.lines.self) _ _ _ _ c.lines.rest.now _ _ (omega arith) cut c.lines.invariant.reports
+    (subst (λ (m : Manner). ReportsFirst g.B.BadLines.reports c.lines.bad_lines c.run_line.new.bad_lines (passed m.patient (count_of c.lines.self) (take c.in-Some.end c.lines.rest.now ∷ [])))
+    c.lines.invariant.manner c.in_err-run_line.ensures.reports))
+
+pub returns-clause-reports : goal.returns-clause-reports
+returns-clause-reports g c =
+    up_to-end _ _ (count_of c.lines.self) _ _ _ c.lines.rest.now (missing c.lines.rest.now c.memchr.result c.memchr.ensures c.in_default.is) c.lines.invariant.reports

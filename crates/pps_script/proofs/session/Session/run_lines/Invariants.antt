@@ -1,7 +1,8 @@
 use Rattle.std.proofs.Common.{◌≡◌, ◌≤◌, length}
 use Rattle.pps_types.specs.Device.{device_inner, device_failed, device_stalls}
 use Rattle.pps_types.specs.Exchange.{input_of, output_of, held_in}
-use Rattle.pps_script.specs.Served.{ReportsIf}
+use Rattle.script_text.specs.Script.{whole_lines}
+use Rattle.pps_script.specs.BadLines.{passed, ReportsUpTo}
 use Rattle.pps_script.specs.Lines.{count_of}
 use Rattle.pps_script.proofs.Texts.{RunsOn}
 use Rattle.pps_script.proofs.session.Session.run_lines.Given as goal
@@ -15,7 +16,8 @@ invariant-lines g l = record {
   failed : device_failed (output_of l.exchange) ≡ device_failed (output_of l.fn.exchange);
   stalls : device_stalls (output_of l.exchange) ≡ device_stalls (output_of l.fn.exchange);
   input : input_of l.exchange ≡ input_of l.fn.exchange;
-  reports : ReportsIf l.fn.self.manner.patient l.fn.bad_lines l.bad_lines;
+  reports : ReportsUpTo g.B.BadLines.reports l.fn.bad_lines l.bad_lines (passed l.fn.self.manner.patient (count_of l.fn.self) (whole_lines l.text))
+      (passed l.fn.self.manner.patient (count_of l.self) (whole_lines l.rest));
 }
 
 abbrev pub decreases-lines : goal.decreases-lines
