@@ -8,10 +8,10 @@ use Rattle.pps_types.specs.declared.refusal.Refusal.TheVariants.{OutOfMemory}
 use Rattle.pps_types.specs.Names.{refusal_of}
 use Rattle.pps_types.specs.History.{line_of}
 use Rattle.pps_types.specs.Reading as reading
-use Rattle.pps_types.specs.Reading.{OpenHandle, is_directory_kind, Member}
-use Rattle.pps_types.specs.Rests.{Progress, is_over, answer}
+use Rattle.pps_types.specs.Reading.{OpenHandle, is_directory_kind, Member, idle_answer}
+use Rattle.pps_types.specs.Rests.{Progress, News, Unread, Over, Owed, is_over, news_in, answer}
 use Rattle.pps_types.specs.WellFormed.{RiseBetween}
-use Rattle.pps_types.specs.Content.{Content, LiveObject, own_handle, object_numbered, attributes_of, member, members, everything, target_is_dead, read_answer}
+use Rattle.pps_types.specs.Content.{Content, LiveObject, own_handle, object_numbered, attributes_of, member, members, everything, target_is_dead, read_answer, news}
 use Rattle.sub_reader.specs.Opened.{handle_at, as_opened, number_of}
 use Rattle.open_handles.specs.Whole.{name_at}
 use Rattle.service_state.specs.Tables.{Tabled, content_in}
@@ -176,3 +176,38 @@ module _ (t : Tabled) (next : ℕ) (rise : RiseBetween 0 (map (λ h. h.number) (
         wait = ap (λ (x : OpenHandle (Unit {0})). x.options.wait) same;
         source = (λ i. record { kind = sym kind-is i; parts = filter-told i; over = over-told i; alive = true; members = members-told i }) ∙ sym (directory_source_of (content_in t) h (ap is_directory_kind kind-is ∙ directory));
       })
+
+-- ---- where nothing is new
+
+-- a read of a handle without news is answered by its target alone, whatever everything is
+idle_of : (h : OpenHandle Progress) → h.reads ≡ true → (s : Progress) → news_in h.reads s ≡ false → (text : List ℕ) (dead : Bool) (size : ℕ) → answer h s text dead size ≡ idle_answer dead h.options.wait
+idle_of h reads (News true) quiet text dead size = absurd (let bad = quiet in cc)
+idle_of h reads (News false) quiet text dead size = refl
+idle_of h reads Unread quiet text dead size = absurd (let bad : true ≡ false = sym reads ∙ quiet in cc)
+idle_of h reads Over quiet text dead size = absurd (let bad = quiet in cc)
+idle_of h reads (Owed []) quiet text dead size = refl
+idle_of h reads (Owed (x ∷ xs)) quiet text dead size = absurd (let bad = quiet in cc)
+
+not_dead : (plain : Bool) → plain ≡ false → (o : Option LiveObject) → is_some o ≡ true → (not plain && is_none o) ≡ false
+not_dead true e o alive = absurd (let bad = e in cc)
+not_dead false e None alive = absurd (let bad = alive in cc)
+not_dead false e (Some x) alive = refl
+
+-- of an alive object, it waits or gives nothing
+pub idle_told : (t : Tabled) (conn n : ℕ) (own : Own) → IsOwn t conn n own → own.opening.now.reads ≡ true → is_directory_kind own.opening.now.kind ≡ false
+    → is_some (object_numbered (content_in t) (number_of own.found)) ≡ true → (b : Bool) → b ≡ false → IfSome (own_handle (content_in t) conn n) (λ h. b ≡ news h)
+    → (size : ℕ) (a : reading.Answer) → a ≡ idle_answer false own.opening.now.options.wait → IfSome (own_handle (content_in t) conn n) (λ h. a ≡ read_answer (content_in t) h size)
+idle_told t conn n own is reads plain alive b quiet tells size a a-is =
+    let known = own_known (own_handle (content_in t) conn n) (opened_as t own) is in
+    let h = known.0 in
+    let same : as_opened h ≡ opened_as t own = known.1.1 in
+    let kind-is : h.kind ≡ own.opening.now.kind = ap (λ (x : OpenHandle (Unit {0})). x.kind) same in
+    let target-is : h.target ≡ number_of own.found = ap (λ (x : OpenHandle (Unit {0})). x.target) same in
+    let reads-is : h.reads ≡ true = ap (λ (x : OpenHandle (Unit {0})). x.reads) same ∙ reads in
+    let wait-is : h.options.wait ≡ own.opening.now.options.wait = ap (λ (x : OpenHandle (Unit {0})). x.options.wait) same in
+    let none-new : b ≡ news h = subst (λ o. IfSome o (λ h. b ≡ news h)) known.1.0 tells in
+    let dead-not : target_is_dead (content_in t) h ≡ false =
+    not_dead (is_directory_kind h.kind) (ap is_directory_kind kind-is ∙ plain) (object_numbered (content_in t) h.target) (ap (λ k. is_some (object_numbered (content_in t) k)) target-is ∙ alive) in
+    subst (λ o. IfSome o (λ h. a ≡ read_answer (content_in t) h size)) (sym known.1.0)
+    (a-is ∙ (λ i. idle_answer (sym dead-not i) (sym wait-is i))
+    ∙ sym (idle_of h reads-is h.seen (sym none-new ∙ quiet) (everything (content_in t) h) (target_is_dead (content_in t) h) size))

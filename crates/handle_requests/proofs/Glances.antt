@@ -14,7 +14,7 @@ use Rattle.open_handles.specs.Whole.{Whole, handles_in, name_at}
 use Rattle.service_state.specs.Tables.{Tabled}
 use Rattle.handle_requests.specs.declared.own.SeenHandle.{SeenHandle}
 use Rattle.handle_requests.specs.Asked.{IsAsked}
-use Rattle.handle_requests.proofs.Owns.{own_among, own_parked, own_news}
+use Rattle.handle_requests.proofs.Owns.{own_among, own_parked, own_armed, own_news}
 
 pub none_seen : (o : Option (OpenHandle Progress)) → None ≡ option_map glanced o → None ≡ option_map as_opened o
 none_seen None e = refl
@@ -27,6 +27,10 @@ opening_seen (Some h) g e = let is : g ≡ glanced h = cc in ap (λ (x : Glanced
 pub parked_seen : (o : Option (OpenHandle Progress)) (g : Glanced) → Some g ≡ option_map glanced o → g.parked ≡ option_and_then (λ (h : OpenHandle Progress). h.parked) o
 parked_seen None g e = absurd (let bad = e in cc)
 parked_seen (Some h) g e = let is : g ≡ glanced h = cc in ap (λ (x : Glanced). x.parked) is
+
+pub armed_seen : (o : Option (OpenHandle Progress)) (g : Glanced) → Some g ≡ option_map glanced o → IfSome o (λ (h : OpenHandle Progress). g.armed ≡ is_some h.armed)
+armed_seen None g e = tt
+armed_seen (Some h) g e = let is : g ≡ glanced h = cc in ap (λ (x : Glanced). x.armed) is
 
 pub news_seen : (o : Option (OpenHandle Progress)) (g : Glanced) → Some g ≡ option_map glanced o → g.news ≡ option_map_or news o false
 news_seen None g e = absurd (let bad = e in cc)
@@ -48,6 +52,7 @@ is_asked t w same conn n a rise seen topic name =
     let at = handle_at n (handles_in w) in
     record {
       parked = subst (λ (w : Whole). IfSome (own_among (handles_in w) conn n) (λ h. is_some a.glance.parked ≡ is_some h.parked)) same (own_parked (handles_in w) w.rows.next rise conn n a.glance.parked (parked_seen at g seen) (is_some a.glance.parked) refl);
+      armed = subst (λ (w : Whole). IfSome (own_among (handles_in w) conn n) (λ h. a.glance.is_armed ≡ is_some h.armed)) same (own_armed (handles_in w) w.rows.next rise conn n a.glance.is_armed (armed_seen at g seen));
       news = subst (λ (w : Whole). IfSome (own_among (handles_in w) conn n) (λ h. a.glance.has_news ≡ news h)) same (own_news (handles_in w) w.rows.next rise conn n a.glance.has_news (news_seen at g seen));
       fresh = subst (λ (w : Whole). a.glance.has_news ≡ option_map_or news (handle_at n (handles_in w)) false) same (news_seen at g seen);
       over = subst (λ (w : Whole). a.glance.is_over ≡ option_map_or (λ (h : OpenHandle Progress). is_over h.seen) (handle_at n (handles_in w)) false) same (over_seen at g seen);

@@ -2,7 +2,7 @@
 use Rattle.std.specs.Prelude.{◌≡◌, ◌==◌, ◌&&◌, ℕ, List, Bool, true, false, not, Option, Some, None, find, map, option_map, option_and_then, is_some, IfSome}
 use Rattle.std.specs.Option.{option_map_or}
 use Rattle.pps_types.specs.Content.{news}
-use Rattle.std.proofs.Common.{refl, sym, ◌∙◌, ap}
+use Rattle.std.proofs.Common.{refl, sym, ◌∙◌, ap, subst}
 use Rattle.std.proofs.lemmas.Bool.{eqb-true}
 use Rattle.pps_types.specs.Reading.{OpenHandle}
 use Rattle.pps_types.specs.Rests.{Progress}
@@ -111,3 +111,12 @@ own_parked hs next rise conn n p p-is b is = by (own_among hs conn n) refl
     by : (o : Option (OpenHandle Progress)) → own_among hs conn n ≡ o → IfSome o (λ h. b ≡ is_some h.parked)
     by None e = tt
     by (Some h) e = is ∙ ap is_some (p-is ∙ ap (option_and_then (λ (h : OpenHandle Progress). h.parked)) (own_numbered hs next rise conn n h e))
+
+-- and whether a pulse is armed on it
+pub own_armed : (hs : List (OpenHandle Progress)) (next : ℕ) → RiseBetween 0 (map (λ h. h.number) hs) next → (conn n : ℕ) (b : Bool) → IfSome (handle_at n hs) (λ (h : OpenHandle Progress). b ≡ is_some h.armed)
+    → IfSome (own_among hs conn n) (λ h. b ≡ is_some h.armed)
+own_armed hs next rise conn n b is = by (own_among hs conn n) refl
+  where
+    by : (o : Option (OpenHandle Progress)) → own_among hs conn n ≡ o → IfSome o (λ h. b ≡ is_some h.armed)
+    by None e = tt
+    by (Some h) e = subst (λ (o : Option (OpenHandle Progress)). IfSome o (λ h. b ≡ is_some h.armed)) (own_numbered hs next rise conn n h e) is

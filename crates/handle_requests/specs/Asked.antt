@@ -11,10 +11,11 @@ use Rattle.open_handles.specs.Whole.{handles_in, name_at}
 use Rattle.service_state.specs.Tables.{Tabled, content_in}
 use Rattle.handle_requests.specs.declared.own.SeenHandle.{SeenHandle}
 
--- It is of the open handle of that number. Where that is the connection's, news says whether it has news, and parked whether a
--- read waits on it. Those on what it is on have it as all handles have it.
+-- It is of the open handle of that number. Where that is the connection's, news says whether it has news, parked whether a
+-- read waits on it, and armed whether a pulse is armed on it. Those on what it is on have it as all handles have it.
 pub record IsAsked (t : Tabled) (conn number : ℕ) (a : SeenHandle) : Type 0 where
   pub parked : IfSome (own_handle (content_in t) conn number) (λ handle. is_some a.glance.parked ≡ is_some handle.parked)
+  pub armed : IfSome (own_handle (content_in t) conn number) (λ handle. a.glance.is_armed ≡ is_some handle.armed)
   pub news : IfSome (own_handle (content_in t) conn number) (λ handle. a.glance.has_news ≡ has_news handle)
   pub fresh : a.glance.has_news ≡ option_map_or has_news (handle_at number (handles_in t.handles)) false
   pub over : a.glance.is_over ≡ option_map_or (λ (handle : OpenHandle Progress). is_over handle.seen) (handle_at number (handles_in t.handles)) false

@@ -60,6 +60,7 @@ fn first_item(tables: &Tables, conn: Conn) -> Option<&Item>
 /// it takes no memory.
 ///
 /// OutOfMemory is the only error, and comes only where the item has bytes.
+#[inline(always)]
 pub fn receive(tables: &Tables, conn: Conn) -> Result<Outcome, Refusal>
     ensures passes { AllPass (checks_in tables.now conn Receive) }
     ensures ok { IfOk result (λ outcome. outcome ≡ (effect_in tables.now conn Receive).0) }

@@ -1,5 +1,5 @@
 //! What everything of a target is read from.
-ghost use Rattle.std.specs.Prelude.{◌≡◌, true, false, IfOk, IfErr};
+ghost use Rattle.std.specs.Prelude.{◌≡◌, ◌&&◌, not, true, false, IfOk, IfErr};
 ghost use Rattle.std.specs.Option.{option_copied};
 ghost use Rattle.pps_types.specs.Reading as reading;
 ghost use Rattle.whole_texts.specs.Answered.{meant};
@@ -14,6 +14,7 @@ use name_table::NamedObject;
 use pps_types::{Conn, DirId, Handle, ObjId, Refusal};
 use service_state::Tables;
 use std::alloc::Global;
+use sub_reader::Glance;
 use whole_texts::{Answer, Member, Whole, answers_are_read, read_answer};
 
 // An object under a name, alive or deleted.
@@ -52,6 +53,25 @@ fn answered(
     read_answer(alloc, whole, waits, size, owed)
 }
 
+// Whether a read of an object's handle finds nothing new of an object that is alive.
+#[inline(always)]
+fn finds_nothing(glance: &Glance<'_>, is_alive: bool) -> bool
+    ensures { result ≡ (is_alive && not glance.now.has_news) }
+{
+    is_alive && !glance.has_news
+}
+
+// What a read answers that finds nothing new of an object that is alive.
+#[inline(always)]
+fn nothing_new(waits: bool) -> Answer
+    ensures { meant result ≡ reading.idle_answer false waits }
+{
+    if waits {
+        return Answer::Waits;
+    }
+    Answer::Nothing
+}
+
 /// What a read of an object's handle answers, of which nothing is refused before.
 ///
 /// It is TooSmall, with the size, where not even the first thing to give fits, before any memory is taken, and Gone where
@@ -77,19 +97,15 @@ pub(crate) fn answer_of_object(
     let own = &asked.own;
     let known = tables.names().object(ObjId::new(own.target()));
     let is_alive = known.is_some();
+    let waits = own.waits();
+    // A read that finds nothing new ends here, and nothing is made of what only a text needs.
+    if finds_nothing(&asked.glance, is_alive) {
+        return Ok(nothing_new(waits));
+    }
     let is_over = asked.glance.is_over;
     let members = [member_of(asked.topic.name(), known)];
     let whole = Whole::new(own.kind(), own.filter(), is_over, is_alive, &members);
-    answered(
-        tables,
-        alloc,
-        conn,
-        handle,
-        asked,
-        own.waits(),
-        size,
-        &whole,
-    )
+    answered(tables, alloc, conn, handle, asked, waits, size, &whole)
 }
 
 /// What a read of a directory's handle answers, of which nothing is refused before.

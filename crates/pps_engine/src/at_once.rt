@@ -90,12 +90,16 @@ fn take_notify(
     if !tables.is_attached(conn) {
         return Err(Refusal::NotAttached);
     }
-    let Notified { news, pulse } = match ask_notify(tables, conn, handle, action, pulse) {
+    let Notified {
+        news,
+        pulse,
+        was_armed,
+    } = match ask_notify(tables, conn, handle, action, pulse) {
         Err(refusal) => return Err(refusal),
         Ok(notified) => notified,
     };
     nothing_follows(tables);
-    set_pulse(tables, conn, handle, pulse);
+    set_pulse(tables, conn, handle, pulse, was_armed);
     Ok(Outcome::Input(news))
 }
 

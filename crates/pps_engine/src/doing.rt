@@ -1,8 +1,9 @@
 //! What an event does, and how it is carried out.
-ghost use Rattle.std.specs.Prelude.{◌≡◌, ◌∷◌, [], ◌++◌};
+ghost use Rattle.std.specs.Prelude.{◌≡◌, ◌∷◌, [], ◌++◌, false, Some};
 ghost use Rattle.pps_types.specs.Plan as planning;
 ghost use Rattle.sub_reader.specs.Opened.{armed_pulse};
 ghost use Rattle.whole_texts.specs.Answered as reads;
+ghost use Rattle.service_state.specs.Refused.{is_armed_in};
 ghost use Rattle.service_state.specs.Tied.{Moves};
 ghost use Rattle.pps_engine.specs.Doing.{moves_in, CanDo, CanRead, CanNotice};
 
@@ -74,15 +75,23 @@ pub(crate) fn leave_read(tables: &mut Tables, conn: Conn, handle: Handle, effect
     }
 }
 
-/// A pulse is armed on a handle, or none any more.
+/// A pulse is armed on a handle, or none any more. Where none is armed on it, none is looked for.
 #[inline(always)]
-pub(crate) fn set_pulse(tables: &mut Tables, conn: Conn, handle: Handle, pulse: Option<Pulse>)
-    requires { CanNotice conn handle pulse tables.old }
+pub(crate) fn set_pulse(
+    tables: &mut Tables,
+    conn: Conn,
+    handle: Handle,
+    pulse: Option<Pulse>,
+    may_be_armed: bool,
+)
+    requires can { CanNotice conn handle pulse tables.old }
+    requires unarmed { may_be_armed ≡ false → is_armed_in tables.old conn handle ≡ Some false }
     ensures { Moves (planning.Arms handle (armed_pulse pulse) ∷ []) tables.old tables.new }
 {
     match pulse {
         Some(pulse) => tables.arm(conn, handle, pulse),
-        None => tables.disarm(conn, handle),
+        None if may_be_armed => tables.disarm(conn, handle),
+        None => tables.still_unarmed(conn, handle),
     }
 }
 
@@ -122,7 +131,7 @@ pub(crate) fn carry_out(tables: &mut Tables, doing: Doing)
             conn,
             handle,
             pulse,
-        } => set_pulse(tables, conn, handle, pulse),
+        } => set_pulse(tables, conn, handle, pulse, true),
         Doing::Takes(conn) => tables.take(conn),
         Doing::Makes(path) => tables.make_directory(path),
         Doing::Removes(directory) => tables.remove_directory(directory),

@@ -35,13 +35,22 @@ pub(crate) struct Ready {
     reply: Snapshot<Outcome>,
 }
 
+// What is pending is let go. It is a call of its own, since most steps have nothing pending, and would pay for its parts.
+#[cold]
+#[inline(never)]
+fn let_go(pending: &mut Option<Ready>)
+    ensures { pending.new ≡ None }
+{
+    *pending = None;
+}
+
 /// Nothing is pending any more.
 #[inline(always)]
 pub(crate) fn forget(pending: &mut Option<Ready>)
     ensures { pending.new ≡ None }
 {
     if pending.is_some() {
-        *pending = None;
+        let_go(pending);
     }
 }
 
@@ -240,6 +249,7 @@ impl Engine {
 
     /// One event: its answer is the machine's, or OutOfMemory where it may be. After a refusal all is as it was. A plan
     /// before it is no longer ready.
+    #[inline(always)]
     pub fn step(&mut self, event: &Event) -> Result<Outcome, Refusal>
         ensures steps { Steps self.old.content event.now result self.new.content }
         ensures seen { StepsSeen self.old.content event.now result self.new.content }

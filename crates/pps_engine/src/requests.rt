@@ -1,8 +1,9 @@
 //! What a connection asks, each request by the crate that knows it.
-ghost use Rattle.std.specs.Prelude.{◌≡◌, IfOk, IfErr};
+ghost use Rattle.std.specs.Prelude.{◌≡◌, Some, IfOk, IfErr};
 ghost use Rattle.pps_types.specs.declared.event.Request.TheVariants.{Detach, Open, Read, Write, Close, Unlink, Mkdir, List as ListRequest, Receive};
 ghost use Rattle.pps_types.specs.WellFormed.{IsContent};
 ghost use Rattle.service_laws.specs.Bounds.{IsBound};
+ghost use Rattle.service_state.specs.Refused.{is_armed_in};
 ghost use Rattle.service_state.specs.Tables.{content_in};
 ghost use Rattle.handle_requests.specs.Notices.{notify_of};
 ghost use Rattle.pps_engine.specs.Events.{Serves, IsRefusedIn};
@@ -237,6 +238,7 @@ pub(crate) fn ask_notify(
     ensures content { content_in tables.new ≡ content_in tables.old }
     ensures ok { IfOk result (λ n. Serves tables.old conn (notify_of handle action pulse) tables.new
         (noticing conn handle n)) }
+    ensures armed { IfOk result (λ n. is_armed_in tables.old conn handle ≡ Some n.was_armed) }
     ensures err { IfErr result (IsRefusedIn tables.old conn (notify_of handle action pulse)) }
 {
     events_are_settled();
@@ -257,7 +259,7 @@ pub(crate) fn notify(
     ensures ok { IfOk result (Serves tables.old conn (notify_of handle action pulse) tables.new) }
     ensures err { IfErr result (IsRefusedIn tables.old conn (notify_of handle action pulse)) }
 {
-    let Notified { news, pulse } = ask_notify(tables, conn, handle, action, pulse)?;
+    let Notified { news, pulse, .. } = ask_notify(tables, conn, handle, action, pulse)?;
     Ok(Done {
         reply: Outcome::Input(news),
         doing: Doing::Arms {

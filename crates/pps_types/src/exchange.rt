@@ -126,6 +126,7 @@ impl<R, W: Write> Exchange<R, W> {
 
     /// Adds an answer to those that are held. If there is no room for it, those are written first; if it is longer than
     /// all the room, it is written too.
+    #[inline(always)]
     pub fn answer(&mut self, bytes: &[u8]) -> Result<(), AnswerFault>
         ensures bytes { AddsAnswer W.contents self.old self.new bytes.now result }
         ensures fault { AnswersOutputFault self.old self.new result }

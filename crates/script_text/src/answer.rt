@@ -176,6 +176,7 @@ fn constant_rest(answer: &Result<Outcome, Refusal>) -> Option<&'static [u8]>
 ///
 /// Bytes are shown with escapes: a line feed as `\n`, a backslash as `\\`, a byte from 32 to 126 as itself, and any
 /// other as `\x` and two digits, with letters in lower case. Where memory is refused, a part of the line may stand there.
+#[inline(always)]
 #[tactic(auto, using(crate::proofs::Regroup::regroup))]
 pub fn print_answer(
     out: &mut Vec<u8>,

@@ -1,5 +1,5 @@
 -- Changes of one handle, and of the connection that it belongs to.
-use Rattle.std.specs.Prelude.{◌≡◌, ℕ, List, [], ◌∷◌, Bool, true, false, Option, Some, None, is_some, IsSome, Result, option_map, IsTrue, ◌==◌, ◌&&◌}
+use Rattle.std.specs.Prelude.{◌≡◌, ℕ, List, [], ◌∷◌, Bool, true, false, Option, Some, None, is_some, IsSome, Result, option_map, IsTrue, find, ◌==◌, ◌&&◌}
 use Rattle.std.specs.List.{list_all}
 use Rattle.std.specs.Option.{option_map_or}
 use Rattle.std.proofs.Common.{refl, sym, ◌∙◌, ap, subst, cond}
@@ -9,7 +9,7 @@ use Rattle.pps_types.specs.Reading.{OpenHandle}
 use Rattle.pps_types.specs.Rests.{Progress}
 use Rattle.pps_types.specs.Outbox.{PulseOf, is_parked, disarmed, empty_outbox}
 use Rattle.pps_types.specs.Content.{Content, Connection, own_handle, connection_numbered}
-use Rattle.pps_types.specs.Plan.{CatchesUp, Advances, Parks, Arms, Takes, apply_all_seen, without_number, without_first}
+use Rattle.pps_types.specs.Plan.{CatchesUp, Advances, Parks, Arms, Takes, apply_all_seen, without_number, without_first, on_first}
 use Rattle.service_laws.specs.Told.{HandlesRise}
 use Rattle.notify_box.specs.Standing.{Standing, with_outbox, with_handles, parked_ended, HasParked, is_attached as is_kept, outbox_of as outbox_at}
 use Rattle.notify_box.specs.Connections.{standing_of, connections_of, ConnectionsRise, attaches_none}
@@ -102,3 +102,30 @@ held_parked found c rise conn n h own parked = by (connection_numbered c conn) r
         let is : is_parked (outbox_at conn (connections_of c)) n ≡ true =
         ap (λ box. is_parked box n) there ∙ ap (λ s. is_parked s.outbox n) (standing-shown c x) ∙ ap (λ k. is_parked (shown c.handles k []).outbox n) same ∙ here in
         λ at. is
+
+-- ---- a handle that stays as it is
+
+module _ {X : Type 0} where
+  -- the first that passes is what it is changed to
+  first-same : (test : X → Bool) (change : X → X) (xs : List X) (x : X) → find test xs ≡ Some x → change x ≡ x → on_first test change xs ≡ xs
+  first-same test change [] x found same = refl
+  first-same test change (y ∷ ys) x found same = by (test y) found (first-same test change ys x)
+    where
+      by : (b : Bool) → cond b (Some y) (find test ys) ≡ Some x → (find test ys ≡ Some x → change x ≡ x → on_first test change ys ≡ ys) → cond b (change y ∷ ys) (y ∷ on_first test change ys) ≡ y ∷ ys
+      by true found rest = let is : y ≡ x = cc in ap (λ z. z ∷ ys) (ap change is ∙ same ∙ sym is)
+      by false found rest = ap (λ zs. y ∷ zs) (rest found same)
+
+-- none is armed on it, and none is to be
+pub unarmed_stays : (c : Content) → HandlesRise c → (conn n : ℕ) → option_map (λ (h : OpenHandle Progress). is_some h.armed) (own_handle c conn n) ≡ Some false
+    → c ≡ apply_all_seen (Arms n None ∷ []) c
+unarmed_stays c rise conn n unarmed =
+    let known = known_by (λ (h : OpenHandle Progress). is_some h.armed) (own_handle c conn n) false unarmed in
+    let h = known.0 in
+    let same : on_first (λ (g : OpenHandle Progress). g.number == n) (λ g. record g { armed = None }) c.handles ≡ c.handles =
+    first-same (λ (g : OpenHandle Progress). g.number == n) (λ g. record g { armed = None }) c.handles h
+    (found-both (λ (g : OpenHandle Progress). g.number) n (λ g. g.connection == conn) 0 c.next_handle c.handles h rise known.1.0) (disarmed_stays h h.armed refl known.1.1) in
+    ap (λ (hs : List (OpenHandle Progress)). record c { handles = hs }) (sym same)
+  where
+    disarmed_stays : (h : OpenHandle Progress) (o : Option PulseOf) → h.armed ≡ o → is_some h.armed ≡ false → record h { armed = None } ≡ h
+    disarmed_stays h None is none = ap (λ (o : Option PulseOf). record h { armed = o }) (sym is)
+    disarmed_stays h (Some pulse) is none = absurd (let bad : true ≡ false = sym (ap is_some is) ∙ none in cc)

@@ -77,6 +77,10 @@ is_parked_in t conn number = option_map (λ (handle : OpenHandle Progress). is_s
 abbrev pub armed_in : Tabled → ℕ → ℕ → Option (Option (ℕ × ℕ))
 armed_in t conn number = option_map (λ (handle : OpenHandle Progress). handle.armed) (own_handle (content_in t) conn number)
 
+-- whether a pulse is armed on it
+abbrev pub is_armed_in : Tabled → ℕ → ℕ → Option Bool
+is_armed_in t conn number = option_map (λ (handle : OpenHandle Progress). is_some handle.armed) (own_handle (content_in t) conn number)
+
 -- why no pulse can be armed on the handle of the connection, if none can
 abbrev pub arm_refusal_in : Tabled → ℕ → ℕ → Option Refusal
 arm_refusal_in t conn handle = arm_refusal (outbox_of (content_in t) conn) handle

@@ -1,11 +1,11 @@
 //! Changes of one handle, and of the connection that it belongs to. None takes memory.
-ghost use Rattle.std.specs.Prelude.{◌≡◌, ◌∷◌, [], true, Some, None, IsSome};
+ghost use Rattle.std.specs.Prelude.{◌≡◌, ◌∷◌, [], true, false, Some, None, IsSome};
 ghost use Rattle.pps_types.specs.Plan.{CatchesUp, Advances, Parks, Arms, Takes};
 ghost use Rattle.notify_box.specs.Standing.{CanArm, CanPark};
 ghost use Rattle.open_handles.specs.Whole.{KeepsRecords};
 ghost use Rattle.service_state.specs.Moves.{closing, firing, finishing};
 ghost use Rattle.service_state.specs.Tied.{Moves, KeepsHandleRoom};
-ghost use Rattle.service_state.specs.Refused.{own_handle_in, parked_in, is_parked_in, armed_in};
+ghost use Rattle.service_state.specs.Refused.{own_handle_in, parked_in, is_parked_in, armed_in, is_armed_in};
 
 use crate::tables::Tables;
 use notify_box::{connections_are_found, connections_are_told, premises_stay};
@@ -70,6 +70,17 @@ impl Tables {
         self.handles.handles_are_placed();
         self.handles.arm(handle, None);
         self.connections.disarm(conn, handle);
+    }
+
+    /// Does nothing. Its contract is the law that all stays as it is where no pulse is armed on a handle of the connection and
+    /// none is to be armed.
+    #[inline(always)]
+    pub fn still_unarmed(&self, conn: Conn, handle: Handle)
+        requires { is_armed_in self.now conn handle ≡ Some false }
+        ensures { Moves (Arms handle None ∷ []) self.now self.now }
+    {
+        let _own = (conn, handle);
+        self.handles.handles_are_placed();
     }
 
     /// The pulse that is armed on a handle of the connection is queued, and is armed no more.

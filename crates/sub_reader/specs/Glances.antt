@@ -1,5 +1,5 @@
 -- What is seen of a handle at one look, as the definitions have it.
-use Rattle.std.specs.Prelude.{◌≡◌, ℕ, Bool, List, Option, option_map}
+use Rattle.std.specs.Prelude.{◌≡◌, ℕ, Bool, List, Option, is_some, option_map}
 use Rattle.pps_types.specs.History.{Entry}
 use Rattle.pps_types.specs.Reading.{OpenHandle}
 use Rattle.pps_types.specs.Rests.{Progress, is_over}
@@ -11,22 +11,23 @@ use Rattle.sub_reader.specs.Readers.{Reader}
 use Rattle.sub_reader.specs.Opened.{opened, as_opened, handle_at}
 use Rattle.sub_reader.specs.Places.{seen_at, handle_of, IsPlace}
 
--- opening: what its open fixed. parked: the size of the read that waits. news: whether a read would give something new.
+-- opening: what its open fixed. parked: the size of the read that waits. armed: whether a pulse is armed on it. news: whether a read would give something new.
 -- over: whether it is owed more than its limit. owed: how many records it is owed, where that is told.
 pub record Glanced : Type 0 where
   pub opening : OpenHandle (Unit {0})
   pub parked : Option ℕ
+  pub armed : Bool
   pub news : Bool
   pub over : Bool
   pub owed : Option ℕ
 
 abbrev pub glanced : OpenHandle Progress → Glanced
 glanced handle =
-    record { opening = as_opened handle; parked = handle.parked; news = news handle; over = is_over handle.seen; owed = owed_in_seen handle handle.seen }
+    record { opening = as_opened handle; parked = handle.parked; armed = is_some handle.armed; news = news handle; over = is_over handle.seen; owed = owed_in_seen handle handle.seen }
 
 -- what is told of a handle on the target of that number and name
 abbrev pub glance_on : ℕ → List ℕ → Glance → Glanced
-glance_on target name g = record { opening = opened target name g.opening.now; parked = g.parked; news = g.has_news; over = g.is_over; owed = g.owed }
+glance_on target name g = record { opening = opened target name g.opening.now; parked = g.parked; armed = g.is_armed; news = g.has_news; over = g.is_over; owed = g.owed }
 
 -- what is seen of the handle of a number, if it is among those on the target of that number and name
 abbrev pub IsGlanceAt : ℕ → ℕ → List ℕ → List (OpenHandle Progress) → Option Glance → Type 0

@@ -7,12 +7,14 @@ use crate::place::Place;
 use crate::questions::{has_news, is_over, owed_count};
 use crate::row::HandleRow;
 
-/// What is seen of one handle at one look: what its open fixed, whether a read waits on it, and what it is owed.
+/// What is seen of one handle at one look: what its open fixed, what waits on it, and what it is owed.
 #[derive(Drop)]
 pub struct Glance<'a> {
     pub opening: &'a Opening,
     /// The size of the read that waits on it, if one does.
     pub parked: Option<u32>,
+    /// Whether a pulse is armed on it.
+    pub is_armed: bool,
     /// Whether a read would give something new.
     pub has_news: bool,
     /// Whether it is owed more records than its limit, so that it is given everything anew.
@@ -41,6 +43,7 @@ pub(crate) fn glance_at(reader: &HandleRow<Place>) -> Glance<'_>
     Glance {
         opening: &reader.opening,
         parked: reader.parked,
+        is_armed: reader.is_armed(),
         has_news: has_news(reader),
         is_over: is_over(reader),
         owed,

@@ -1,8 +1,9 @@
 //! One handle on an object or a directory, and its slot among the others.
-ghost use Rattle.std.specs.Prelude.{◌≡◌, ◌↔◌, Some, IsSome, IsTrue, IfOk, IfErr};
+ghost use Rattle.std.specs.Prelude.{◌≡◌, ◌↔◌, Some, IsSome, is_some, IsTrue, IfOk, IfErr};
 ghost use Rattle.std.specs.Borrow.{Lends, sem};
 ghost use Rattle.pps_types.specs.declared.refusal.Refusal.TheVariants.{OutOfMemory};
 ghost use Rattle.sub_reader.specs.Alike.{row_told, IsCopyOf};
+ghost use Rattle.sub_reader.specs.Opened.{armed_pulse};
 ghost use Rattle.sub_reader.specs.Rows.{row_of, progress_of, slot_with_progress};
 ghost use Rattle.sub_reader.specs.contracts.row.Slot.{the_row};
 
@@ -20,6 +21,19 @@ pub struct HandleRow<P> {
     pub parked: Option<u32>,
     /// The pulse that waits.
     pub armed: Option<Pulse>,
+}
+
+impl<P> HandleRow<P> {
+    /// Whether a pulse is armed on it.
+    #[inline(always)]
+    pub fn is_armed(&self) -> bool
+        ensures { result ≡ is_some (armed_pulse self.now.armed) }
+    {
+        match self.armed {
+            None => false,
+            Some(_) => true,
+        }
+    }
 }
 
 impl<P: Progress> HandleRow<P> {

@@ -13,6 +13,7 @@ pub(crate) fn glance_at(row: &HandleRow<Queue>) -> Glance<'_>
     Glance {
         opening: &row.opening,
         parked: row.parked,
+        is_armed: row.is_armed(),
         has_news: row.progress.news(),
         is_over: false,
         owed: Some(owed),

@@ -9,4 +9,4 @@ pub returns : goal.returns
 returns c object name right =
     let x = c.args.row.now in
     let owed = ap Some (c.owed_count-owed.ensures ∙ ap length (sym (all-kept (visible (handle_of object name x)) x.progress.owed right.owed))) in
-    λ i. record { opening = opened object name x.opening; parked = x.parked; news = c.news.ensures i; over = false; owed = owed i }
+    λ i. record { opening = opened object name x.opening; parked = x.parked; armed = c.is_armed.ensures i; news = c.news.ensures i; over = false; owed = owed i }
